@@ -1,6 +1,6 @@
 -- What the tap of an interface is called.
-use Rattle.std.proofs.Common.{◌≡◌, ◌∙◌, ℕ, ◌+◌, ◌≤◌, ◌^◌, ◌<◌, List, ◌∷◌, ◌++◌, length, take, get_or, true, Bor, Option, Some, None, refl, sym, ap, subst, lit<, arith}
-use Rattle.std.specs.Prelude.{◌↔◌, IsSome, IfSome, option_map, codes}
+use Rattle.std.proofs.Common.{◌≡◌, ◌∙◌, ℕ, ◌+◌, ◌≤◌, ◌^◌, ◌<◌, List, ◌∷◌, ◌++◌, length, take, get_or, true, Bor, Option, Some, None, sym, ap, subst, lit<, arith}
+use Rattle.std.specs.Prelude.{◌↔◌, IsSome, IfSome, option_map}
 use Rattle.std.specs.Char.{is_ascii_digit}
 use Rattle.std.specs.Fmt.{decimal}
 use Rattle.std.specs.List.{AllPass}

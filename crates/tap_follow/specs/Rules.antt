@@ -1,5 +1,5 @@
 -- What `follow` makes of lines and of packets.
-use Rattle.std.specs.Prelude.{◌≡◌, ◌≢◌, ◌⊎◌, ℕ, ◌+◌, ◌-◌, ◌^◌, ◌≤◌, List, [], ◌++◌, Option, Some, None}
+use Rattle.std.specs.Prelude.{◌≡◌, ◌≢◌, ◌⊎◌, ℕ, ◌+◌, ◌-◌, ◌^◌, ◌≤◌, List, [], Option, Some, None}
 use Rattle.text_lines.specs.Counted.{greatest_count}
 use Rattle.text_lines.specs.Task.{Rules}
 use Rattle.capture_file.specs.Packet.{PacketOf}

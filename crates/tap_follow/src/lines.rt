@@ -131,11 +131,7 @@ impl LineTask for Lines {
         u64::MAX - 1
     }
 
-    fn take<W: Write>(
-        &mut self,
-        line: &[u8],
-        output: &mut Counted<W>,
-    ) -> Result<(), FollowFault> {
+    fn take<W: Write>(&mut self, line: &[u8], output: &mut Counted<W>) -> Result<(), FollowFault> {
         let mut room = [0; DATAGRAM_LIMIT];
         match read_line(self.count, line, &mut room) {
             Ok(datagram) => {

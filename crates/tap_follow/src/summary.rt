@@ -108,10 +108,17 @@ impl Summary {
         let _ = match (first, second) {
             (Some(first), Some(second)) => {
                 let (first, second) = (first.text(), second.text());
-                writeln!(errors, "ptpx: no Sync tells which way messages go between {first} and {second}")
+                writeln!(
+                    errors,
+                    "ptpx: no Sync tells which way messages go between {first} and {second}"
+                )
             }
             (Some(tap), None) | (None, Some(tap)) => {
-                writeln!(errors, "ptpx: nothing was met at another tap than {}", tap.text())
+                writeln!(
+                    errors,
+                    "ptpx: nothing was met at another tap than {}",
+                    tap.text()
+                )
             }
             (None, None) => writeln!(errors, "ptpx: nothing was met at a tap"),
         };
@@ -127,6 +134,9 @@ fn tell_count<E: Write>(kind: Kind, count: u64, here: &str, there: &str, errors:
     let _ = match count {
         0 => Ok(()),
         1 => writeln!(errors, "ptpx: 1 {one} was met at {here} and not at {there}"),
-        _ => writeln!(errors, "ptpx: {count} {more} were met at {here} and not at {there}"),
+        _ => writeln!(
+            errors,
+            "ptpx: {count} {more} were met at {here} and not at {there}"
+        ),
     };
 }

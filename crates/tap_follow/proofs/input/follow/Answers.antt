@@ -2,9 +2,7 @@ use Rattle.std.proofs.Common.{inr, refl}
 use Rattle.capture_file.specs.Beginning.{first_octets}
 use Rattle.text_lines.specs.declared.fault.Cause.TheVariants.{Reading, Task}
 use Rattle.text_lines.specs.declared.fault.ReadingFault.TheVariants.{Read}
-use Rattle.tap_following.specs.Course.{begun}
 use Rattle.tap_follow.specs.declared.fault.FollowFault.TheVariants.{Field}
-use Rattle.tap_follow.specs.Rules.{nothing_read}
 use Rattle.tap_follow.proofs.Inputs.{captured, lined, short, failed_ahead, lined_told, captured_told, none_told}
 use Rattle.tap_follow.proofs.input.follow.Goals as goal
 

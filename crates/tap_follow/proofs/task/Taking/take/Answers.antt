@@ -1,9 +1,7 @@
-use Rattle.std.proofs.Common.{◌≡◌, ◌∙◌, List, [], refl, sym, ap, subst}
+use Rattle.std.proofs.Common.{◌∙◌, [], refl, sym, subst}
 use Rattle.std.proofs.KnownBytes.{Appends-nil}
-use Rattle.tap_choice.specs.declared.met.Side.{Side}
 use Rattle.tap_following.specs.declared.follower.Arrival.{Arrival}
-use Rattle.tap_following.specs.Course.{Course, with_tap}
-use Rattle.tap_following.specs.Held.{IsFollower}
+use Rattle.tap_following.specs.Course.{with_tap}
 use Rattle.tap_follow.specs.Rules.{TakesAt}
 use Rattle.tap_follow.specs.Inner.Taking.{datagram_of}
 use Rattle.tap_follow.proofs.Takings.{taken_at, third_left, of_output, left_of_output}

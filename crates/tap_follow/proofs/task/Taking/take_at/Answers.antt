@@ -1,4 +1,4 @@
-use Rattle.std.proofs.Common.{◌≡◌, List, [], ap}
+use Rattle.std.proofs.Common.{[], ap}
 use Rattle.std.specs.Prelude.{⊤, option_map}
 use Rattle.std.specs.Result.{result_ok}
 use Rattle.std.proofs.KnownBytes.{Appends-nil}
