@@ -110,7 +110,7 @@ impl Summary {
                 let (first, second) = (first.text(), second.text());
                 writeln!(
                     errors,
-                    "ptpx: no Sync tells which way messages go between {first} and {second}"
+                    "ptpx: it isn't known whose messages go between {first} and {second}, and which way"
                 )
             }
             (Some(tap), None) | (None, Some(tap)) => {
