@@ -5,15 +5,17 @@ use Rattle.clap.specs.Simple.{App}
 use Rattle.clap.specs.Walk as matches
 use Rattle.clap.specs.Walk.{Text}
 use Rattle.command_line.specs.declared.commands.Subcommand.{Subcommand}
-use Rattle.command_line.specs.declared.commands.Subcommand.TheVariants.{Show, Replay, Check, Extract, Measure, Explain}
+use Rattle.command_line.specs.declared.commands.Subcommand.TheVariants.{Show, Replay, Check, Extract, Measure, Follow, Explain}
 use Rattle.command_line.specs.declared.commands.explain.ExplainOptions.{ExplainOptions}
 use Rattle.command_line.specs.declared.commands.extract.ExtractOptions.{ExtractOptions}
+use Rattle.command_line.specs.declared.commands.follow.FollowOptions.{FollowOptions}
 use Rattle.command_line.specs.declared.commands.measure.MeasureOptions.{MeasureOptions}
 use Rattle.capture_file.specs.Name.{interface_name}
 use Rattle.command_line.specs.Number.{domain_of}
 use Rattle.command_line.specs.Options.{is_used, said}
 use Rattle.command_line.specs.PortText.{port_identity_of}
 use Rattle.command_line.specs.Program.{Row, flag, program_of, with_value}
+use Rattle.command_line.specs.TapText.{tap_besides}
 
 -- the subcommands of `ptpx`, in the order of the help
 abbrev pub subcommands : List Row
@@ -26,6 +28,11 @@ subcommands =
       codes "measure",
       with_value (codes "slave") ∷ with_value (codes "master") ∷ with_value (codes "domain") ∷ with_value (codes "interface")
           ∷ flag (codes "csv") ∷ [],
+    )
+    ∷ (
+      codes "follow",
+      with_value (codes "from") ∷ with_value (codes "to") ∷ with_value (codes "slave") ∷ with_value (codes "master")
+          ∷ with_value (codes "domain") ∷ flag (codes "csv") ∷ [],
     )
     ∷ (codes "explain", flag (codes "first") ∷ flag (codes "json") ∷ [])
     ∷ []
@@ -51,6 +58,23 @@ measure_options_of rows = option_and_then (λ slave. option_and_then (λ master.
     (said port_identity_of (codes "master") rows))
     (said port_identity_of (codes "slave") rows)
 
+-- the options of `follow`, where each value is one and the two taps aren't the same
+abbrev pub follow_options_of : List matches.Row → Option FollowOptions
+follow_options_of rows = option_and_then (λ from. option_and_then (λ to. option_and_then (λ slave. option_and_then (λ master.
+    option_map (λ domain. record {
+      from = from;
+      to = to;
+      slave = slave;
+      master = master;
+      domain = domain;
+      csv = is_used (codes "csv") rows;
+    })
+    (said domain_of (codes "domain") rows))
+    (said port_identity_of (codes "master") rows))
+    (said port_identity_of (codes "slave") rows))
+    (said (tap_besides from) (codes "to") rows))
+    (said (tap_besides None) (codes "from") rows)
+
 -- the options of `explain`
 abbrev pub explain_options_of : List matches.Row → ExplainOptions
 explain_options_of rows = record { first = is_used (codes "first") rows; json = is_used (codes "json") rows }
@@ -63,6 +87,7 @@ chosen name rows =
     else if bytes_eq name (codes "check") then Some Check
     else if bytes_eq name (codes "extract") then option_map (λ options. Extract options) (extract_options_of rows)
     else if bytes_eq name (codes "measure") then option_map (λ options. Measure options) (measure_options_of rows)
+    else if bytes_eq name (codes "follow") then option_map (λ options. Follow options) (follow_options_of rows)
     else if bytes_eq name (codes "explain") then Some (Explain (explain_options_of rows))
     else None
 

@@ -1,5 +1,6 @@
 pub mod Number
 pub mod PortText
+pub mod TapText
 pub mod Options
 pub mod Program
 pub mod Commands

@@ -48,7 +48,7 @@ fn with_options<'a>(alloc: Global, row: &SubcommandRow) -> Result<Command<'a>, A
 {
     let mut command = Command::new(alloc, row.name)
         .about(row.about)
-        .after_help(row.help);
+        .after_help(row.help.text());
     for next in row.options {
         command = command.arg(option(alloc, next))?;
     }

@@ -8,23 +8,26 @@ ghost use Rattle.command_line.specs.Program.{row_of};
 mod check;
 pub mod explain;
 pub mod extract;
+pub mod follow;
 pub mod measure;
 mod replay;
 mod show;
 
 use crate::commands::explain::{ExplainOptions, explain_options};
 use crate::commands::extract::{ExtractOptions, extract_options};
+use crate::commands::follow::{FollowOptions, follow_options};
 use crate::commands::measure::{MeasureOptions, measure_options};
 use crate::options::WrongValue;
 use crate::table::SubcommandRow;
 use clap::ArgMatches;
 
-static SUBCOMMANDS: [SubcommandRow; 6] = [
+static SUBCOMMANDS: [SubcommandRow; 7] = [
     show::ROW,
     replay::ROW,
     check::ROW,
     extract::ROW,
     measure::ROW,
+    follow::ROW,
     explain::ROW,
 ];
 
@@ -41,8 +44,44 @@ pub enum Subcommand {
     Extract(ExtractOptions),
     /// Print what the datagrams that standard input gives, recorded at a slave, say of its clock.
     Measure(MeasureOptions),
+    /// Print what happened to messages between two taps, which standard input gives.
+    Follow(FollowOptions),
     /// Print what is wrong with the transcript or the schedule that standard input gives.
     Explain(ExplainOptions),
+}
+
+/// Which text the help of a subcommand has below its usage. A row names it, and doesn't have it: the table is proved word by word.
+#[derive(Clone, Copy, Debug, PartialEq, Eq)]
+pub enum Help {
+    /// That of `show`.
+    Show,
+    /// That of `replay`.
+    Replay,
+    /// That of `check`.
+    Check,
+    /// That of `extract`.
+    Extract,
+    /// That of `measure`.
+    Measure,
+    /// That of `follow`.
+    Follow,
+    /// That of `explain`.
+    Explain,
+}
+
+impl Help {
+    /// The text.
+    pub(crate) fn text(self) -> &'static str {
+        match self {
+            Help::Show => show::HELP,
+            Help::Replay => replay::HELP,
+            Help::Check => check::HELP,
+            Help::Extract => extract::HELP,
+            Help::Measure => measure::HELP,
+            Help::Follow => follow::HELP,
+            Help::Explain => explain::HELP,
+        }
+    }
 }
 
 /// The subcommands.
@@ -64,6 +103,10 @@ pub(crate) fn chosen<'a>(matches: &ArgMatches<'a>) -> Result<Option<Subcommand>,
         Some(("check", _)) => Subcommand::Check,
         Some(("extract", options)) => Subcommand::Extract(extract_options(options)?),
         Some(("measure", options)) => Subcommand::Measure(measure_options(options)?),
+        Some(("follow", options)) => match follow_options(options) {
+            Ok(options) => Subcommand::Follow(options),
+            Err(wrong) => return Err(wrong),
+        },
         Some(("explain", options)) => Subcommand::Explain(explain_options(options)),
         _ => return Ok(None),
     };

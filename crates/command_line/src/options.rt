@@ -6,12 +6,15 @@ ghost use Rattle.capture_file.specs.Name.{interface_name};
 ghost use Rattle.command_line.specs.Number.{domain_of};
 ghost use Rattle.command_line.specs.Options.{is_text_used, said_by};
 ghost use Rattle.command_line.specs.PortText.{port_identity_of};
+ghost use Rattle.command_line.specs.TapText.{tap_besides};
+ghost use Rattle.tap_choice.specs.Sides.{is_named};
 
 use crate::number::domain_in;
 use crate::port_identity::port_identity_in;
 use capture_file::InterfaceName;
 use clap::ArgMatches;
 use event_codec::PortIdentity;
+use tap_choice::TapName;
 
 /// A value that an option doesn't take.
 #[derive(Clone, Copy, Debug)]
@@ -105,6 +108,54 @@ pub(crate) fn interface_option<'a>(
             value,
             name: "NAME",
             wanted: INTERFACE,
+        }),
+    }
+}
+
+/// What the name of a tap is.
+const TAP: &str =
+    "the name of a tap, of 1 to 16 letters, digits, '_', '-' or '.', and not that of the other tap";
+
+/// Whether this is the name of the other tap.
+fn is_other(other: Option<TapName>, name: TapName) -> bool
+    ensures { result ≡ is_named other name }
+{
+    match other {
+        Some(other) => other == name,
+        None => false,
+    }
+}
+
+/// The name of the tap that a text is; None where it is none, or that of the other tap.
+fn tap_besides(other: Option<TapName>, text: &[u8]) -> Option<TapName>
+    ensures { result ≡ tap_besides other text.now }
+{
+    let name = TapName::new(text)?;
+    if is_other(other, name) {
+        None
+    } else {
+        Some(name)
+    }
+}
+
+/// The name of a tap in an option, where it is given, other than that of the other tap.
+pub(crate) fn tap_option<'a>(
+    matches: &ArgMatches<'a>,
+    option: &'static str,
+    other: Option<TapName>,
+) -> Result<Option<TapName>, WrongValue<'a>>
+    ensures { result_ok result ≡ said_by (tap_besides other) (first_value (found_of matches.now) option.now) }
+{
+    let Some(value) = matches.get_str(option) else {
+        return Ok(None);
+    };
+    match tap_besides(other, value.as_bytes()) {
+        Some(name) => Ok(Some(name)),
+        None => Err(WrongValue {
+            option,
+            value,
+            name: "TAP",
+            wanted: TAP,
         }),
     }
 }

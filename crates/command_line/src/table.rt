@@ -1,5 +1,7 @@
 //! A subcommand with its options, as a table has it.
 
+use crate::commands::Help;
+
 /// An option of a subcommand.
 #[derive(Clone, Copy)]
 pub struct OptionRow {
@@ -18,8 +20,8 @@ pub struct SubcommandRow {
     pub name: &'static str,
     /// The line that says what it does.
     pub about: &'static str,
-    /// What its help says below the usage.
-    pub help: &'static str,
+    /// Which text its help has below the usage.
+    pub help: Help,
     /// Its options, in the order of the help.
     pub options: &'static [OptionRow],
 }

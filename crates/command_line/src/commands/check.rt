@@ -1,17 +1,18 @@
 //! `ptpx check`: its help.
 
+use crate::commands::Help;
 use crate::table::SubcommandRow;
 
 /// The row of `check`.
 pub(crate) const ROW: SubcommandRow = SubcommandRow {
     name: "check",
     about: "Print whether each report of the transcript that standard input gives is sound",
-    help: HELP,
+    help: Help::Check,
     options: &[],
 };
 
 /// What the help of `check` says below its usage.
-const HELP: &str = "\
+pub(crate) const HELP: &str = "\
 Standard input is a transcript, in lines of JSON as 'ptpx replay' writes them, whoever wrote these: the
 nodes of a network, then its events with what came of each. Standard output has one line at the end:
   accepted 1             there are so many reports, and each is sound

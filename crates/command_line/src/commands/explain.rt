@@ -4,6 +4,7 @@ ghost use Rattle.clap.specs.Matches.{found_of};
 ghost use Rattle.clap.specs.Walk.{rows_of};
 ghost use Rattle.command_line.specs.Commands.{explain_options_of};
 
+use crate::commands::Help;
 use crate::options::is_used;
 use crate::table::{OptionRow, SubcommandRow};
 use clap::ArgMatches;
@@ -26,7 +27,7 @@ const OPTIONS: [OptionRow; 2] = [
 pub(crate) const ROW: SubcommandRow = SubcommandRow {
     name: "explain",
     about: "Print what is wrong with what standard input gives, where, and by how much",
-    help: HELP,
+    help: Help::Explain,
     options: &OPTIONS,
 };
 
@@ -50,7 +51,7 @@ pub(crate) fn explain_options(matches: &ArgMatches<'_>) -> ExplainOptions
 }
 
 /// What the help of `explain` says below its usage.
-const HELP: &str =
+pub(crate) const HELP: &str =
     r#"Standard input is a transcript, in lines of JSON as 'ptpx replay' writes them, or a schedule, as it reads
 them, whoever wrote these; the lines tell which. Standard output says, as text for a person:
   of a line that isn't one        what is wrong with it, and what is wanted; of the first 20 of them, and

@@ -5,6 +5,7 @@ ghost use Rattle.clap.specs.Matches.{found_of};
 ghost use Rattle.clap.specs.Walk.{rows_of};
 ghost use Rattle.command_line.specs.Commands.{extract_options_of};
 
+use crate::commands::Help;
 use crate::options::{WrongValue, interface_option, is_used};
 use crate::table::{OptionRow, SubcommandRow};
 use capture_file::InterfaceName;
@@ -33,7 +34,7 @@ const OPTIONS: [OptionRow; 3] = [
 pub(crate) const ROW: SubcommandRow = SubcommandRow {
     name: "extract",
     about: "Print what the capture that standard input gives has of PTP, one datagram a line",
-    help: HELP,
+    help: Help::Extract,
     options: &OPTIONS,
 };
 
@@ -62,7 +63,7 @@ pub(crate) fn extract_options<'a>(
 }
 
 /// What the help of `extract` says below its usage.
-const HELP: &str = "\
+pub(crate) const HELP: &str = "\
 Standard input is a capture: a pcap, with times in microseconds or nanoseconds, or a pcapng, with any
 sections and interfaces. Standard output has a line for each packet that carries a datagram of PTP,
 before the next packet is read: the packet's time, a blank, and the datagram's octets in lower case

@@ -5,6 +5,7 @@ ghost use Rattle.clap.specs.Matches.{found_of};
 ghost use Rattle.clap.specs.Walk.{rows_of};
 ghost use Rattle.command_line.specs.Commands.{measure_options_of};
 
+use crate::commands::Help;
 use crate::options::{WrongValue, domain_option, interface_option, is_used, port_option};
 use crate::table::{OptionRow, SubcommandRow};
 use capture_file::InterfaceName;
@@ -44,7 +45,7 @@ const OPTIONS: [OptionRow; 5] = [
 pub(crate) const ROW: SubcommandRow = SubcommandRow {
     name: "measure",
     about: "Print the offsets and delays in a capture at a slave, or in a recording of its datagrams",
-    help: HELP,
+    help: Help::Measure,
     options: &OPTIONS,
 };
 
@@ -79,7 +80,7 @@ pub(crate) fn measure_options<'a>(
 }
 
 /// What the help of `measure` says below its usage.
-const HELP: &str =
+pub(crate) const HELP: &str =
     r#"Standard input is what was recorded at a slave: a capture, as 'ptpx extract' reads it, or lines, one
 datagram each; the first four octets tell which. A line is the time at which the slave's port sent or
 received the datagram, a blank, and its octets in hexadecimal digits of either case. The time is seconds,

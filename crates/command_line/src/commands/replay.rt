@@ -1,17 +1,18 @@
 //! `ptpx replay`: its help.
 
+use crate::commands::Help;
 use crate::table::SubcommandRow;
 
 /// The row of `replay`.
 pub(crate) const ROW: SubcommandRow = SubcommandRow {
     name: "replay",
     about: "Print what comes of the events that standard input gives, one a line",
-    help: HELP,
+    help: Help::Replay,
     options: &[],
 };
 
 /// What the help of `replay` says below its usage.
-const HELP: &str =
+pub(crate) const HELP: &str =
     r#"Standard input is a schedule, in lines of JSON: the nodes of a network, then what happens in it, event
 by event. From the first event on standard output has the same lines, each event with what came of it,
 before the next is read. The line

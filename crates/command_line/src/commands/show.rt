@@ -1,17 +1,18 @@
 //! `ptpx show`: its help.
 
+use crate::commands::Help;
 use crate::table::SubcommandRow;
 
 /// The row of `show`.
 pub(crate) const ROW: SubcommandRow = SubcommandRow {
     name: "show",
     about: "Print the datagrams that standard input gives in hexadecimal, one a line",
-    help: HELP,
+    help: Help::Show,
     options: &[],
 };
 
 /// What the help of `show` says below its usage.
-const HELP: &str = "\
+pub(crate) const HELP: &str = "\
 Each line of standard input is one datagram in hexadecimal digits of either case. For each, before the
 next is read, one line goes to standard output: the fields of the message that the datagram begins
 with, or the number of the first rule that it breaks. The line

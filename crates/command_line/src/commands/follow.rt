@@ -1,0 +1,158 @@
+//! `ptpx follow`: its options and its help.
+ghost use Rattle.std.specs.Prelude.{◌≡◌};
+ghost use Rattle.std.specs.Result.{result_ok};
+ghost use Rattle.clap.specs.Matches.{found_of};
+ghost use Rattle.clap.specs.Walk.{rows_of};
+ghost use Rattle.command_line.specs.Commands.{follow_options_of};
+
+use crate::commands::Help;
+use crate::options::{WrongValue, domain_option, is_used, port_option, tap_option};
+use crate::table::{OptionRow, SubcommandRow};
+use clap::ArgMatches;
+use event_codec::PortIdentity;
+use tap_choice::TapName;
+
+/// The options of `follow`.
+const OPTIONS: [OptionRow; 6] = [
+    OptionRow {
+        name: "from",
+        value: Some("TAP"),
+        about: "The tap that a Sync meets first; else the one at which the first Sync met at both was earlier",
+    },
+    OptionRow {
+        name: "to",
+        value: Some("TAP"),
+        about: "The tap that a Delay_Req meets first; else the other one",
+    },
+    OptionRow {
+        name: "slave",
+        value: Some("PORT"),
+        about: "The slave's port; else the source of the first Delay_Req of the domain at --to",
+    },
+    OptionRow {
+        name: "master",
+        value: Some("PORT"),
+        about: "The master's port; else the source of the first Sync of the domain",
+    },
+    OptionRow {
+        name: "domain",
+        value: Some("NUMBER"),
+        about: "domainNumber; else that of the first Sync, of the master where that is given",
+    },
+    OptionRow {
+        name: "csv",
+        value: None,
+        about: "Write CSV, in place of JSON",
+    },
+];
+
+/// The row of `follow`.
+pub(crate) const ROW: SubcommandRow = SubcommandRow {
+    name: "follow",
+    about: "Print how long messages took between two taps of a capture, and how much of that was corrected",
+    help: Help::Follow,
+    options: &OPTIONS,
+};
+
+/// The options of `follow`.
+#[derive(Clone, Copy, Debug, PartialEq, Eq)]
+pub struct FollowOptions {
+    /// The tap that a Sync meets first; without it, the one at which the first Sync that was met at both was met earlier.
+    pub from: Option<TapName>,
+    /// The tap that a Delay_Req meets first, another one than that; without it, the other of the two.
+    pub to: Option<TapName>,
+    /// The port of the slave; without it, the source of the first Delay_Req of the domain at `to`.
+    pub slave: Option<PortIdentity>,
+    /// The port of the master; without it, the source of the first Sync of the domain.
+    pub master: Option<PortIdentity>,
+    /// domainNumber; without it, that of the first Sync, of the master where that is given.
+    pub domain: Option<u8>,
+    /// Whether the output is CSV, in place of JSON.
+    pub csv: bool,
+}
+
+/// The options that were met.
+pub(crate) fn follow_options<'a>(matches: &ArgMatches<'a>) -> Result<FollowOptions, WrongValue<'a>>
+    ensures { result_ok result ≡ follow_options_of (rows_of (found_of matches.now)) }
+{
+    let from = match tap_option(matches, "from", None) {
+        Ok(from) => from,
+        Err(wrong) => return Err(wrong),
+    };
+    let to = match tap_option(matches, "to", from) {
+        Ok(to) => to,
+        Err(wrong) => return Err(wrong),
+    };
+    Ok(FollowOptions {
+        from,
+        to,
+        slave: port_option(matches, "slave")?,
+        master: port_option(matches, "master")?,
+        domain: domain_option(matches, "domain")?,
+        csv: is_used(matches, "csv"),
+    })
+}
+
+/// What the help of `follow` says below its usage.
+pub(crate) const HELP: &str =
+    r#"Standard input is what was met at two taps of a network: a capture at two interfaces or more, as
+'dumpcap -i left -i right -w taps.pcapng' writes it, or lines, one datagram each; the first four octets tell
+which. A line is the name of a tap, a blank, the time at which the tap met the datagram, a blank, and its
+octets in hexadecimal digits of either case. The time is seconds, then nothing, or a point and 1 to 9 digits.
+A name has 1 to 16 letters, digits, '_', '-' or '.'; an interface is the tap of its name where that is one,
+else if0, if1, .. by its place in the section. Standard output has a line for each crossing, before the next
+line or packet is read. It is
+  {"corrected":"79403","from":"left","kind":"sync","lines":[3,6,4,7],"number":0,"rest":"-3635",
+  "taken":"75768","time":"1795645064.377389335","to":"right"}
+in one line, or with --csv, below the head time,kind,number,taken_ns,corrected_ns,rest_ns,
+  1795645064.377389335,sync,0,75768,79403,-3635
+A crossing is a Sync that went from the tap --from to the tap --to, or a Delay_Req that went from --to to
+--from, as kind says, and number is its sequenceId. All are in nanoseconds, and exact. taken is the time at
+its second tap less that at its first; corrected is by how much its correction grew, and that of its
+Follow_Up or Delay_Resp from --from to --to; a Follow_Up at --to alone counts whole. rest is taken less
+corrected: cables, what a clock in between told wrong, and the difference and the errors of the stamps. time
+is that at its first tap, with nine decimals. lines are the lines or packets of the event message at its
+first and its second tap, and of its Follow_Up or Delay_Resp at --from and at --to, null where there is none.
+Lines count from 1, and so do packets, those without PTP, too.
+
+Unless they are asked for, the two taps are those that have PTP; of one alone that is asked for, the other
+one is the other of two. --from is then that at which the first Sync of the master that was met at both was
+met earlier, of each tap the last 256 Syncs looked at; the domain is that of the first Sync, of the master
+that is asked for if one is; the master sent the first Sync of the domain, and the slave the first Delay_Req
+of the domain at --to. Up to 1024 messages are kept until all is known; after so many, and at the end, Syncs
+are followed without a slave. Where the rest is known later still, messages are followed from then on.
+
+The order of lines and packets says nothing: of Syncs and of Delay_Reqs the last 256 are kept until all of
+their messages were met, at both taps. One that was met twice at a tap is told of no more. None is told of
+that has a correction which is too big, or another timestamp at one tap than at the other, or a Sync that is
+two-step at --from alone.
+
+A PORT is a portIdentity: 16 hexadecimal digits, '/' and the number, as 'ptpx show' writes it, or as pmc
+of linuxptp does, 00aabb.fffe.ccddee-1. Number and domain may have zeros in front.
+
+At the end standard error tells of a capture how many packets there are, then the two taps, the domain, the
+master and the slave, and how many Syncs and Delay_Reqs were met at one tap and not at the other.
+
+Faults, each of which ends the run with 'ptpx: fault 806 at line 3' on standard error, or of a capture with
+'ptpx: fault 1006 at octet 6300, after 41 packets: the capture ends within a packet or a block'. Lines count
+from 1 and octets from 0, and what was written before stands. Line 0 is before all lines.
+   801  the input can't be read
+   802  the output can't be written
+   803  the line has more than 4096 octets
+   806  the line isn't a name, a time and pairs of hexadecimal digits, with a blank between them
+   808  memory was refused
+   809  PTP was met at a third tap
+  1002  the version of the capture isn't known
+  1003  the octets that tell the order of numbers are none
+  1004  a length can't be
+  1005  a packet is of an interface that wasn't described
+  1006  the capture ends within a packet or a block
+
+Exit statuses:
+  0  each line or packet was read
+  2  the arguments aren't a command, or 809: --from and --to have to name two of three taps
+  3  any other fault
+
+Limits: a line has 4096 octets before its LF at the most, and there may be any number of lines. Of a line
+that ends in CR this one CR isn't read. The last line may lack its LF. Of a capture the limits are those of
+'ptpx extract'."#;
