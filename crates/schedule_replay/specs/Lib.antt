@@ -1,2 +1,3 @@
 pub mod Show
+pub mod Follow
 pub mod Program

@@ -8,7 +8,7 @@ use Rattle.transcript_text.specs.declared.fault.Fault.{Fault}
 use Rattle.trace_model.specs.declared.verdict.Verdict.{Verdict}
 use Rattle.trace_model.specs.declared.verdict.Verdict.TheVariants.{Accepted, Refused}
 use Rattle.command_line.specs.declared.commands.Subcommand.{Subcommand}
-use Rattle.command_line.specs.declared.commands.Subcommand.TheVariants.{Show, Replay, Check, Extract, Measure, Explain}
+use Rattle.command_line.specs.declared.commands.Subcommand.TheVariants.{Show, Replay, Check, Extract, Measure, Follow, Explain}
 use Rattle.command_line.specs.declared.commands.extract.ExtractOptions.{ExtractOptions}
 use Rattle.command_line.specs.declared.commands.measure.MeasureOptions.{MeasureOptions}
 use Rattle.command_line.specs.declared.commands.explain.ExplainOptions.{ExplainOptions}
@@ -37,6 +37,7 @@ use Rattle.capture_measure.specs.declared.input.Outcome.{Outcome}
 use Rattle.capture_measure.specs.declared.input.Outcome.TheVariants.{Lines, Capture}
 use Rattle.capture_measure.specs.Input.{MeasuresInput, OutcomeFailed}
 use Rattle.schedule_replay.specs.Show.{ShowsAnswer}
+use Rattle.schedule_replay.specs.Follow.{RunsFollow}
 use Rattle.transcript_text.specs.Replay.{ReplaysAnswer}
 use Rattle.transcript_text.specs.CheckText.{ChecksAnswer}
 
@@ -177,12 +178,14 @@ Runs remaining contents Replay = EndsIn status_of (ReplaysAnswer remaining conte
 Runs remaining contents Check = EndsIn check_status (ChecksAnswer remaining contents)
 Runs remaining contents (Extract options) = RunsExtract remaining contents options
 Runs remaining contents (Measure options) = RunsMeasure remaining contents options
+Runs remaining contents (Follow options) = RunsFollow remaining contents options
 Runs remaining contents (Explain options) = RunsExplain remaining contents options
 
--- the input of a subcommand has a limit: that of `extract` and that of `measure` have none
+-- the input of a subcommand has a limit: those of `extract`, of `measure` and of `follow` have none
 abbrev pub IsLimited : Subcommand → Type 0
 IsLimited (Extract options) = ⊥
 IsLimited (Measure options) = ⊥
+IsLimited (Follow options) = ⊥
 IsLimited s = ⊤
 
 -- memory was refused before a subcommand ran

@@ -3,7 +3,7 @@ ghost use Rattle.std.specs.Prelude.{◌≡◌};
 
 use capture_file::{CaptureCause, CaptureFault, CaptureStop};
 use std::io::Write;
-use text_lines::{LineFault, Numbered, ReadingFault};
+use text_lines::{Numbered, ReadingFault};
 
 /// What is wrong with a capture.
 fn words_of(fault: CaptureFault) -> &'static str {
@@ -17,18 +17,24 @@ fn words_of(fault: CaptureFault) -> &'static str {
     }
 }
 
+/// The number of want of memory.
+const MEMORY: u16 = 808;
+
 /// The number of what stopped the reading of a capture.
-fn number_of(cause: CaptureCause<LineFault>) -> u16 {
+fn number_of<F: Numbered>(cause: &CaptureCause<F>) -> u16 {
     match cause {
         CaptureCause::Read => ReadingFault::Read.number(),
-        CaptureCause::Memory => LineFault::Memory.number(),
+        CaptureCause::Memory => MEMORY,
         CaptureCause::Capture(fault) => fault.number(),
         CaptureCause::Task(fault) => fault.number(),
     }
 }
 
 /// Says a fault, and answers the exit status.
-pub(crate) fn report_capture<E: Write>(errors: &mut E, stop: CaptureStop<LineFault>) -> u8
+pub(crate) fn report_capture<F: Numbered + Copy, E: Write>(
+    errors: &mut E,
+    stop: CaptureStop<F>,
+) -> u8
     ensures { result ≡ 3 }
 {
     let CaptureStop {
@@ -36,7 +42,7 @@ pub(crate) fn report_capture<E: Write>(errors: &mut E, stop: CaptureStop<LineFau
         octet,
         what,
     } = stop;
-    let number = number_of(what);
+    let number = number_of(&what);
     let name = if packets == 1 { "packet" } else { "packets" };
     let _ = match what {
         CaptureCause::Capture(fault) => writeln!(

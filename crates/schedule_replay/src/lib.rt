@@ -3,6 +3,7 @@
 #![tactic(auto)]
 
 mod capture_faults;
+mod following;
 mod hints;
 pub mod laws;
 mod program;

@@ -6,6 +6,7 @@ ghost use Rattle.command_line.specs.Arguments.{AsksNothing, HasHelpFlag, Names, 
 ghost use Rattle.text_lines.specs.Lines.{input_limit, lines_limit, GivesWithin};
 
 use crate::capture_faults::report_capture;
+use crate::following::run_follow;
 use crate::hints::Hints;
 use crate::showing::show;
 use capture_extract::{Extraction, LineForm, extract};
@@ -91,6 +92,7 @@ fn run<R: Read, W: Write, E: Write>(
         Subcommand::Check => finish_check(errors, hints, check_text(alloc, input, output)),
         Subcommand::Extract(options) => run_extract(alloc, options, input, output, errors),
         Subcommand::Measure(options) => run_measure(alloc, options, input, output, errors),
+        Subcommand::Follow(options) => run_follow(alloc, options, input, output, errors),
         Subcommand::Explain(options) => run_explain(alloc, options, input, output, errors),
     }
 }
@@ -286,7 +288,7 @@ fn report_hinted<E: Write>(errors: &mut E, hints: Hints, fault: Fault) -> u8
 }
 
 /// Says a fault, and answers the exit status.
-fn report<F: Numbered + Copy, E: Write>(errors: &mut E, stop: Stopped<F>) -> u8
+pub(crate) fn report<F: Numbered + Copy, E: Write>(errors: &mut E, stop: Stopped<F>) -> u8
     ensures { result ≡ 3 }
 {
     let (line, number) = (stop.line, stop.what.number());
