@@ -2,7 +2,7 @@
 """Compares what docs/NUMBERS.md, the help of ptpx and the header for C say of each number with what the code says.
 
 The code's texts are those of the types whose `code` answers numbers: the attribute `error` of each variant, of FaultKind, which
-shows its number alone, and of Why the words beside it, and of CaptureFault those that the program tells. In docs/NUMBERS.md each number has one row, in the order in which the types try
+shows its number alone, and of Why the words beside it, and of CaptureFault and of a third tap those that the program tells. In docs/NUMBERS.md each number has one row, in the order in which the types try
 them, and the row says what to do. In the help a number stands in front of its text, which may go on in the lines below; what is said of 806 there is each
 subcommand's own, and 807 is followed by the refusals of a network. It has to say each number but those that calls alone
 answer. The manual page is made of the help.
@@ -17,6 +17,8 @@ SOURCES = sorted(it for it in TOP.glob("crates/*/src/**/*.rt") if "tests" not in
 VARIANT = re.compile(r'#\[error\("((?:[^"\\]|\\.)*)"\)\]\s*(\w+)')
 ARM = re.compile(r"(\w+)::(\w+)(?:\([^)]*\))? => (\d{3,4}),")
 TOLD = re.compile(r'(CaptureFault)::(\w+) => "([^"]*)"')
+# What is told of FollowFault::ThirdTap.
+THIRD_TAP = re.compile(r'"ptpx: (PTP was met at a third tap), ')
 WORDS = re.compile(r'(?:FaultKind|Why)::(\w+)(?:\(\w+\))? => (?:\{\s*)?(?:(?:f\.write_str\()?"([^"]*)"|write!)')
 ROW = re.compile(r"^\| (\d{3,4}) \| ([^|]*) \| ([^|]*) \|$", re.M)
 SAID = re.compile(r"^ +(?:refused )?\(?(\d{3,4})\)?(?: type \d+)? +(\S.*(?:\n {7,}(?!refused|\(?\d{3}\)? |sync |ignored)\S.*)*)", re.M)
@@ -39,6 +41,7 @@ def texts_of_code():
         for kind, name, number in ARM.findall(source):
             if (kind, name) in told or name in said:
                 texts[int(number)] = told.get((kind, name)) or said[name]
+        texts |= {809: text for text in THIRD_TAP.findall(source)}
     return texts
 
 

@@ -1,0 +1,323 @@
+"""A reader of what was met at two taps that was written apart from `ptpx follow`: what that owes for an input.
+
+It has all messages in memory, finds out first which are followed, and then goes through these."""
+import decimal
+import json
+import pathlib
+import re
+import sys
+import typing
+
+TOP = pathlib.Path(__file__).resolve().parents[2]
+sys.path[:0] = [str(TOP / 'tests/captures'), str(TOP / 'tests/hostile')]
+import reading  # noqa: E402
+import shown  # noqa: E402
+
+SYNC, DELAY_REQ, FOLLOW_UP, DELAY_RESP = 0, 1, 8, 9
+UNITS = 2**16
+TOO_BIG = 2**63 - 1
+
+# How many messages are kept until all is known, how many Syncs of a tap are looked at, and how many records count.
+KEPT, LOOKED_AT, RECORDS = 1024, 256, 256
+
+NAME = re.compile(rb'[A-Za-z0-9_.-]{1,16}')
+LINE = re.compile(rb'([A-Za-z0-9_.-]{1,16}) (0|[1-9][0-9]*)(?:\.([0-9]{1,9}))? ((?:[0-9a-fA-F]{2})*)')
+
+# The magics of captures, each of four octets.
+MAGICS = [*reading.PCAP, reading.SECTION_TYPE]
+
+HEAD = 'time,kind,number,taken_ns,corrected_ns,rest_ns\n'
+
+decimal.getcontext().prec = 60
+
+
+class Wanted(typing.NamedTuple):
+    """What is asked for: names of taps as octets, portIdentities as ten octets."""
+    start: bytes | None = None
+    end: bytes | None = None
+    domain: int | None = None
+    master: bytes | None = None
+    slave: bytes | None = None
+
+    def arguments(self):
+        named = [('from', self.start and self.start.decode()), ('to', self.end and self.end.decode()), ('domain', self.domain),
+                 ('master', port_text(self.master)), ('slave', port_text(self.slave))]
+        return [word for name, value in named if value is not None for word in (f'--{name}', str(value))]
+
+
+class Message(typing.NamedTuple):
+    """A message that was met: at which tap, in which line or packet, when, and its fields."""
+    tap: bytes
+    line: int
+    time: int
+    octets: bytes
+
+    @property
+    def kind(self):
+        return self.octets[0] % 16
+
+    @property
+    def domain(self):
+        return self.octets[4]
+
+    @property
+    def is_two_step(self):
+        return bool(self.octets[6] & 2)
+
+    @property
+    def correction(self):
+        return int.from_bytes(self.octets[8:16], 'big', signed=True)
+
+    @property
+    def source(self):
+        return self.octets[20:30]
+
+    @property
+    def number(self):
+        return int.from_bytes(self.octets[30:32], 'big')
+
+    @property
+    def timestamp(self):
+        return self.octets[34:44]
+
+    @property
+    def requesting(self):
+        return self.octets[44:54]
+
+
+class Followed(typing.NamedTuple):
+    """What is owed: the status, the lines, the fault (its number and its line, or its octet) and the tap that is a third one."""
+    status: int
+    crossings: list
+    fault: tuple | None = None
+    third: bytes | None = None
+
+    def text(self, csv=False):
+        form = row if csv else json_line
+        return ((HEAD if csv else '') + ''.join(map(form, self.crossings))).encode()
+
+
+def port_text(port):
+    return port and f'{port[:8].hex()}/{int.from_bytes(port[8:], "big")}'
+
+
+def nanoseconds(units):
+    """Units of 2^-16 ns as nanoseconds, with the decimals that they have."""
+    text = f'{decimal.Decimal(units) / UNITS:f}'
+    text = text.rstrip('0').rstrip('.') if '.' in text else text
+    return '0' if text == '-0' else text
+
+
+def time_text(time):
+    return f'{time // 10**9}.{time % 10**9:09}'
+
+
+def json_line(crossing):
+    told = {name: nanoseconds(crossing[name]) for name in ('corrected', 'rest', 'taken')}
+    told |= {name: crossing[name] for name in ('from', 'to', 'kind', 'lines', 'number')} | {'time': time_text(crossing['time'])}
+    return json.dumps(told, sort_keys=True, separators=(',', ':')) + '\n'
+
+
+def row(crossing):
+    numbers = [nanoseconds(crossing[name]) for name in ('taken', 'corrected', 'rest')]
+    return ','.join([time_text(crossing['time']), crossing['kind'], str(crossing['number']), *numbers]) + '\n'
+
+
+def datagrams_of_capture(octets):
+    """Tap, packet, time and octets of each datagram, and the fault."""
+    answer = reading.read(octets)
+    met = []
+    for found in answer.rows:
+        own = found.interface.own
+        tap = own if own is not None and NAME.fullmatch(own) else b'if%d' % found.interface.place
+        met.append(Message(tap, found.number, found.time, found.datagram))
+    return met, answer.fault and ('capture', answer.fault)
+
+
+def datagrams_of_lines(text):
+    met = []
+    for place, line in enumerate(shown.lines_of(text), 1):
+        said, fault = shown.read(line, LINE)
+        if fault is None and (int(said[2]) >= 2**48 or len(said[4]) > 4096):
+            fault = 806
+        if fault:
+            return met, ('line', (fault, place))
+        tap, seconds, decimals, digits = said.groups()
+        time = int(seconds) * 10**9 + int((decimals or b'').ljust(9, b'0'))
+        met.append(Message(tap, place, time, bytes.fromhex(digits.decode())))
+    return met, None
+
+
+class Watch:
+    """What the messages tell that is not asked for."""
+
+    def __init__(self, wanted):
+        self.domain, self.master = wanted.domain, wanted.master
+        self.taps = [wanted.start, wanted.end]
+        # the place among the taps of that which a Sync meets first
+        self.first = 0 if wanted.start is not None or wanted.end is not None else None
+        self.syncs = [[], []]
+
+    def place(self, tap):
+        """Which of the two taps it is, or None of a third one."""
+        if tap not in self.taps:
+            if None not in self.taps:
+                return None
+            self.taps[self.taps.index(None)] = tap
+        return self.taps.index(tap)
+
+    def notice(self, message):
+        if message.kind != SYNC:
+            return
+        if self.domain is None and self.master in (None, message.source):
+            self.domain = message.domain
+        if self.master is None and message.domain == self.domain:
+            self.master = message.source
+        if (message.domain, message.source) != (self.domain, self.master):
+            return
+        here = self.taps.index(message.tap)
+        if self.first is None:
+            other = next((time for number, time in reversed(self.syncs[1 - here]) if number == message.number), None)
+            if other is not None:
+                self.first = here if message.time < other else 1 - here
+        self.syncs[here] = [*self.syncs[here], (message.number, message.time)][-LOOKED_AT:]
+
+    def is_known(self):
+        return None not in (self.domain, self.master, self.first, *self.taps)
+
+    def slave(self, messages):
+        """The source of the first Delay_Req of the domain at the tap that a Sync meets last."""
+        last = self.taps[1 - self.first]
+        return next((it.source for it in messages if it.kind == DELAY_REQ and it.domain == self.domain and it.tap == last), None)
+
+
+class Records:
+    """The records of a kind, by the order in which they were opened."""
+
+    def __init__(self):
+        self.opened = []
+
+    def take(self, place, message, number, complete):
+        """The places of the record that this message closes, or None."""
+        record = next((it for it in reversed(self.opened[-RECORDS:]) if it['number'] == number), None)
+        if record is None or record['state'] == 'closed':
+            record = {'number': number, 'state': 'open', 'places': {}}
+            self.opened.append(record)
+        if record['state'] == 'spoiled':
+            return None
+        places = record['places']
+        if place in places:
+            record['state'] = 'spoiled'
+            return None
+        places[place] = message
+        needed = complete(places)
+        if needed is None or not all(it in places for it in needed):
+            return None
+        record['state'] = 'closed'
+        return [places[it] if it in needed else None for it in ('first', 'second', 'from', 'to')]
+
+
+def needs(kind):
+    """Of a record's places, those that it needs, or None while that isn't known."""
+    def complete(places):
+        if 'first' not in places or 'second' not in places:
+            return None
+        if kind == 'delay_req':
+            return ['first', 'second', 'from', 'to']
+        if not places['second'].is_two_step:
+            return ['first', 'second']
+        return ['first', 'second', *(['from'] if places['first'].is_two_step else []), 'to']
+    return complete
+
+
+def crossing_of(kind, number, places):
+    """What is told of a closed record, or None where it is no crossing."""
+    first, second, at_from, at_to = places
+    if any(it is not None and it.correction == TOO_BIG for it in places):
+        return None
+    if kind == 'sync' and first.is_two_step and not second.is_two_step:
+        return None
+    event_from, event_to = (first, second) if kind == 'sync' else (second, first)
+    if (at_from or event_from).timestamp != (at_to or event_to).timestamp:
+        return None
+    taken = (second.time - first.time) * UNITS
+    corrected = second.correction - first.correction + (at_to.correction if at_to else 0) - (at_from.correction if at_from else 0)
+    return {'kind': kind, 'number': number, 'taken': taken, 'corrected': corrected, 'rest': taken - corrected, 'time': first.time,
+            'lines': [it.line if it else None for it in places]}
+
+
+class Follower:
+    """The messages that are followed, and what came of them."""
+
+    def __init__(self, watch, slave):
+        self.watch, self.slave = watch, slave
+        self.start, self.end = watch.taps[watch.first], watch.taps[1 - watch.first]
+        self.records = {'sync': Records(), 'delay_req': Records()}
+        self.crossings = []
+
+    def placed(self, message):
+        """The kind and the place of a message, or None where it isn't followed."""
+        at = 'from' if message.tap == self.start else 'to'
+        of_master = message.source == self.watch.master
+        if message.kind == SYNC and of_master:
+            return 'sync', 'first' if at == 'from' else 'second'
+        if message.kind == FOLLOW_UP and of_master:
+            return 'sync', at
+        if message.kind == DELAY_REQ and message.source == self.slave:
+            return 'delay_req', 'first' if at == 'to' else 'second'
+        if message.kind == DELAY_RESP and of_master and message.requesting == self.slave:
+            return 'delay_req', at
+        return None
+
+    def take(self, message):
+        if self.slave is None:
+            self.slave = self.watch.slave([message])
+        placed = self.placed(message) if message.domain == self.watch.domain else None
+        if placed is None:
+            return
+        kind, place = placed
+        closed = self.records[kind].take(place, message, message.number, needs(kind))
+        crossing = closed and crossing_of(kind, message.number, closed)
+        if crossing:
+            self.crossings.append(crossing | {'from': self.start.decode(), 'to': self.end.decode()})
+
+
+def follow(octets, wanted=Wanted()):
+    """What `ptpx follow` owes for an input."""
+    met, fault = (datagrams_of_capture if octets[:4] in MAGICS else datagrams_of_lines)(octets)
+    watch, kept, follower, third = Watch(wanted), [], None, None
+
+    def begin(is_enough):
+        slave = wanted.slave
+        first = kept if len(kept) <= KEPT else kept[-1:]
+        if not watch.is_known():
+            return None
+        slave = slave if slave is not None else watch.slave(first)
+        if slave is None and not is_enough:
+            return None
+        begun = Follower(watch, slave)
+        for message in first:
+            begun.take(message)
+        return begun
+
+    for message in met:
+        place = watch.place(message.tap)
+        if place is None:
+            if wanted.start is not None and wanted.end is not None:
+                continue
+            third = message
+            break
+        if shown.refusal(message.octets):
+            continue
+        if follower:
+            follower.take(message)
+            continue
+        watch.notice(message)
+        kept.append(message)
+        follower = begin(len(kept) >= KEPT)
+    if third is None and fault is None and follower is None:
+        follower = begin(True)
+    crossings = follower.crossings if follower else []
+    if third is not None:
+        return Followed(2, crossings, ('third', (809, third.line)), third.tap)
+    return Followed(3 if fault else 0, crossings, fault)

@@ -1,0 +1,298 @@
+"""Sees that `ptpx follow` writes the crossings that followed.py owes, a reader that was written apart from it, and what it says on standard error:
+
+- over captures at several ports that linuxptp 3.1.1 gave, with software stamps that read one clock: examples/taps.pcapng, at both ports of its
+  two-step transparent clock; bridge.pcapng.xz, of a bridge in the clock's place; longer_way.pcapng.xz, at four ports, where the way from clock to
+  slave is 400 us longer. What these have was counted and computed apart from both, by the fields that tshark gives;
+- over these bent: a clock that tells 100 ns too much, packets in another order, lines, a message that is lost, repeated or changed, a tap more;
+- over lines that are broken, and made by a fixed seed."""
+import lzma
+import os
+import random
+import re
+import statistics
+import subprocess
+import sys
+from pathlib import Path
+
+import followed
+from followed import DELAY_REQ, DELAY_RESP, FOLLOW_UP, SYNC, UNITS, Wanted, follow
+
+HERE = Path(__file__).resolve().parent
+TOP = HERE.parents[1]
+PROGRAM = os.environ.get('PTPX', str(TOP / 'crates/ptpx/out/ptpx'))
+SEED, MADE = 1588, 2_000
+
+CLOCK = (TOP / 'examples/taps.pcapng').read_bytes()
+BRIDGE = lzma.decompress((HERE / 'bridge.pcapng.xz').read_bytes())
+LONGER = lzma.decompress((HERE / 'longer_way.pcapng.xz').read_bytes())
+OUTER, INNER = Wanted(b'mport', b'sport'), Wanted(b'left', b'right')
+
+# Of a capture its octets, what is asked for, how many Syncs and Delay_Reqs cross, and of each the least, the greatest and the mean rest, in whole
+# nanoseconds.
+REAL = {
+    'a clock': (CLOCK, Wanted(), (64, -8191, -1434, -3514), (63, -7681, -1756, -3444)),
+    'a bridge': (BRIDGE, Wanted(), (38, 10274, 22504, 14265), (32, 9923, 29246, 15819)),
+    'a longer way': (LONGER, OUTER, (137, 414706, 1430054, 552203), (134, 55370, 4815409, 207844)),
+}
+
+# By how much the way of Syncs is longer there than that of Delay_Reqs: by means and by medians, in nanoseconds.
+ASYMMETRY = 344_359, 379_130.5
+
+cases = 0
+
+
+def fail(text):
+    sys.exit(f'follow: {text}')
+
+
+def expect(name, is_so):
+    if not is_so:
+        fail(name)
+
+
+def rests(crossings, kind):
+    return [it['rest'] / UNITS for it in crossings if it['kind'] == kind]
+
+
+def figures(crossings, kind):
+    found = rests(crossings, kind)
+    return len(found), min(found), max(found), round(sum(found) / len(found))
+
+
+def lines_of(messages):
+    """Lines that tell datagrams."""
+    return b''.join(b'%s %s %s\n' % (it.tap, followed.time_text(it.time).encode(), it.octets.hex().encode()) for it in messages)
+
+
+def messages_of(octets):
+    return followed.datagrams_of_capture(octets)[0]
+
+
+def without_lines(crossings):
+    """What crossings tell but for the lines of their messages, in one order."""
+    return sorted((it['kind'], it['time'], it['number'], it['taken'], it['corrected']) for it in crossings)
+
+
+def with_correction(message, more):
+    """The message with so many units more in its correction."""
+    octets = message.octets
+    return message._replace(octets=octets[:8] + (message.correction + more).to_bytes(8, 'big', signed=True) + octets[16:])
+
+
+def made(kind, source, number, correction=0, two_step=False, stamp=0, requesting=b''):
+    """A datagram."""
+    octets = bytes([kind, 0x12]) + (44 + len(requesting)).to_bytes(2, 'big') + bytes(2) + bytes([2 * two_step, 0])
+    octets += correction.to_bytes(8, 'big', signed=True) + bytes(4) + source + number.to_bytes(2, 'big') + bytes(2)
+    return octets + stamp.to_bytes(6, 'big') + bytes(4) + requesting
+
+
+MASTER, SLAVE, OTHER = (bytes([2, 0, 0, 0, 0, 0, 0, it, 0, 1]) for it in (1, 2, 3))
+
+
+def told(*rows):
+    """Lines of rows, each of a tap, nanoseconds and a datagram."""
+    return lines_of(followed.Message(tap.encode(), 0, time, octets) for tap, time, octets in rows)
+
+
+ONE_STEP = told(('left', 10**9 + 500, made(SYNC, MASTER, 0, UNITS)), ('right', 10**9 + 3500, made(SYNC, MASTER, 0, 2000 * UNITS)))
+TWO_STEP = told(('left', 10**9 + 500, made(SYNC, MASTER, 0, two_step=True)), ('left', 10**9 + 900, made(FOLLOW_UP, MASTER, 0, 5 * UNITS, stamp=1)),
+                ('right', 10**9 + 3500, made(SYNC, MASTER, 0, 7 * UNITS, two_step=True)), ('right', 10**9 + 3900, made(FOLLOW_UP, MASTER, 0, 25 * UNITS // 4, stamp=1)))
+REQUEST = told(('right', 2 * 10**9, made(DELAY_REQ, SLAVE, 7, two_step=False)), ('left', 2 * 10**9 + 1000, made(DELAY_REQ, SLAVE, 7)),
+               ('left', 2 * 10**9 + 1500, made(DELAY_RESP, MASTER, 7, requesting=SLAVE)), ('right', 2 * 10**9 + 1800, made(DELAY_RESP, MASTER, 7, 900 * UNITS, requesting=SLAVE)))
+
+# Inputs whose crossings were worked by hand.
+WORKED = {
+    'a one-step Sync': (ONE_STEP, ['sync 0 3000 1999 1001 [1, 2, None, None]']),
+    'a two-step Sync': (TWO_STEP, ['sync 0 3000 8.25 2991.75 [1, 3, 2, 4]']),
+    'a Sync and a Delay_Req': (ONE_STEP + REQUEST, ['sync 0 3000 1999 1001 [1, 2, None, None]', 'delay_req 7 1000 900 100 [3, 4, 5, 6]']),
+    'a Sync that is two-step at the second tap alone': (
+        told(('left', 0, made(SYNC, MASTER, 3, stamp=9)), ('right', 50, made(SYNC, MASTER, 3, two_step=True)), ('right', 60, made(FOLLOW_UP, MASTER, 3, 3 * UNITS, stamp=9))),
+        ['sync 3 50 3 47 [1, 2, None, 3]']),
+    'a Sync that is two-step at the first tap alone': (
+        told(('left', 0, made(SYNC, MASTER, 3, two_step=True)), ('left', 10, made(FOLLOW_UP, MASTER, 3)), ('right', 50, made(SYNC, MASTER, 3))), []),
+    'another timestamp': (told(('left', 0, made(SYNC, MASTER, 3, stamp=1)), ('right', 50, made(SYNC, MASTER, 3, stamp=2))), []),
+    'a correction that is too big': (told(('left', 0, made(SYNC, MASTER, 3)), ('right', 50, made(SYNC, MASTER, 3, 2**63 - 1))), []),
+    'a Sync that came twice': (
+        told(('left', 0, made(SYNC, MASTER, 3)), ('left', 1, made(SYNC, MASTER, 3)), ('right', 50, made(SYNC, MASTER, 3)), ('right', 60, made(SYNC, MASTER, 3))), []),
+    'a number that comes again': (
+        told(*[row for time in (0, 100) for row in (('left', time, made(SYNC, MASTER, 3)), ('right', time + 50, made(SYNC, MASTER, 3)))]),
+        ['sync 3 50 0 50 [1, 2, None, None]', 'sync 3 50 0 50 [3, 4, None, None]']),
+}
+
+
+def worked_text(crossing):
+    numbers = ' '.join(followed.nanoseconds(crossing[name]) for name in ('taken', 'corrected', 'rest'))
+    return f'{crossing["kind"]} {crossing["number"]} {numbers} {crossing["lines"]}'
+
+
+def run(octets, arguments):
+    return subprocess.run([PROGRAM, 'follow', *arguments], input=octets, capture_output=True, timeout=1200)
+
+
+def fault_text(fault):
+    """How the line of a fault begins on standard error."""
+    if fault is None:
+        return ''
+    kind, (number, place) = fault
+    return f'ptpx: fault {number} at line {place}\n' if kind == 'line' else f'ptpx: fault {number} at octet {place}, after '
+
+
+def see(name, octets, wanted=Wanted(), errors=(), csv=False, is_program=True):
+    """Compares an answer of the program with what is owed, and answers that. Standard error has these texts."""
+    global cases
+    owed = follow(octets, wanted)
+    if not is_program:
+        return owed
+    cases += 1
+    answer = run(octets, [*wanted.arguments(), *(['--csv'] if csv else [])])
+    said = answer.stderr.decode()
+    expect(f'{name}: status {answer.returncode}, {said}', answer.returncode == owed.status)
+    expect(f'{name}: another output, {answer.stdout[:400]!r} and not {owed.text(csv)[:400]!r}', answer.stdout == owed.text(csv))
+    expect(f'{name}: {said}', owed.fault is None or owed.fault[0] == 'third' or said.startswith(fault_text(owed.fault)))
+    expect(f'{name}: {said}', (owed.status == 2) == ('fault 809 ' in said))
+    for text in errors:
+        expect(f'{name}: {text!r} is not in {said!r}', text in said)
+    return owed
+
+
+def see_real(is_program):
+    for name, (octets, wanted, syncs, requests) in REAL.items():
+        owed = see(name, octets, wanted, ['ptpx: from '], is_program=is_program)
+        expect(f'{name}: other Syncs', figures(owed.crossings, 'sync') == syncs)
+        expect(f'{name}: other Delay_Reqs', figures(owed.crossings, 'delay_req') == requests)
+        see(f'{name}, as a table', octets, wanted, csv=True, is_program=is_program)
+    crossings = follow(LONGER, OUTER).crossings
+    ways = rests(crossings, 'sync'), rests(crossings, 'delay_req')
+    for of, asymmetry in zip((statistics.mean, statistics.median), ASYMMETRY):
+        expect(f'another asymmetry by {of.__name__}', abs(of(ways[0]) - of(ways[1]) - asymmetry) < 0.5)
+    see('a longer way, at the clock', LONGER, INNER, is_program=is_program)
+
+
+def see_bent(is_program):
+    """A capture as lines, and these bent."""
+    messages, plain = messages_of(CLOCK), follow(CLOCK)
+    owed = see('lines', lines_of(messages), is_program=is_program)
+    expect('lines: other crossings', without_lines(owed.crossings) == without_lines(plain.crossings))
+    for name, order in ('lines in the order of times', sorted(messages, key=lambda it: it.time)), ('lines of one tap after the other', sorted(messages, key=lambda it: it.tap)):
+        named = see(name, lines_of(order), Wanted(b'left', b'right'), is_program=is_program)
+        expect(f'{name}: other crossings', without_lines(named.crossings) == without_lines(plain.crossings))
+    # each Sync is told 100 ns too much
+    bent = [with_correction(it, 100 * UNITS) if (it.kind, it.tap) == (FOLLOW_UP, b'right') else it for it in messages]
+    owed = see('a clock that tells 100 ns too much', lines_of(bent), is_program=is_program)
+    expect('a clock that tells 100 ns too much: isn\'t found', [it - 100 for it in rests(plain.crossings, 'sync')] == rests(owed.crossings, 'sync'))
+    expect('a clock that tells 100 ns too much: of Delay_Reqs too', rests(plain.crossings, 'delay_req') == rests(owed.crossings, 'delay_req'))
+    for name, kind, tap, sentence in (
+            ('a lost Sync', SYNC, b'right', 'ptpx: 1 Sync was met at left and not at right\n'),
+            ('a lost Delay_Req', DELAY_REQ, b'left', 'ptpx: 1 Delay_Req was met at right and not at left\n')):
+        place = [place for place, it in enumerate(messages) if (it.kind, it.tap) == (kind, tap)][5]
+        owed = see(name, lines_of(messages[:place] + messages[place + 1:]), errors=[sentence], is_program=is_program)
+        expect(f'{name}: other crossings', len(owed.crossings) == len(plain.crossings) - 1)
+        owed = see(f'{name} that came twice', lines_of(messages[:place + 1] + messages[place:]), is_program=is_program)
+        expect(f'{name} that came twice: other crossings', len(owed.crossings) in (len(plain.crossings) - 1, len(plain.crossings)))
+    for name, wanted in (('the other way', Wanted(b'right', b'left')), ('one tap alone', Wanted(b'left')), ('the other tap alone', Wanted(end=b'right')),
+                         ('a tap that is not met', Wanted(b'left', b'middle')), ('a master that is not met', Wanted(master=OTHER)),
+                         ('a slave that is not met', Wanted(slave=OTHER)), ('a domain that is not met', Wanted(domain=7))):
+        see(name, CLOCK, wanted, is_program=is_program)
+
+
+def see_third(is_program):
+    owed = see('a third tap', LONGER, errors=['ptpx: PTP was met at a third tap, right, beside mport and left; '], is_program=is_program)
+    expect('a third tap: no fault', owed.status == 2)
+    rows = ONE_STEP + REQUEST + b'middle 3.0 \n' + ONE_STEP
+    owed = see('a third tap behind a crossing', rows, errors=['ptpx: fault 809 at line 7\n', 'ptpx: PTP was met at a third tap, middle, beside left and right; '], is_program=is_program)
+    expect('a third tap behind a crossing: what was told before is gone', len(owed.crossings) == 2)
+    owed = see('a third tap where both are asked for', rows, INNER, is_program=is_program)
+    expect('a third tap where both are asked for: other crossings', len(owed.crossings) == 3)
+
+
+MISTAKES = [['--from', 'left', '--to', 'left'], ['--from', 'left', '--from', 'right'], ['--from', ''], ['--to', 'a b'], ['--from', 'a' * 17], ['--domain', '256'],
+            ['--csv=yes'], ['--interface', 'left'], ['capture.pcapng']]
+
+
+def see_mistakes():
+    """What is no command reads nothing and writes nothing."""
+    global cases
+    for arguments in MISTAKES:
+        cases += 1
+        answer = run(ONE_STEP, arguments)
+        expect(f'{arguments}: status {answer.returncode}', answer.returncode == 2 and answer.stdout == b'' and answer.stderr.startswith(b'error: '))
+
+
+BROKEN = [b'', b'\n', b'left', b'left 1.0', b'left 1.0 \n', b'left 1.0  \n', b'a:b 1.0 \n', b'a' * 16 + b' 0 \n', b'a' * 17 + b' 0 \n', b'left 1. \n', b'left -1 \n',
+          b'left 1.0000000001 \n', b'left 281474976710655.999999999 \n', b'left 281474976710656 \n', b'left 1.0 0\n', b'left 1.0 0g\n', b'left 1.0 00\r\n', b' 1.0 00\n',
+          b'left 1.0 ' + b'0' * 4087, b'left 1.0 ' + b'0' * 4088 + b'\n', b'\n\r\r\n', b'\xa1\xb2\xc3\n', b'left\t1.0 00\n', b'left 1.0 00 \n']
+
+
+def see_broken(is_program):
+    for text in BROKEN:
+        see(f'{text[:40]!r}', text, is_program=is_program)
+        see(f'{text[:40]!r} behind a crossing', ONE_STEP + text, is_program=is_program)
+    for size in [*range(0, 200, 13), len(CLOCK) - 1]:
+        see(f'a capture of {size} octets', CLOCK[:size], is_program=is_program)
+
+
+def made_messages(rng):
+    """Messages of a master and its slave at two taps, some of which are lost, repeated, late or of others, in an order that times don't tell."""
+    rows, time, first = [], rng.randrange(10**9), rng.randrange(2**16)
+    taps = rng.choice([('left', 'right'), ('left', 'right'), ('a', 'b_-.9')])
+    two_steps = [rng.random() < 0.7, rng.random() < 0.7]
+    for number in range(rng.randrange(1, rng.choice([6, 6, 400]))):
+        number, time = (first + number) % 2**16, time + rng.randrange(1, 10**6)
+        stay, correction = rng.randrange(10**4), rng.randrange(-2**20, 2**30)
+        stamp = rng.randrange(3) if rng.random() < 0.05 else 1
+        if rng.random() < 0.6:
+            rows += [(taps[0], time, made(SYNC, MASTER, number, correction, two_steps[0], 1)), (taps[1], time + stay, made(SYNC, MASTER, number, correction, two_steps[1], stamp))]
+            if two_steps[0]:
+                rows.append((taps[0], time + 10, made(FOLLOW_UP, MASTER, number, 0, stamp=1)))
+            if two_steps[1]:
+                rows.append((taps[1], time + stay + 10, made(FOLLOW_UP, MASTER, number, stay * UNITS - rng.randrange(2**17), stamp=stamp)))
+        else:
+            rows += [(taps[1], time, made(DELAY_REQ, SLAVE, number)), (taps[0], time + stay, made(DELAY_REQ, SLAVE, number, correction)),
+                     (taps[0], time + stay + 9, made(DELAY_RESP, MASTER, number, 0, stamp=1, requesting=SLAVE)),
+                     (taps[1], time + stay + 99, made(DELAY_RESP, MASTER, number, correction, stamp=stamp, requesting=SLAVE))]
+    messages = [followed.Message(tap.encode(), 0, time, octets) for tap, time, octets in rows]
+    for _ in range(rng.choice([0, 0, 1, 3])):
+        place = rng.randrange(len(messages))
+        message = messages[place]
+        octets = bytearray(message.octets)
+        octets[rng.randrange(len(octets))] ^= 1 << rng.randrange(8)
+        messages[place:place + 1] = rng.choice([[], [message, message], [message._replace(octets=bytes(octets))], [message._replace(tap=b'middle')],
+                                                [message._replace(octets=message.octets[:20] + OTHER + message.octets[30:])]])
+        if not messages:
+            break
+    reach = rng.choice([0, 1, 50])
+    return [it for _, it in sorted(enumerate(messages), key=lambda row: row[0] + rng.uniform(0, reach))]
+
+
+def see_made(is_program):
+    rng = random.Random(SEED)
+    count = 0
+    for number in range(MADE):
+        text = lines_of(made_messages(rng))
+        if rng.random() < 0.05 and text:
+            place = rng.randrange(len(text))
+            text = text[:place] + bytes([rng.randrange(256)]) + text[place + 1:]
+        wanted = rng.choice([Wanted(), Wanted(), INNER, Wanted(b'right'), Wanted(end=b'right'), Wanted(slave=SLAVE), Wanted(domain=0, master=MASTER), Wanted(master=OTHER)])
+        count += len(see(f'made input {number}', text, wanted, csv=rng.random() < 0.3, is_program=is_program).crossings)
+    expect('of made inputs none has crossings', count > MADE)
+
+
+def main():
+    is_program = '--reader' not in sys.argv[1:]
+    for name, (octets, wanted) in WORKED.items():
+        owed = see(name, octets, is_program=is_program)
+        expect(f'{name}: {[*map(worked_text, owed.crossings)]}', [*map(worked_text, owed.crossings)] == wanted)
+    text = follow(ONE_STEP).text()
+    expect(f'a line: {text}', text == (b'{"corrected":"1999","from":"left","kind":"sync","lines":[1,2,null,null],"number":0,"rest":"1001","taken":"3000",'
+                                       b'"time":"1.000000500","to":"right"}\n'))
+    see_real(is_program)
+    see_bent(is_program)
+    see_third(is_program)
+    see_broken(is_program)
+    if is_program:
+        see_mistakes()
+    see_made(is_program)
+    print(f'follow: {cases} inputs' if is_program else 'follow: the reader answers what was worked by hand')
+
+
+main()
