@@ -58,8 +58,9 @@ fn finish_lines<E: Write>(
     let Err(stop) = answer else {
         return 0;
     };
+    let what = stop.what;
     report(errors, stop);
-    match stop.what {
+    match what {
         Cause::Task(fault) => finish_fault(errors, taps, fault),
         Cause::Reading(_) => 3,
     }
@@ -75,8 +76,9 @@ fn finish_capture<E: Write>(
     let Err(stop) = answer else {
         return 0;
     };
+    let what = stop.what;
     report_capture(errors, stop);
-    match stop.what {
+    match what {
         CaptureCause::Task(fault) => finish_fault(errors, taps, fault),
         CaptureCause::Read | CaptureCause::Memory | CaptureCause::Capture(_) => 3,
     }

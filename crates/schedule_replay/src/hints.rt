@@ -18,7 +18,7 @@ pub(crate) enum Hints {
 
 impl Hints {
     /// The hints to the faults of a subcommand, where a person reads them.
-    pub(crate) fn of(subcommand: Subcommand, is_terminal: bool) -> Hints {
+    pub(crate) fn of(subcommand: &Subcommand, is_terminal: bool) -> Hints {
         match subcommand {
             Subcommand::Show if is_terminal => Hints::Show,
             Subcommand::Replay if is_terminal => Hints::Replay,

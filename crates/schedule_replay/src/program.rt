@@ -59,7 +59,7 @@ pub fn command<R: Read, W: Write, E: Write>(
 {
     match parse(alloc, words) {
         Ok(Invocation::Run(subcommand)) => {
-            let hints = Hints::of(subcommand, is_terminal);
+            let hints = Hints::of(&subcommand, is_terminal);
             run(alloc, subcommand, input, output, errors, hints)
         }
         Ok(Invocation::Help(text)) => match output.write_all(text.as_bytes()) {
