@@ -12,7 +12,7 @@ use Rattle.command_line.specs.Arguments.{HasHelpFlag, Names, NamesNothing, fault
 use Rattle.capture_file.specs.Name.{interface_name}
 use Rattle.command_line.specs.Number.{domain_of}
 use Rattle.command_line.specs.PortText.{port_identity_of}
-use Rattle.command_line.specs.declared.commands.Subcommand.TheVariants.{Show, Replay, Check, Extract, Measure, Explain}
+use Rattle.command_line.specs.declared.commands.Subcommand.TheVariants.{Show, Replay, Check, Extract, Measure, Follow, Explain}
 
 -- ---- words of the program
 
@@ -44,6 +44,22 @@ measured : Names (codes "ptpx" ∷ codes "measure" ∷ codes "--csv" ∷ codes "
     }))
 unfolding clap_on_literals walk_fault walked hex_on_literals chars faults_in named_in
 measured = (refl, refl)
+
+followed : Names (codes "ptpx" ∷ codes "follow" ∷ codes "--to=right" ∷ codes "--from" ∷ codes "left" ∷ [])
+    (Follow (record {
+      from = Some (codes "left");
+      to = Some (codes "right");
+      slave = None;
+      master = None;
+      domain = None;
+      csv = false;
+    }))
+unfolding clap_on_literals walk_fault walked hex_on_literals chars faults_in named_in
+followed = (refl, refl)
+
+one_tap : NamesNothing (codes "ptpx" ∷ codes "follow" ∷ codes "--from" ∷ codes "left" ∷ codes "--to" ∷ codes "left" ∷ [])
+unfolding clap_on_literals walk_fault walked hex_on_literals chars faults_in named_in
+one_tap = no_options (codes "ptpx" ∷ codes "follow" ∷ codes "--from" ∷ codes "left" ∷ codes "--to" ∷ codes "left" ∷ []) refl
 
 explained : Names (codes "ptpx" ∷ codes "explain" ∷ codes "--json" ∷ codes "--first" ∷ [])
     (Explain (record { first = true; json = true }))
