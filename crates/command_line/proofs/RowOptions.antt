@@ -1,5 +1,5 @@
 -- What functions read of options is what clap's rows say.
-use Rattle.std.proofs.Common.{◌≡◌, ◌∙◌, ℕ, Bool, List, Option, Some, None, Result, Ok, Err, ap, refl}
+use Rattle.std.proofs.Common.{◌≡◌, ◌∙◌, Bool, Option, None, Result, Ok, Err, ap, refl}
 use Rattle.std.specs.Prelude.{IsErr}
 use Rattle.std.specs.Result.{result_ok}
 use Rattle.clap.specs.Matches.{first_value}

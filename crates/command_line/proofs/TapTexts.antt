@@ -1,5 +1,5 @@
 -- Which texts are names of taps.
-use Rattle.std.proofs.Common.{◌≡◌, ◌∙◌, ◌≤◌, ◌&&◌, ℕ, Bool, true, false, List, Option, Some, None, length, nat_le, ap, ap₂, refl, sym, subst, arith}
+use Rattle.std.proofs.Common.{◌≡◌, ◌∙◌, ◌≤◌, ℕ, Bool, true, false, List, Option, Some, None, length, refl, arith}
 use Rattle.std.specs.Prelude.{if◌then◌else◌}
 use Rattle.std.specs.List.{list_all}
 use Rattle.std.proofs.lemmas.Bool.Decides.{nat_tests}
@@ -32,9 +32,6 @@ no_name other text none = rw (no_name_by text (is_tap_text text) refl none)
 pub a_name : (other : Option (List ℕ)) (text : List ℕ) → IsTapName text
     → tap_besides other text ≡ (if is_named other text then None else Some text)
 a_name other text name = rw (text_of_name text name)
-
-pub other_name : (other : Option (List ℕ)) (text : List ℕ) → IsTapName text → is_named other text ≡ true → tap_besides other text ≡ None
-other_name other text name is = a_name other text name ∙ rw is
 
 pub own_name : (other : Option (List ℕ)) (text : List ℕ) → IsTapName text → is_named other text ≡ false → tap_besides other text ≡ Some text
 own_name other text name is = a_name other text name ∙ rw is

@@ -6,7 +6,6 @@ use Rattle.text_lines.specs.declared.fault.Cause.TheVariants as lines
 use Rattle.text_lines.specs.declared.fault.Stopped.{Stopped}
 use Rattle.capture_file.specs.declared.fault.CaptureCause.{CaptureCause}
 use Rattle.capture_file.specs.declared.fault.CaptureCause.TheVariants as captures
-use Rattle.capture_file.specs.declared.fault.CaptureFault.{CaptureFault}
 use Rattle.capture_file.specs.declared.fault.CaptureStop.{CaptureStop}
 use Rattle.command_line.specs.declared.commands.follow.FollowOptions.{FollowOptions}
 use Rattle.tap_choice.specs.declared.wanted.Wanted.{Wanted}
