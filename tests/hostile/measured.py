@@ -29,10 +29,14 @@ LINE = re.compile(rb'(0|[1-9][0-9]{0,14})(?:\.([0-9]{1,9}))? ((?:[0-9a-fA-F]{2})
 IDENTITIES = [re.compile(form) for form in (
     r'([0-9a-fA-F]{16})/([0-9]{1,5})', r'([0-9a-fA-F]{6}\.[0-9a-fA-F]{4}\.[0-9a-fA-F]{6})-([0-9]{1,5})')]
 
-# A message; a line with what it said; and what completed on either side, with the tick at which it did.
+# A message; a line with what it said; and what completed on either side, with the tick at which it did, when it left and came, and its corrections.
 Message = collections.namedtuple('Message', 'kind domain two_step unicast correction source sequence stamp requesting')
 Read = collections.namedtuple('Read', 'place time units said')
-Completed = collections.namedtuple('Completed', 'tick bracket tags sequence')
+Completed = collections.namedtuple('Completed', 'tick bracket tags sequence left came correction')
+
+# The columns of a row, and those of it in full.
+HEAD = 'time,offset_ns,path_ns,by,line'
+FULL = ',t1_s,t2_s,t3_s,t4_s,sync_correction_ns,delay_correction_ns,sync_number,request_number,t2_to_t3_ns'
 
 
 class Options(typing.NamedTuple):
@@ -41,6 +45,7 @@ class Options(typing.NamedTuple):
     master: bytes = None
     domain: int = None
     csv: bool = False
+    full: bool = False
 
 
 class Measured(typing.NamedTuple):
@@ -93,9 +98,9 @@ def options(arguments):
         rest += one.split('=', 1) if re.match('--(slave|master|domain)=', one) else [one]
     while rest:
         name = rest.pop(0)
-        if name[2:] in said or name not in ('--slave', '--master', '--domain', '--csv'):
+        if name[2:] in said or name not in ('--slave', '--master', '--domain', '--csv', '--full'):
             return None
-        value = True if name == '--csv' else rest.pop(0) if rest else ''
+        value = True if name in ('--csv', '--full') else rest.pop(0) if rest else ''
         if name in ('--slave', '--master'):
             value = identity(value)
         elif name == '--domain':
@@ -123,6 +128,13 @@ def decimal(halves):
     whole, rest = divmod(abs(halves), 2**17)
     decimals = f'{rest * 5**17:017}'.rstrip('0')
     return ('-' if halves < 0 else '') + str(whole) + ('.' + decimals if decimals else '')
+
+
+def seconds(units):
+    """A time in seconds, with nine decimals or all that it has."""
+    whole, rest = divmod(units, SECOND)
+    nanoseconds, left = divmod(rest, 2**16)
+    return f'{whole}.{nanoseconds:09}' + (f'{left * 5**16:016}'.rstrip('0') if left else '')
 
 
 class Port:
@@ -189,7 +201,7 @@ class Port:
         if heard.kind == 'Delay_Resp':
             request = self.requested(heard.sequence)
             bracket = heard.stamp - heard.correction - request.units
-            self.answered = Completed(self.ticks, bracket, [request.place, read.place], heard.sequence)
+            self.answered = Completed(self.ticks, bracket, [request.place, read.place], heard.sequence, request.units, heard.stamp, heard.correction)
         elif not self.sync(read):
             return 'held'
         if not all(half and self.in_window(half.tick) for half in (self.synced, self.answered)):
@@ -202,6 +214,7 @@ class Port:
         heard, sync, follow_up = read.said, read, None
         if heard.kind == 'Sync' and not heard.two_step:
             bracket, tags = read.units - heard.stamp - heard.correction, [read.place, None]
+            left, correction = heard.stamp, heard.correction
         else:
             own, others = (self.syncs, self.follow_ups) if heard.kind == 'Sync' else (self.follow_ups, self.syncs)
             own.append((self.ticks, read))
@@ -211,7 +224,8 @@ class Port:
             sync, follow_up = (read, other) if heard.kind == 'Sync' else (other, read)
             bracket = sync.units - (follow_up.said.stamp + follow_up.said.correction) - sync.said.correction
             tags = [sync.place, follow_up.place]
-        self.synced = Completed(self.ticks, bracket, tags, heard.sequence)
+            left, correction = follow_up.said.stamp, follow_up.said.correction + sync.said.correction
+        self.synced = Completed(self.ticks, bracket, tags, heard.sequence, left, sync.units, correction)
         return True
 
 
@@ -273,8 +287,8 @@ class Life:
 class Measurer:
     """Hears lines one after the other."""
 
-    def __init__(self, watched, csv):
-        self.watched, self.csv = watched, csv
+    def __init__(self, watched, csv, full=False):
+        self.watched, self.csv, self.full = watched, csv, full
         self.port, self.last = Port(watched), None
         self.life, self.responses = Life(), collections.deque(maxlen=KNOWN)
         self.syncs = 0
@@ -359,10 +373,28 @@ class Measurer:
         by = 'response' if read.said.kind == 'Delay_Resp' else 'sync'
         self.reports.append(worth.Report(read.place, read.units, by, offset2, path2))
         if self.csv:
-            return f'{read.time},{decimal(offset2)},{decimal(path2)},{by},{read.place}\n'
+            return f'{read.time},{decimal(offset2)},{decimal(path2)},{by},{read.place}{self.columns() if self.full else ""}\n'
         tags = ','.join('null' if tag is None else str(tag) for tag in tags)
+        if self.full:
+            told = {'by': f'"{by}"', 'line': read.place, 'offset': f'"{decimal(offset2)}"', 'offset2': f'"{offset2}"', 'path': f'"{decimal(path2)}"',
+                    'path2': f'"{path2}"', 'tags': f'[{tags}]', 'time': f'"{read.time}"'} | self.exchange()
+            return '{' + ','.join(f'"{name}":{told[name]}' for name in sorted(told)) + '}\n'
         return (f'{{"by":"{by}","line":{read.place},"offset":"{decimal(offset2)}","offset2":"{offset2}",'
                 f'"path":"{decimal(path2)}","path2":"{path2}","tags":[{tags}],"time":"{read.time}"}}\n')
+
+
+    def exchange(self):
+        """What the last report was made of, in full."""
+        sync, answer = self.port.synced, self.port.answered
+        return {'t1': f'"{seconds(sync.left)}"', 't2': f'"{seconds(sync.came)}"', 't3': f'"{seconds(answer.left)}"', 't4': f'"{seconds(answer.came)}"',
+                'sync_correction': f'"{decimal(2 * sync.correction)}"', 'delay_correction': f'"{decimal(2 * answer.correction)}"',
+                'sync_number': sync.sequence, 'request_number': answer.sequence, 't2_to_t3': f'"{decimal(2 * abs(sync.came - answer.left))}"'}
+
+    def columns(self):
+        """The same as columns."""
+        told = self.exchange()
+        names = ['t1', 't2', 't3', 't4', 'sync_correction', 'delay_correction', 'sync_number', 'request_number', 't2_to_t3']
+        return ''.join(f',{str(told[name]).strip(chr(34))}' for name in names)
 
 
 def read(place, line):
@@ -435,7 +467,7 @@ class Reckoned(typing.NamedTuple):
 def reckoned(lines, given=Options(), unit='line'):
     """What is owed for these lines with these options."""
     watch, kept, written, reads = Watch(given), [], [], []
-    measurer = watch.known() and Measurer(watch.known(), given.csv)
+    measurer = watch.known() and Measurer(watch.known(), given.csv, given.full)
     early = []
     for count, told in enumerate(lines, 1):
         reads.append((told.units, told.said))
@@ -444,7 +476,7 @@ def reckoned(lines, given=Options(), unit='line'):
             watch.look(told)
             if not watch.known():
                 continue
-            measurer = Measurer(watch.known(), given.csv)
+            measurer = Measurer(watch.known(), given.csv, given.full)
             if count > KEPT:
                 early, kept = kept[:-1], kept[-1:]
         written += [measurer.hear(one) for one in kept]
@@ -464,7 +496,7 @@ def measured(text, given=Options()):
             fault = number, place
             break
         lines.append(told)
-    head = ['time,offset_ns,path_ns,by,line\n'] if given.csv else []
+    head = [f'{HEAD}{FULL if given.full else ""}\n'] if given.csv else []
     owed = reckoned(lines, given)
     told = ''.join(f'ptpx: {sentence}\n' for sentence in owed.told)
     return Measured(''.join(itertools.chain(head, owed.written)).encode(), fault, owed.counts, told.encode())

@@ -366,6 +366,7 @@ def arguments(text):
     if rng.random() < 0.02:
         return rng.choice(NO_ARGUMENTS)
     made = [['--csv']] if rng.random() < 0.3 else []
+    made += [['--full']] if rng.random() < 0.3 else []
     if rng.random() < 0.4:
         there = identities(shown.lines_of(text))
         for name, own in [('--slave', SLAVES), ('--master', MASTERS)]:

@@ -41,6 +41,7 @@ measured : Names (codes "ptpx" ∷ codes "measure" ∷ codes "--csv" ∷ codes "
       domain = None;
       interface = None;
       csv = true;
+      full = false;
     }))
 unfolding clap_on_literals walk_fault walked hex_on_literals chars faults_in named_in
 measured = (refl, refl)
@@ -100,14 +101,20 @@ values_behind_both : Names (codes "ptpx" ∷ codes "measure" ∷ codes "--master
       domain = Some 7;
       interface = None;
       csv = false;
+      full = false;
     }))
 unfolding clap_on_literals walk_fault walked hex_on_literals chars faults_in named_in
 values_behind_both = (refl, refl)
 
 mark_behind_option : Names (codes "ptpx" ∷ codes "measure" ∷ codes "--csv" ∷ codes "--" ∷ [])
-    (Measure (record { slave = None; master = None; domain = None; interface = None; csv = true }))
+    (Measure (record { slave = None; master = None; domain = None; interface = None; csv = true; full = false }))
 unfolding clap_on_literals walk_fault walked hex_on_literals chars faults_in named_in
 mark_behind_option = (refl, refl)
+
+in_full : Names (codes "ptpx" ∷ codes "measure" ∷ codes "--full" ∷ [])
+    (Measure (record { slave = None; master = None; domain = None; interface = None; csv = false; full = true }))
+unfolding clap_on_literals walk_fault walked hex_on_literals chars faults_in named_in
+in_full = (refl, refl)
 
 empty_value : NamesNothing (codes "ptpx" ∷ codes "measure" ∷ codes "--slave=" ∷ [])
 unfolding clap_on_literals walk_fault walked hex_on_literals chars faults_in named_in

@@ -27,7 +27,7 @@ subcommands =
     ∷ (
       codes "measure",
       with_value (codes "slave") ∷ with_value (codes "master") ∷ with_value (codes "domain") ∷ with_value (codes "interface")
-          ∷ flag (codes "csv") ∷ [],
+          ∷ flag (codes "csv") ∷ flag (codes "full") ∷ [],
     )
     ∷ (
       codes "follow",
@@ -52,6 +52,7 @@ measure_options_of rows = option_and_then (λ slave. option_and_then (λ master.
       domain = domain;
       interface = interface;
       csv = is_used (codes "csv") rows;
+      full = is_used (codes "full") rows;
     })
     (said interface_name (codes "interface") rows))
     (said domain_of (codes "domain") rows))

@@ -29,7 +29,7 @@ use Rattle.capture_extract.specs.declared.line.LineForm.TheVariants.{Octets, Tim
 use Rattle.capture_extract.specs.Extracted.{ExtractsAnswer, extract_rules}
 use Rattle.capture_list.specs.Listed.{ListsAnswer}
 use Rattle.capture_measure.specs.declared.measuring.Form.{Form}
-use Rattle.capture_measure.specs.declared.measuring.Form.TheVariants.{Json, Table}
+use Rattle.capture_measure.specs.declared.measuring.Form.TheVariants.{Json, Table, FullJson, FullTable}
 use Rattle.text_lines.specs.declared.line_fault.LineFault.{LineFault}
 use Rattle.capture_measure.specs.declared.watch.Wanted.{Wanted}
 use Rattle.text_lines.specs.Task.{FailedAt}
@@ -103,7 +103,9 @@ wanted_of options = record {
 
 -- how measurements are asked for
 abbrev pub form_of : MeasureOptions → Form
-form_of options = if options.csv then Table else Json
+form_of options =
+    if options.full then if options.csv then FullTable else FullJson
+    else if options.csv then Table else Json
 
 -- the exit status of `measure`, by what came of its input
 abbrev pub outcome_status : Outcome → ℕ

@@ -1,6 +1,6 @@
 ghost use Rattle.std.specs.Prelude.{◌≡◌, ◌≢◌, ◌⊎◌, map, string_bytes};
 ghost use Rattle.schedule_replay.specs.Program.{EndsBefore, EndsUnread, IsLimited, Runs, RunsExtract, RunsList};
-ghost use Rattle.schedule_replay.specs.Program.{RunsLines, RunsMeasure, RunsExplain};
+ghost use Rattle.schedule_replay.specs.Program.{RunsLines, RunsMeasure, RunsExplain, form_of};
 ghost use Rattle.schedule_replay.specs.Program.{check_status, found_status, outcome_status, status_of};
 ghost use Rattle.command_line.specs.Arguments.{AsksNothing, HasHelpFlag, Names, NamesNothing};
 ghost use Rattle.text_lines.specs.Lines.{input_limit, lines_limit, GivesWithin};
@@ -193,6 +193,23 @@ fn run_lines<R: Read, W: Write, E: Write>(
 const LINES_HAVE_NO_INTERFACE: &[u8] =
     b"ptpx: lines have no interface, so --interface changes nothing\n";
 
+/// How measurements are asked for.
+fn form_of(options: &MeasureOptions) -> Form
+    ensures { result ≡ form_of options.now }
+{
+    if options.full {
+        if options.csv {
+            Form::FullTable
+        } else {
+            Form::FullJson
+        }
+    } else if options.csv {
+        Form::Table
+    } else {
+        Form::Json
+    }
+}
+
 /// Measures a recording or a capture, tells what came of it beside the reports, and answers the exit status.
 fn run_measure<R: Read, W: Write, E: Write>(
     alloc: Global,
@@ -209,7 +226,7 @@ fn run_measure<R: Read, W: Write, E: Write>(
         domain: options.domain,
         interface: options.interface,
     };
-    let form = if options.csv { Form::Table } else { Form::Json };
+    let form = form_of(&options);
     let (outcome, summary) = measure(alloc, &wanted, form, input, output);
     let status = finish_outcome(errors, outcome);
     if options.interface.is_some() && matches!(outcome, Outcome::Lines(_)) {

@@ -13,7 +13,7 @@ use clap::ArgMatches;
 use event_codec::PortIdentity;
 
 /// The options of `measure`.
-const OPTIONS: [OptionRow; 5] = [
+const OPTIONS: [OptionRow; 6] = [
     OptionRow {
         name: "slave",
         value: Some("PORT"),
@@ -39,6 +39,11 @@ const OPTIONS: [OptionRow; 5] = [
         value: None,
         about: "Write CSV, in place of JSON",
     },
+    OptionRow {
+        name: "full",
+        value: None,
+        about: "Write also what each report was made of",
+    },
 ];
 
 /// The row of `measure`.
@@ -62,6 +67,8 @@ pub struct MeasureOptions {
     pub interface: Option<InterfaceName>,
     /// Whether the output is CSV, in place of JSON.
     pub csv: bool,
+    /// Whether each report has also the exchange that it was made of.
+    pub full: bool,
 }
 
 /// The options that were met.
@@ -76,6 +83,7 @@ pub(crate) fn measure_options<'a>(
         domain: domain_option(matches, "domain")?,
         interface: interface_option(matches, "interface")?,
         csv: is_used(matches, "csv"),
+        full: is_used(matches, "full"),
     })
 }
 
@@ -90,6 +98,7 @@ before the next line or packet is read. It is
   "tags":[12,13,9,11],"time":"1795328934.357259633"}
 in one line, or with --csv, below the head time,offset_ns,path_ns,by,line,
   1795328934.357259633,-12.5,1000,sync,17
+With --full each has besides the four times, the corrections and the numbers that it was made of.
 offset is offsetFromMaster and path meanPathDelay, in nanoseconds; offset2 and path2 are twice these, in
 units of 2^-16 ns. All four are exact. by says which half completed the report, sync or response, line which
 line or packet did, and time is the time of that one, of a packet with nine decimals. tags are the lines or
@@ -116,9 +125,8 @@ high by half of that: use stamps by the hardware of the slave's port. Taken at t
 near 0. A capture in UTC of a master in TAI gives an offset of -37 s. A Sync takes the last delay, however old,
 up to two ticks, of which there is one after each 4096 Syncs.
 
-At the end standard error tells of a capture how many packets there are, how many of them have PTP, and at
-which interface it was measured, if there are several. Then it tells the domain, the master and the slave,
-how many reports there are, and which datagrams gave none, and why.
+At the end standard error tells the domain, the master and the slave, what speaks against the numbers, how
+many reports there are, and which datagrams gave none, and why.
 
 Faults, each of which ends the run with 'ptpx: fault 806 at line 3' on standard error, or of a capture with
 'ptpx: fault 1006 at octet 6300, after 41 packets: the capture ends within a packet or a block'. Lines count
