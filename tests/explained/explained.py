@@ -88,6 +88,30 @@ VERSIONS = [
     ('"hex":"0912', '"hex":"0902'),
 ]
 
+# What else is changed in messages of the older standard, what is said of a message then, and at the end.
+OLDER = [
+    ((), """\
+    event 2, line 6, a sync at M: minorVersionPTP, the high half of octet 1 from 0, is 0 (IEEE 1588-2008); \
+wanted is 1 (IEEE 1588-2019); all other octets are right
+""", """\
+were octets left aside (708), 1 of 1 report would be sound
+other octets than a port or a clock writes: 6 of 6 messages
+  in one nibble alone: 6; minorVersionPTP is 0, as real devices of IEEE 1588-2008 write it, where IEEE 1588-2019 has 1
+verdict: refused event 13: 708
+"""),
+    ([('00000000000100000000"', '0000000000010000c350"')], """\
+    event 6, line 10, a follow at M: preciseOriginTimestamp is 1.000050000; wanted is 1.000000000, 50000 ns less
+    event 6, line 10, a follow at M: of what isn't read, minorVersionPTP, the high half of octet 1 from 0, is 0 (IEEE 1588-2008); \
+wanted is 1 (IEEE 1588-2019)
+""", """\
+octets can't be left aside (708): a field that a slave or a master reads differs in 1 message
+  preciseOriginTimestamp in 1, by 50000 ns at the most
+other octets than a port or a clock writes: 6 of 6 messages
+  in one nibble alone: 5; minorVersionPTP is 0, as real devices of IEEE 1588-2008 write it, where IEEE 1588-2019 has 1
+verdict: refused event 13: 708
+"""),
+]
+
 # Inputs of other kinds, and what is said of them behind these words.
 OTHER = "the input isn't lines of JSON, but "
 FOREIGN = [
@@ -578,17 +602,11 @@ event 13, line 17, a request at S
   t1  event  2  """)
 
     def test_tells_of_devices_of_the_older_standard(self):
-        output = explain(changed(TRANSCRIPT, *VERSIONS)).output
-        self.assertIn("""\
-    event 2, line 6, a sync at M: minorVersionPTP, the high half of octet 1 from 0, is 0 (IEEE 1588-2008); \
-wanted is 1 (IEEE 1588-2019); all other octets are right
-""", output)
-        self.ends(output, """\
-were octets left aside (708), 1 of 1 report would be sound
-other octets than a port or a clock writes: 6 of 6 messages
-  in one nibble alone: 6; minorVersionPTP is 0, as real devices of IEEE 1588-2008 write it, where IEEE 1588-2019 has 1
-verdict: refused event 13: 708
-""")
+        for changes, said, end in OLDER:
+            with self.subTest(changes=changes):
+                output = explain(changed(TRANSCRIPT, *VERSIONS, *changes)).output
+                self.assertIn(said, output)
+                self.ends(output, end)
 
     def test_tells_from_which_field_on_messages_differ(self):
         # The controlField of the Sync as it was sent.
@@ -622,21 +640,6 @@ other octets than a port or a clock writes: 1 of 6 messages
                 output = explain(changed(TRANSCRIPT, (old, new), place=place)).output
                 self.assertIn(f': {said}\n', output)
                 self.assertIn('\nwere octets left aside (708), 1 of 1 report would be sound\n', output)
-
-    def test_tells_of_a_wrong_time_beside_a_nibble(self):
-        output = explain(changed(TRANSCRIPT, *VERSIONS, ('00000000000100000000"', '0000000000010000c350"'))).output
-        self.assertIn("""\
-    event 6, line 10, a follow at M: preciseOriginTimestamp is 1.000050000; wanted is 1.000000000, 50000 ns less
-    event 6, line 10, a follow at M: of what isn't read, minorVersionPTP, the high half of octet 1 from 0, is 0 (IEEE 1588-2008); \
-wanted is 1 (IEEE 1588-2019)
-""", output)
-        self.ends(output, """\
-octets can't be left aside (708): a field that a slave or a master reads differs in 1 message
-  preciseOriginTimestamp in 1, by 50000 ns at the most
-other octets than a port or a clock writes: 6 of 6 messages
-  in one nibble alone: 5; minorVersionPTP is 0, as real devices of IEEE 1588-2008 write it, where IEEE 1588-2019 has 1
-verdict: refused event 13: 708
-""")
 
     def test_tells_no_amount_where_a_correction_is_too_big_to_say(self):
         # The correctionField of the Sync as it was sent, and as it left the clock.

@@ -62,15 +62,18 @@ def judgements(output):
 def stories(text):
     """The reports that a text tells, each with its event, line, slave and reasons, and all these reasons, each with whether what it met stands below it."""
     told, met = [], []
+    behind = False
     for line in text.splitlines():
         begin, further = BEGIN.fullmatch(line), FURTHER.fullmatch(line)
+        # behind the two results lines say which message tells otherwise
+        behind = not begin and (behind or line.startswith('  offset2  reported '))
         if begin:
             told.append((int(begin[1]), int(begin[2]), begin[3], []))
         reason = begin[4] if begin else further[1] if further else None
         if reason:
             told[-1][3].append(int(reason))
             met.append((int(reason), False))
-        elif met and line.startswith('    ') and not line.startswith('     '):
+        elif met and not behind and line.startswith('    ') and not line.startswith('     '):
             met[-1] = (met[-1][0], True)
     return told, met
 

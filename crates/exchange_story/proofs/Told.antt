@@ -11,7 +11,8 @@ use Rattle.trace_model.specs.declared.verdict.Why.{Why}
 use Rattle.exchange_story.specs.declared.report.Reported.{Reported}
 use Rattle.exchange_story.specs.Lines.{are_lines}
 use Rattle.exchange_story.specs.Report.{begin_text, difference_text, noun_of_units, reason_text, row_text, rows_text}
-use Rattle.exchange_story.specs.Report.{side_text, units_text, TellsJudged, TellsReasons}
+use Rattle.exchange_story.specs.Report.{all_rows_text, are_same, as_reported_text, messages_row_text, told_row_text, tells_otherwise}
+use Rattle.exchange_story.specs.Report.{side_text, units_text, TellsJudged, TellsReasons, TellsRefused, TellsReport, TellsWhich}
 use Rattle.exchange_story.specs.Counts.{is_sound}
 
 -- ---- reasons
@@ -102,33 +103,87 @@ rows_told (Err e) report by_readings results old first new some first_is is = tt
 
 -- ---- a report
 
--- what is told of a report that is refused, after its beginning, its reasons and its moments
-pub case_told : {E : Type 0} (r : Result (Unit {0}) E) (whys : List Why)
-    → (start begun reasoned placed ended begin reasons lines rows : List ℕ)
-    → begun ≡ start ++ begin → reasoned ≡ begun ++ reasons → placed ≡ reasoned ++ lines → OnOk r (ended ≡ placed ++ rows)
-    → TellsReasons (codes "refused, ") whys reasons → are_lines (codes "  t") lines ≡ true
-    → OnOk r ((reasons : List ℕ) × (lines : List ℕ) × TellsReasons (codes "refused, ") whys reasons
-    × (are_lines (codes "  t") lines ≡ true) × (ended ≡ start ++ (begin ++ (reasons ++ (lines ++ rows)))))
-case_told (Ok x) whys start begun reasoned placed ended begin reasons lines rows a b c d tells below =
-    (reasons, lines, tells, below, d ∙ rw (c, b, a) (simp append_assoc))
-case_told (Err e) whys start begun reasoned placed ended begin reasons lines rows a b c d tells below = tt
+-- what is told of a report that is refused, after its beginning, its reasons, its moments and its results
+pub case_told : {E : Type 0} (r : Result (Unit {0}) E) (reported : Reported) (by_messages : Option Results)
+    → (start begun reasoned placed rowed ended reasons lines : List ℕ)
+    → begun ≡ start ++ begin_text reported → reasoned ≡ begun ++ reasons → placed ≡ reasoned ++ lines
+    → rowed ≡ placed ++ all_rows_text reported.report reported.judgement.by_readings by_messages
+    → TellsReasons (codes "refused, ") reported.judgement.reasons reasons → are_lines (codes "  t") lines ≡ true
+    → OnOk r ((which : List ℕ) × (are_lines (codes "    ") which ≡ true)
+    × TellsWhich (tells_otherwise reported.judgement.by_readings by_messages) which × (ended ≡ rowed ++ which))
+    → OnOk r ((told : List ℕ) × TellsRefused reported by_messages told × (ended ≡ start ++ told))
+case_told (Ok x) reported by_messages start begun reasoned placed rowed ended reasons lines a b c d tells below (which, inside, whether, is) =
+    let rows : List ℕ = all_rows_text reported.report reported.judgement.by_readings by_messages in (
+      begin_text reported ++ (reasons ++ (lines ++ (rows ++ which))),
+      (reasons, lines, which, tells, below, inside, whether, refl),
+      is ∙ joined (begin_text reported) rows which a b c d,
+    )
+  where
+    joined : (begin rows which : List ℕ) → begun ≡ start ++ begin → reasoned ≡ begun ++ reasons → placed ≡ reasoned ++ lines
+        → rowed ≡ placed ++ rows → rowed ++ which ≡ start ++ (begin ++ (reasons ++ (lines ++ (rows ++ which))))
+    joined begin rows which a b c d = rw (d, c, b, a) (simp append_assoc)
+case_told (Err e) reported by_messages start begun reasoned placed rowed ended reasons lines a b c d tells below which = tt
 
-pub sound_told : {E : Type 0} (r : Result (Unit {0}) E) (reported : Reported) (whys : List Why) (old new : List ℕ) → is_sound whys ≡ true
-    → OnOk r (new ≡ old ++ (begin_text reported ++ codes "sound\n"))
-    → OnOk r ((told : List ℕ) × TellsJudged reported whys told × (new ≡ old ++ told))
-sound_told (Ok x) reported [] old new sound is = (begin_text reported ++ codes "sound\n", refl, is)
-sound_told (Ok x) reported (why ∷ others) old new sound is = absurd cc
-sound_told (Err e) reported whys old new sound is = tt
+-- no message tells otherwise
+pub which_none : (otherwise : Bool) (old : List ℕ) → otherwise ≡ false
+    → (which : List ℕ) × (are_lines (codes "    ") which ≡ true) × TellsWhich otherwise which × (old ≡ old ++ which)
+which_none otherwise old none = ([], refl, subst (λ (b : Bool). TellsWhich b []) (sym none) refl, sym (append-nil old))
 
-pub refused_told : {E : Type 0} (r : Result (Unit {0}) E) (reported : Reported) (whys : List Why) (old new : List ℕ) → is_sound whys ≡ false
-    → OnOk r ((reasons : List ℕ) × (lines : List ℕ) × TellsReasons (codes "refused, ") whys reasons
-    × (are_lines (codes "  t") lines ≡ true)
-    × (new ≡ old ++ (begin_text reported ++ (reasons ++ (lines ++ rows_text reported.report reported.judgement.by_readings)))))
-    → OnOk r ((told : List ℕ) × TellsJudged reported whys told × (new ≡ old ++ told))
-refused_told (Ok x) reported [] old new refused told = absurd cc
-refused_told (Ok x) reported (why ∷ others) old new refused (reasons, lines, tells, below, is) = (
-  begin_text reported ++ (reasons ++ (lines ++ rows_text reported.report reported.judgement.by_readings)),
-  (reasons, lines, tells, below, refl),
-  is,
-)
-refused_told (Err e) reported whys old new refused told = tt
+-- or one may
+pub which_told : {E : Type 0} (r : Result (Unit {0}) E) (otherwise : Bool) (old new : List ℕ) → otherwise ≡ true
+    → OnOk r ((told : List ℕ) × (are_lines (codes "    ") told ≡ true) × (new ≡ old ++ told))
+    → OnOk r ((which : List ℕ) × (are_lines (codes "    ") which ≡ true) × TellsWhich otherwise which × (new ≡ old ++ which))
+which_told (Ok x) otherwise old new so (told, below, is) = (told, below, subst (λ (b : Bool). TellsWhich b told) (sym so) tt, is)
+which_told (Err e) otherwise old new so told = tt
+
+-- behind the two results those by the messages
+pub all_rows_told : {E : Type 0} (r : Result (Unit {0}) E) (report : Report) (by_readings by_messages : Option Results) (told : Results)
+    → (old first new : List ℕ) → by_messages ≡ Some told → tells_otherwise by_readings by_messages ≡ true
+    → first ≡ old ++ rows_text report by_readings → OnOk r (new ≡ first ++ messages_row_text report told)
+    → OnOk r (new ≡ old ++ all_rows_text report by_readings by_messages)
+all_rows_told (Ok x) report by_readings by_messages told old first new some otherwise first_is is =
+    is ∙ ap (λ (t : List ℕ). t ++ messages_row_text report told) first_is
+    ∙ append_assoc old (rows_text report by_readings) (messages_row_text report told)
+    ∙ ap (λ (t : List ℕ). old ++ (rows_text report by_readings ++ t))
+    (sym (rw otherwise (ap (told_row_text report) some)))
+all_rows_told (Err e) report by_readings by_messages told old first new some otherwise first_is is = tt
+
+-- or nothing
+pub two_rows_told : (report : Report) (by_readings by_messages : Option Results) (old new : List ℕ)
+    → tells_otherwise by_readings by_messages ≡ false → new ≡ old ++ rows_text report by_readings
+    → new ≡ old ++ all_rows_text report by_readings by_messages
+two_rows_told report by_readings by_messages old new same is =
+    is ∙ ap (λ (t : List ℕ). old ++ t) (rw same (sym (append-nil (rows_text report by_readings))))
+
+pub sound_told : {E : Type 0} (r : Result (Unit {0}) E) (reported : Reported) (by_messages : Option Results) (whys : List Why)
+    → (old new : List ℕ) → is_sound whys ≡ true → OnOk r (new ≡ old ++ (begin_text reported ++ codes "sound\n"))
+    → OnOk r ((told : List ℕ) × TellsJudged reported by_messages whys told × (new ≡ old ++ told))
+sound_told (Ok x) reported by_messages [] old new sound is = (begin_text reported ++ codes "sound\n", refl, is)
+sound_told (Ok x) reported by_messages (why ∷ others) old new sound is = absurd cc
+sound_told (Err e) reported by_messages whys old new sound is = tt
+
+pub refused_told : {E : Type 0} (r : Result (Unit {0}) E) (reported : Reported) (by_messages : Option Results) (whys : List Why)
+    → (old new : List ℕ) → is_sound whys ≡ false
+    → OnOk r ((told : List ℕ) × TellsRefused reported by_messages told × (new ≡ old ++ told))
+    → OnOk r ((told : List ℕ) × TellsJudged reported by_messages whys told × (new ≡ old ++ told))
+refused_told (Ok x) reported by_messages [] old new refused told = absurd cc
+refused_told (Ok x) reported by_messages (why ∷ others) old new refused told = told
+refused_told (Err e) reported by_messages whys old new refused told = tt
+
+-- what is told of a report, with these results by the messages
+pub told_by : {E : Type 0} (r : Result (Unit {0}) E) (reported : Reported) (by_messages : Option Results) (old new : List ℕ)
+    → OnOk r ((told : List ℕ) × TellsJudged reported by_messages reported.judgement.reasons told × (new ≡ old ++ told))
+    → OnOk r ((told : List ℕ) × TellsReport reported told × (new ≡ old ++ told))
+told_by (Ok x) reported by_messages old new (told, tells, is) = (told, (by_messages, tells), is)
+told_by (Err e) reported by_messages old new told = tt
+
+-- the row of the results by the messages
+pub messages_row_told : {E : Type 0} (r : Result (Unit {0}) E) (report : Report) (told : Results) (same old new : List ℕ)
+    → same ≡ as_reported_text (are_same report.offset2 report.path2 told)
+    → OnOk r (new ≡ old ++ (codes "  by the messages  offset2 " ++ (signed_decimal told.offset2 ++ (codes "  path2 "
+    ++ (signed_decimal told.path2 ++ (same ++ codes "\n"))))))
+    → OnOk r (new ≡ old ++ messages_row_text report told)
+messages_row_told (Ok x) report told same old new same_is is =
+    is ∙ ap (λ (t : List ℕ). old ++ (codes "  by the messages  offset2 " ++ (signed_decimal told.offset2 ++ (codes "  path2 "
+    ++ (signed_decimal told.path2 ++ (t ++ codes "\n")))))) same_is ∙ simp append_assoc
+messages_row_told (Err e) report told same old new same_is is = tt

@@ -1,7 +1,8 @@
 -- What is told of a report.
-use Rattle.std.specs.Prelude.{◌≡◌, ℕ, ◌==◌, ℤ, ◌-ℤ◌, int_lt, unsigned_abs, Bool, true, List, [], ◌∷◌, ◌++◌, codes}
-use Rattle.std.specs.Prelude.{Option, Some, None, if◌then◌else◌}
+use Rattle.std.specs.Prelude.{◌≡◌, ℕ, ◌==◌, ℤ, ◌-ℤ◌, int_lt, unsigned_abs, Bool, true, false, ◌&&◌, not, List, [], ◌∷◌}
+use Rattle.std.specs.Prelude.{◌++◌, codes, Option, Some, None, if◌then◌else◌, ⊤}
 use Rattle.std.specs.Fmt.{decimal, signed_decimal}
+use Rattle.std.specs.Ordering.{int_eq}
 use Rattle.slave_port.specs.declared.heard.Report.{Report}
 use Rattle.trace_model.specs.declared.judgement.Results.{Results}
 use Rattle.trace_model.specs.declared.verdict.Why.{Why}
@@ -51,21 +52,67 @@ row_text name reported by_readings =
     ++ codes "  by the readings " ++ signed_decimal by_readings
     ++ difference_text reported by_readings ++ codes "\n"
 
+-- whether two results are the same as two others
+abbrev pub are_same : (offset2 path2 : ℤ) → Results → Bool
+are_same offset2 path2 results = int_eq offset2 results.offset2 && int_eq path2 results.path2
+
+-- whether the results by the messages aren't those by the readings
+abbrev pub tells_otherwise : (by_readings by_messages : Option Results) → Bool
+tells_otherwise None by_messages = false
+tells_otherwise (Some results) None = false
+tells_otherwise (Some results) (Some told) = not (are_same told.offset2 told.path2 results)
+
+-- that results are those that are reported
+abbrev pub as_reported_text : (same : Bool) → List ℕ
+as_reported_text same = if same then codes "  as reported" else []
+
+-- the row of the results by the messages
+abbrev pub messages_row_text : Report → Results → List ℕ
+messages_row_text report told =
+    codes "  by the messages  offset2 " ++ signed_decimal told.offset2 ++ codes "  path2 " ++ signed_decimal told.path2
+    ++ as_reported_text (are_same report.offset2 report.path2 told) ++ codes "\n"
+
+-- the same, where there is one
+abbrev pub told_row_text : Report → Option Results → List ℕ
+told_row_text report None = []
+told_row_text report (Some told) = messages_row_text report told
+
 -- the rows of the two results; none where no readings are found
 abbrev pub rows_text : Report → Option Results → List ℕ
 rows_text report None = []
 rows_text report (Some results) =
     row_text (codes "offset2") report.offset2 results.offset2 ++ row_text (codes "path2  ") report.path2 results.path2
 
--- what is told of a report against which these reasons stand: the reasons, lines on its moments and stays, which begin with
--- two blanks and a t or with three blanks, and the two results
-abbrev pub TellsJudged : Reported → List Why → List ℕ → Type 0
-TellsJudged reported [] text = text ≡ begin_text reported ++ codes "sound\n"
-TellsJudged reported (why ∷ others) text =
-    (reasons : List ℕ) × (lines : List ℕ) × TellsReasons (codes "refused, ") (why ∷ others) reasons
-    × (are_lines (codes "  t") lines ≡ true)
-    × (text ≡ begin_text reported ++ (reasons ++ (lines ++ rows_text reported.report reported.judgement.by_readings)))
+-- behind them the row of the results by the messages, where these aren't those by the readings
+abbrev pub all_rows_text : Report → (by_readings by_messages : Option Results) → List ℕ
+all_rows_text report by_readings by_messages =
+    rows_text report by_readings
+    ++ (if tells_otherwise by_readings by_messages then told_row_text report by_messages else [])
 
--- what is told of a report
+-- lines on which message tells otherwise, by whether one does: none where none does
+abbrev pub TellsWhich : Bool → List ℕ → Type 0
+TellsWhich true text = ⊤
+TellsWhich false text = text ≡ []
+
+-- what is told of a report that is refused, where these are its results by the messages: the reasons, lines on its moments and
+-- stays, which begin with two blanks and a t or with three blanks, the results, and lines on which message tells otherwise,
+-- which begin with four blanks
+abbrev pub TellsRefused : Reported → (by_messages : Option Results) → List ℕ → Type 0
+TellsRefused reported by_messages text =
+    (reasons : List ℕ) × (lines : List ℕ) × (which : List ℕ)
+    × TellsReasons (codes "refused, ") reported.judgement.reasons reasons
+    × (are_lines (codes "  t") lines ≡ true)
+    × (are_lines (codes "    ") which ≡ true)
+    × TellsWhich (tells_otherwise reported.judgement.by_readings by_messages) which
+    × (text ≡ begin_text reported ++ (reasons ++ (lines
+    ++ (all_rows_text reported.report reported.judgement.by_readings by_messages ++ which))))
+
+-- what is told of a report against which these reasons stand
+abbrev pub TellsJudged : Reported → (by_messages : Option Results) → List Why → List ℕ → Type 0
+TellsJudged reported by_messages [] text = text ≡ begin_text reported ++ codes "sound\n"
+TellsJudged reported by_messages (why ∷ others) text = TellsRefused reported by_messages text
+
+-- what is told of a report, with what are said to be its results by the messages
 abbrev pub TellsReport : Reported → List ℕ → Type 0
-TellsReport reported = TellsJudged reported reported.judgement.reasons
+TellsReport reported text =
+    (by_messages : Option Results) × TellsJudged reported by_messages reported.judgement.reasons text

@@ -2,13 +2,13 @@
 ghost use Rattle.std.specs.Prelude.{◌≡◌, ◌++◌, List, ℕ, OnOk, codes, true};
 ghost use Rattle.std.specs.String.{string_bytes};
 ghost use Rattle.exchange_story.specs.Lines.{are_lines};
-ghost use Rattle.exchange_story.specs.Report.{begin_text, rows_text, TellsReasons};
+ghost use Rattle.exchange_story.specs.Report.{tells_otherwise, TellsReasons, TellsRefused, TellsWhich};
 
 use crate::exchange::push_exchange;
 use crate::lines::push_lines;
 use crate::record::Record;
-use crate::report::{Reported, push_begin, push_reason, push_results};
-use exchange_check::{Checker, Exchange, Why};
+use crate::report::{Reported, push_begin, push_reason, push_results, tells_otherwise};
+use exchange_check::{Checker, Exchange, Results, Why};
 use std::alloc::{AllocError, Global};
 
 /// A report that is refused, and the transcript up to it.
@@ -20,21 +20,22 @@ pub(crate) struct Case<'a> {
     pub(crate) reported: &'a Reported,
     /// Its lines; none where 701 or 704 stands.
     pub(crate) exchange: &'a Option<Exchange>,
+    /// Its results by the messages.
+    pub(crate) by_messages: Option<Results>,
 }
 
 impl Case<'_> {
-    /// Appends the reasons against the report, each with what it met, and then the report's lines and results.
+    /// Appends the reasons against the report, each with what it met, and then the report's lines and results, and which
+    /// message tells otherwise than the readings.
     pub(crate) fn push(&self, text: &mut String) -> Result<(), AllocError>
-        ensures { OnOk result ((reasons : List ℕ) × (lines : List ℕ)
-            × TellsReasons (codes "refused, ") self.now.reported.now.judgement.reasons reasons
-            × (are_lines (codes "  t") lines ≡ true)
-            × (string_bytes text.new ≡ string_bytes text.old ++ (begin_text self.now.reported.now ++ (reasons
-            ++ (lines ++ rows_text self.now.reported.now.report self.now.reported.now.judgement.by_readings))))) }
+        ensures { OnOk result ((told : List ℕ) × TellsRefused self.now.reported.now self.now.by_messages told
+            × (string_bytes text.new ≡ string_bytes text.old ++ told)) }
     {
         push_begin(text, self.reported)?;
         self.push_reasons(text)?;
         self.push_moments(text)?;
-        push_results(text, self.reported)
+        push_results(text, self.reported, self.by_messages)?;
+        self.push_which(text)
     }
 
     /// Appends the reasons, each with what it met.
@@ -67,6 +68,22 @@ impl Case<'_> {
         let mut lines = String::new(self.alloc);
         push_exchange(&mut lines, self.record.nodes().len() as u64, exchange)?;
         push_lines(text, "  t", lines.as_str())
+    }
+
+    /// Appends which message tells otherwise than the readings, where the results by the messages aren't those by these.
+    fn push_which(&self, text: &mut String) -> Result<(), AllocError>
+        ensures { OnOk result ((which : List ℕ) × (are_lines (codes "    ") which ≡ true)
+            × TellsWhich (tells_otherwise self.now.reported.now.judgement.by_readings self.now.by_messages) which
+            × (string_bytes text.new ≡ string_bytes text.old ++ which)) }
+    {
+        if !tells_otherwise(self.reported.judgement.by_readings, self.by_messages) {
+            return Ok(());
+        }
+        let mut lines = String::new(self.alloc);
+        if let Some(exchange) = self.exchange {
+            self.push_otherwise(&mut lines, exchange)?;
+        }
+        push_lines(text, "    ", lines.as_str())
     }
 
     /// Appends what a reason met.

@@ -18,6 +18,7 @@ mod refusal;
 mod report;
 mod story;
 mod tally;
+mod telling;
 mod wrong_field;
 
 pub use refusal::{Before, push_clash, push_refused};

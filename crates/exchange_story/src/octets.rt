@@ -5,7 +5,7 @@ use crate::field::{VERSION, field_name};
 use crate::journey::{Message, push_event};
 use crate::readings::Told;
 use crate::record::{Record, Recorded};
-use crate::wrong_field::{Fields, READ_FIELDS, ReadField, WrongField};
+use crate::wrong_field::{Fields, Kind, READ_FIELDS, ReadField, Said, WrongField};
 use event_codec::{Body, DecodeRefusal, decode, encode};
 use exchange_check::{Checker, Exchange};
 use std::alloc::AllocError;
@@ -178,6 +178,33 @@ impl Compared {
     /// Whether all octets are right.
     pub(crate) fn is_right(&self) -> bool {
         self.rest.is_none() && !self.is_read_otherwise()
+    }
+}
+
+/// What the message of an event says; none where it makes none, or none that can be read.
+pub(crate) fn fields_at(record: &Record, number: u64) -> Option<Fields> {
+    let octets = octets_made(record.at(number)?)?;
+    match decode(octets) {
+        Ok((said, _)) => Some(Fields {
+            header: said.header,
+            body: said.body,
+        }),
+        Err(_) => None,
+    }
+}
+
+/// The timestamp and the correction of the message of an event, where it is of this type.
+pub(crate) fn said_at(record: &Record, number: u64, kind: Kind) -> Option<Said> {
+    let octets = octets_made(record.at(number)?)?;
+    match decode(octets) {
+        Ok((said, _)) => {
+            let fields = Fields {
+                header: said.header,
+                body: said.body,
+            };
+            fields.said(kind)
+        }
+        Err(_) => None,
     }
 }
 

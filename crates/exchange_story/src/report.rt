@@ -1,11 +1,12 @@
 //! What a report is judged to be, for a person.
-ghost use Rattle.std.specs.Prelude.{◌≡◌, ◌++◌, int_lt, OnOk, codes};
+ghost use Rattle.std.specs.Prelude.{◌≡◌, ◌++◌, int_lt, OnOk, Some, codes};
 ghost use Rattle.std.specs.String.{string_bytes};
 ghost use Rattle.exchange_story.specs.Report.{begin_text, difference_text, noun_of_units, reason_text};
-ghost use Rattle.exchange_story.specs.Report.{row_text, rows_text, side_text};
+ghost use Rattle.exchange_story.specs.Report.{all_rows_text, are_same, as_reported_text, messages_row_text};
+ghost use Rattle.exchange_story.specs.Report.{row_text, rows_text, side_text, tells_otherwise};
 ghost use Rattle.exchange_story.specs.Counts.{is_sound};
 
-use exchange_check::{Judgement, Why};
+use exchange_check::{Judgement, Results, Why};
 use network_model::{Name, Report};
 use std::alloc::AllocError;
 
@@ -110,8 +111,25 @@ fn push_row(
     text.push_str("\n")
 }
 
+/// Whether two results are the same as two others.
+fn are_same(offset2: i128, path2: i128, results: &Results) -> bool
+    ensures { result ≡ are_same offset2 path2 results.now }
+{
+    offset2 == results.offset2 && path2 == results.path2
+}
+
+/// Whether the results by the messages aren't those by the readings.
+pub(crate) fn tells_otherwise(by_readings: Option<Results>, by_messages: Option<Results>) -> bool
+    ensures { result ≡ tells_otherwise by_readings by_messages }
+{
+    match (by_readings, by_messages) {
+        (Some(results), Some(told)) => !are_same(told.offset2, told.path2, &results),
+        _ => false,
+    }
+}
+
 /// Appends the two results, as they are reported and by the readings; nothing where no readings are found.
-pub(crate) fn push_results(text: &mut String, reported: &Reported) -> Result<(), AllocError>
+fn push_rows(text: &mut String, reported: &Reported) -> Result<(), AllocError>
     ensures { OnOk result (string_bytes text.new ≡ string_bytes text.old
         ++ rows_text reported.now.report reported.now.judgement.by_readings) }
 {
@@ -121,4 +139,41 @@ pub(crate) fn push_results(text: &mut String, reported: &Reported) -> Result<(),
     let report = &reported.report;
     push_row(text, "offset2", report.offset2, results.offset2)?;
     push_row(text, "path2  ", report.path2, results.path2)
+}
+
+/// That results are those that are reported.
+fn as_reported(same: bool) -> &'static str
+    ensures { result.now ≡ as_reported_text same }
+{
+    if same { "  as reported" } else { "" }
+}
+
+/// Appends the row of the results by the messages.
+fn push_messages_row(text: &mut String, report: &Report, told: Results) -> Result<(), AllocError>
+    ensures { OnOk result (string_bytes text.new ≡ string_bytes text.old ++ messages_row_text report.now told) }
+{
+    let same = as_reported(are_same(report.offset2, report.path2, &told));
+    write!(
+        text,
+        "  by the messages  offset2 {}  path2 {}{same}\n",
+        told.offset2, told.path2
+    )
+}
+
+/// Appends the two results, as they are reported and by the readings, and by the messages where these tell otherwise.
+pub(crate) fn push_results(
+    text: &mut String,
+    reported: &Reported,
+    by_messages: Option<Results>,
+) -> Result<(), AllocError>
+    ensures { OnOk result (string_bytes text.new ≡ string_bytes text.old
+        ++ all_rows_text reported.now.report reported.now.judgement.by_readings by_messages) }
+{
+    push_rows(text, reported)?;
+    match by_messages {
+        Some(told) if tells_otherwise(reported.judgement.by_readings, by_messages) => {
+            push_messages_row(text, &reported.report, told)
+        }
+        _ => Ok(()),
+    }
 }

@@ -9,6 +9,7 @@ use crate::case::Case;
 use crate::record::Record;
 use crate::report::{Reported, is_sound, push_sound};
 use crate::tally::Tally;
+use crate::telling::by_messages;
 use exchange_check::{Checker, Reasons, TraceLine};
 use network_model::NodeSpec;
 use std::alloc::{AllocError, Global};
@@ -69,8 +70,8 @@ impl Story {
         self.record.nodes()
     }
 
-    /// Appends what the report of the last event is judged to be; where it is refused, what the reasons
-    /// against it met, and its exchange.
+    /// Appends what the report of the last event is judged to be; where it is refused, what the reasons against it met, its
+    /// exchange, and where the messages tell other results than the readings, these and which message does.
     pub fn push_report<'a>(
         &'a self,
         text: &mut String,
@@ -90,6 +91,7 @@ impl Story {
             record: &self.record,
             reported,
             exchange: &exchange,
+            by_messages: by_messages(&self.record, &reported.report, &exchange),
         };
         case.push(text)
     }

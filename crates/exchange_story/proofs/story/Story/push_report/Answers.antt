@@ -1,10 +1,14 @@
 use Rattle.std.proofs.Common.{◌∙◌, sym}
-use Rattle.exchange_story.proofs.Told.{refused_told, sound_told}
+use Rattle.std.proofs.Common.{None}
+use Rattle.exchange_story.proofs.Told.{refused_told, sound_told, told_by}
 use Rattle.exchange_story.proofs.story.Story.push_report.Goals as goal
 
 pub returns-then-is_sound : goal.returns-then-is_sound
 returns-then-is_sound c =
-    sound_told c.push_sound.result c.args.reported.now _ _ _ (sym c.is_sound.ensures ∙ c.if-is_sound.true) c.push_sound.ensures
+    told_by c.push_sound.result c.args.reported.now None _ _
+    (sound_told c.push_sound.result c.args.reported.now None _ _ _ (sym c.is_sound.ensures ∙ c.if-is_sound.true) c.push_sound.ensures)
 
 pub returns : goal.returns
-returns c = refused_told c.push.result c.args.reported.now _ _ _ (sym c.is_sound.ensures ∙ c.if-is_sound.false) c.push.ensures
+returns c =
+    told_by c.push.result c.args.reported.now c.by_messages.result _ _
+    (refused_told c.push.result c.args.reported.now c.by_messages.result _ _ _ (sym c.is_sound.ensures ∙ c.if-is_sound.false) c.push.ensures)

@@ -2,7 +2,7 @@ use Rattle.std.proofs.Common.{rules, FitsSigned}
 use Rattle.std.specs.Int.{w128}
 use Rattle.std.proofs.lemmas.Int.{to_z-of_z}
 use Rattle.exchange_story.proofs.Told.{rows_told}
-use Rattle.exchange_story.proofs.report.push_results.Goals as goal
+use Rattle.exchange_story.proofs.report.push_rows.Goals as goal
 
 pub returns : goal.returns
 returns c =

@@ -1,0 +1,14 @@
+use Rattle.std.proofs.Common.{◌∙◌, ap, rules, FitsSigned}
+use Rattle.std.specs.Int.{w128}
+use Rattle.std.proofs.lemmas.Int.{to_z-of_z}
+use Rattle.exchange_story.specs.Report.{as_reported_text}
+use Rattle.exchange_story.proofs.Told.{messages_row_told}
+use Rattle.exchange_story.proofs.report.push_messages_row.Goals as goal
+
+pub returns : goal.returns
+returns c =
+    let one : FitsSigned w128 c.args.report.now.offset2 = search rules in
+    let other : FitsSigned w128 c.args.report.now.path2 = search rules in
+    let same = simp to_z-of_z at c.are_same.ensures in
+    messages_row_told c.write.result c.args.report.now c.args.told c.as_reported-same.result.now _ _
+    (c.as_reported-same.ensures ∙ ap as_reported_text same) c.write.ensures.bytes

@@ -1,0 +1,192 @@
+//! What the messages tell that came to a slave, and which of them tells otherwise than clocks read.
+
+use crate::case::Case;
+use crate::moments::{Length, signed, signed_units};
+use crate::octets::{fields_at, said_at};
+use crate::record::{Place, Record};
+use crate::wrong_field::{Fields, Kind};
+use exchange_check::{Exchange, Leg, Results};
+use network_model::{Name, Report};
+use ptp_units::ScaledTime;
+use std::alloc::AllocError;
+use std::fmt;
+use std::fmt::{Display, Formatter};
+
+/// A message that came to a slave.
+#[derive(Clone, Copy)]
+struct Came {
+    name: &'static str,
+    place: Place,
+    fields: Fields,
+}
+
+impl Display for Came {
+    fn fmt<W: fmt::Write>(&self, f: &mut Formatter<W>) -> fmt::Result {
+        write!(
+            f,
+            "{} {} ({})",
+            self.name, self.fields.header.sequence.0, self.place
+        )
+    }
+}
+
+/// The two results of a report's exchange by the messages: by what those say that came to the slave, and by its own
+/// readings. None where there is no exchange, or where a message can't be read or is of another type.
+pub(crate) fn by_messages(
+    record: &Record,
+    report: &Report,
+    exchange: &Option<Exchange>,
+) -> Option<Results> {
+    let exchange = exchange.as_ref()?;
+    let a = sync_bracket_of(record, exchange)?;
+    let b = delay_bracket_of(record, report, exchange)?;
+    Some(Results {
+        offset2: a.saturating_sub(b),
+        path2: a.saturating_add(b),
+    })
+}
+
+/// t2 less the departure and the corrections that the slave was told: by the Follow_Up, or of a one-step Sync by itself.
+fn sync_bracket_of(record: &Record, exchange: &Exchange) -> Option<i128> {
+    let arrived = &exchange.sync.arrived;
+    let sync = said_at(record, arrived.event.heard_copy()?, Kind::Sync)?;
+    let departed = match exchange.follow {
+        Some(number) => {
+            let follow = said_at(record, number, Kind::FollowUp)?;
+            follow.time.saturating_add(follow.correction)
+        }
+        None => sync.time,
+    };
+    let elapsed = signed_units(arrived.reading).saturating_sub(departed);
+    Some(elapsed.saturating_sub(sync.correction))
+}
+
+/// The arrival of the Delay_Req that the slave was told, less what its clock read as the one that the report names left.
+fn delay_bracket_of(record: &Record, report: &Report, exchange: &Exchange) -> Option<i128> {
+    let response = said_at(record, exchange.request.arrived.number, Kind::DelayResp)?;
+    let departed = match record.at(report.request_tag)?.line.reading {
+        Some(reading) => signed_units(reading),
+        None => 0,
+    };
+    let arrived = response.time.saturating_sub(response.correction);
+    Some(arrived.saturating_sub(departed))
+}
+
+/// The fraction of a nanosecond of a moment, in units of 2^-16 ns.
+fn fraction_of(time: ScaledTime) -> i128 {
+    i128::from(time.split().1)
+}
+
+/// The whole nanoseconds of a moment, in units of 2^-16 ns.
+fn whole_of(time: ScaledTime) -> i128 {
+    signed_units(time).saturating_sub(fraction_of(time))
+}
+
+impl Case<'_> {
+    /// Appends which of the messages that came to the slave tell otherwise than the clocks read, and by how much.
+    pub(crate) fn push_otherwise(
+        &self,
+        text: &mut String,
+        exchange: &Exchange,
+    ) -> Result<(), AllocError> {
+        match exchange.follow {
+            Some(number) => self.push_two_step(text, &exchange.sync, number)?,
+            None => self.push_one_step(text, &exchange.sync)?,
+        }
+        self.push_response_told(text, &exchange.request)
+    }
+
+    /// The message of an event, as it came to the slave.
+    fn came(&self, name: &'static str, number: u64) -> Option<Came> {
+        Some(Came {
+            name,
+            place: self.record.place(number),
+            fields: fields_at(self.record, number)?,
+        })
+    }
+
+    /// The copy of the Sync that came to the slave.
+    fn sync_that_came(&self, leg: &Leg) -> Option<Came> {
+        self.came("Sync", leg.arrived.event.heard_copy()?)
+    }
+
+    /// Appends what a Follow_Up and its Sync tell otherwise.
+    fn push_two_step(&self, text: &mut String, leg: &Leg, number: u64) -> Result<(), AllocError> {
+        if let Some(follow) = self.came("Follow_Up", number) {
+            let told = follow
+                .fields
+                .time()
+                .saturating_add(follow.fields.correction());
+            let excess = told.saturating_sub(signed_units(leg.departed.reading));
+            push_moment(text, &follow, "t1", leg.departed.event.node(), excess)?;
+        }
+        if let Some(sync) = self.sync_that_came(leg) {
+            push_clocks(text, &sync, signed(leg.residence))?;
+        }
+        Ok(())
+    }
+
+    /// Appends what a one-step Sync tells otherwise: the fraction of t1 is in its correction.
+    fn push_one_step(&self, text: &mut String, leg: &Leg) -> Result<(), AllocError> {
+        let Some(sync) = self.sync_that_came(leg) else {
+            return Ok(());
+        };
+        let departed = leg.departed.reading;
+        let excess = sync.fields.time().saturating_sub(whole_of(departed));
+        push_moment(text, &sync, "t1", leg.departed.event.node(), excess)?;
+        push_clocks(
+            text,
+            &sync,
+            signed(leg.residence).saturating_add(fraction_of(departed)),
+        )
+    }
+
+    /// Appends what a Delay_Resp tells otherwise: the fraction of t4 is taken from its correction.
+    fn push_response_told(&self, text: &mut String, leg: &Leg) -> Result<(), AllocError> {
+        let Some(response) = self.came("Delay_Resp", leg.arrived.number) else {
+            return Ok(());
+        };
+        let arrived = leg.arrived.reading;
+        let excess = response.fields.time().saturating_sub(whole_of(arrived));
+        push_moment(text, &response, "t4", leg.arrived.event.node(), excess)?;
+        push_clocks(
+            text,
+            &response,
+            signed(leg.residence).saturating_sub(fraction_of(arrived)),
+        )
+    }
+}
+
+/// Appends that a message tells a moment by so much later or earlier than the clock of this node read, where it does.
+fn push_moment(
+    text: &mut String,
+    came: &Came,
+    moment: &'static str,
+    node: Name,
+    excess: i128,
+) -> Result<(), AllocError> {
+    let side = if excess < 0 { "earlier" } else { "later" };
+    if excess == 0 {
+        return Ok(());
+    }
+    write!(
+        text,
+        "    {came} tells {moment} {} {side} than {}'s clock read\n",
+        Length(excess.saturating_abs()),
+        node.text()
+    )
+}
+
+/// Appends that a message tells of so much more or less in clocks than these read, where it does.
+fn push_clocks(text: &mut String, came: &Came, wanted: i128) -> Result<(), AllocError> {
+    let excess = came.fields.correction().saturating_sub(wanted);
+    let side = if excess < 0 { "less" } else { "more" };
+    if excess == 0 {
+        return Ok(());
+    }
+    write!(
+        text,
+        "    {came} tells of {} {side} in clocks than these read\n",
+        Length(excess.saturating_abs())
+    )
+}
