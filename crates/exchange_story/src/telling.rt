@@ -5,7 +5,7 @@ use crate::moments::{Length, signed, signed_units};
 use crate::octets::{fields_at, said_at};
 use crate::record::{Place, Record};
 use crate::wrong_field::{Fields, Kind};
-use exchange_check::{Exchange, Leg, Results};
+use exchange_check::{Exchange, Leg, Results, Why};
 use network_model::{Name, Report};
 use ptp_units::ScaledTime;
 use std::alloc::AllocError;
@@ -83,17 +83,31 @@ fn whole_of(time: ScaledTime) -> i128 {
 }
 
 impl Case<'_> {
-    /// Appends which of the messages that came to the slave tell otherwise than the clocks read, and by how much.
+    /// Appends which of the messages that came to the slave tell otherwise than the clocks read, and by how much: nothing of a half
+    /// that comes out right as a whole, and nothing where the messages aren't of one exchange.
     pub(crate) fn push_otherwise(
         &self,
         text: &mut String,
         exchange: &Exchange,
     ) -> Result<(), AllocError> {
+        if self.is_of_other_numbers() {
+            return Ok(());
+        }
         match exchange.follow {
             Some(number) => self.push_two_step(text, &exchange.sync, number)?,
             None => self.push_one_step(text, &exchange.sync)?,
         }
         self.push_response_told(text, &exchange.request)
+    }
+
+    /// Whether the messages are of two Syncs or of two Delay_Reqs.
+    fn is_of_other_numbers(&self) -> bool {
+        self.reported
+            .judgement
+            .reasons
+            .as_slice()
+            .iter()
+            .any(|why| *why == Why::OtherNumber)
     }
 
     /// The message of an event, as it came to the slave.
@@ -110,20 +124,28 @@ impl Case<'_> {
         self.came("Sync", leg.arrived.event.heard_copy()?)
     }
 
-    /// Appends what a Follow_Up and its Sync tell otherwise.
+    /// Appends what a Follow_Up and its Sync tell otherwise. Their corrections count together, since a two-step clock tells its
+    /// residence in the Follow_Up, and with the fraction of t1.
     fn push_two_step(&self, text: &mut String, leg: &Leg, number: u64) -> Result<(), AllocError> {
-        if let Some(follow) = self.came("Follow_Up", number) {
-            let told = follow
-                .fields
-                .time()
-                .saturating_add(follow.fields.correction());
-            let excess = told.saturating_sub(signed_units(leg.departed.reading));
-            push_moment(text, &follow, "t1", leg.departed.event.node(), excess)?;
+        let Some(follow) = self.came("Follow_Up", number) else {
+            return Ok(());
+        };
+        let Some(sync) = self.sync_that_came(leg) else {
+            return Ok(());
+        };
+        let departed = leg.departed.reading;
+        let later = follow.fields.time().saturating_sub(whole_of(departed));
+        let corrections = sync
+            .fields
+            .correction()
+            .saturating_add(follow.fields.correction());
+        let wanted = signed(leg.residence).saturating_add(fraction_of(departed));
+        let more = corrections.saturating_sub(wanted);
+        if later.saturating_add(more) == 0 {
+            return Ok(());
         }
-        if let Some(sync) = self.sync_that_came(leg) {
-            push_clocks(text, &sync, signed(leg.residence))?;
-        }
-        Ok(())
+        push_moment(text, &follow, "t1", leg.departed.event.node(), later)?;
+        push_together(text, &sync, &follow, more)
     }
 
     /// Appends what a one-step Sync tells otherwise: the fraction of t1 is in its correction.
@@ -132,13 +154,14 @@ impl Case<'_> {
             return Ok(());
         };
         let departed = leg.departed.reading;
-        let excess = sync.fields.time().saturating_sub(whole_of(departed));
-        push_moment(text, &sync, "t1", leg.departed.event.node(), excess)?;
-        push_clocks(
-            text,
-            &sync,
-            signed(leg.residence).saturating_add(fraction_of(departed)),
-        )
+        let later = sync.fields.time().saturating_sub(whole_of(departed));
+        let wanted = signed(leg.residence).saturating_add(fraction_of(departed));
+        let more = sync.fields.correction().saturating_sub(wanted);
+        if later.saturating_add(more) == 0 {
+            return Ok(());
+        }
+        push_moment(text, &sync, "t1", leg.departed.event.node(), later)?;
+        push_clocks(text, &sync, more)
     }
 
     /// Appends what a Delay_Resp tells otherwise: the fraction of t4 is taken from its correction.
@@ -147,13 +170,14 @@ impl Case<'_> {
             return Ok(());
         };
         let arrived = leg.arrived.reading;
-        let excess = response.fields.time().saturating_sub(whole_of(arrived));
-        push_moment(text, &response, "t4", leg.arrived.event.node(), excess)?;
-        push_clocks(
-            text,
-            &response,
-            signed(leg.residence).saturating_sub(fraction_of(arrived)),
-        )
+        let later = response.fields.time().saturating_sub(whole_of(arrived));
+        let wanted = signed(leg.residence).saturating_sub(fraction_of(arrived));
+        let more = response.fields.correction().saturating_sub(wanted);
+        if later == more {
+            return Ok(());
+        }
+        push_moment(text, &response, "t4", leg.arrived.event.node(), later)?;
+        push_clocks(text, &response, more)
     }
 }
 
@@ -163,30 +187,52 @@ fn push_moment(
     came: &Came,
     moment: &'static str,
     node: Name,
-    excess: i128,
+    later: i128,
 ) -> Result<(), AllocError> {
-    let side = if excess < 0 { "earlier" } else { "later" };
-    if excess == 0 {
+    let side = if later < 0 { "earlier" } else { "later" };
+    if later == 0 {
         return Ok(());
     }
     write!(
         text,
         "    {came} tells {moment} {} {side} than {}'s clock read\n",
-        Length(excess.saturating_abs()),
+        Length(later.saturating_abs()),
         node.text()
     )
 }
 
+/// Which of two lengths is meant: the greater or the lesser.
+fn side_of(more: i128) -> &'static str {
+    if more < 0 { "less" } else { "more" }
+}
+
 /// Appends that a message tells of so much more or less in clocks than these read, where it does.
-fn push_clocks(text: &mut String, came: &Came, wanted: i128) -> Result<(), AllocError> {
-    let excess = came.fields.correction().saturating_sub(wanted);
-    let side = if excess < 0 { "less" } else { "more" };
-    if excess == 0 {
+fn push_clocks(text: &mut String, came: &Came, more: i128) -> Result<(), AllocError> {
+    if more == 0 {
         return Ok(());
     }
     write!(
         text,
-        "    {came} tells of {} {side} in clocks than these read\n",
-        Length(excess.saturating_abs())
+        "    {came} tells of {} {} in clocks than these read\n",
+        Length(more.saturating_abs()),
+        side_of(more)
+    )
+}
+
+/// Appends that a Sync and its Follow_Up together tell of so much more or less in clocks than these read, where they do.
+fn push_together(
+    text: &mut String,
+    sync: &Came,
+    follow: &Came,
+    more: i128,
+) -> Result<(), AllocError> {
+    if more == 0 {
+        return Ok(());
+    }
+    write!(
+        text,
+        "    {sync} and {follow} together tell of {} {} in clocks than these read\n",
+        Length(more.saturating_abs()),
+        side_of(more)
     )
 }
