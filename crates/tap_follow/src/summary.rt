@@ -81,10 +81,11 @@ impl Summary {
         self.tell_lost(Kind::DelayReq, to, from, errors);
     }
 
-    /// Tells which event messages of a kind were met at one tap alone.
+    /// Tells how many event messages of a kind were met at one tap alone, and how many at both without another message of theirs.
     fn tell_lost<E: Write>(&self, kind: Kind, first: &str, second: &str, errors: &mut E) {
         tell_count(kind, self.lost(kind, true), first, second, errors);
         tell_count(kind, self.lost(kind, false), second, first, errors);
+        tell_unanswered(kind, self.unanswered(kind), errors);
     }
 
     /// How many open records of a kind have the event message at one tap alone: at the first, or at the second.
@@ -102,6 +103,21 @@ impl Summary {
         count
     }
 
+    /// How many open records of a kind have the event message at both taps.
+    fn unanswered(&self, kind: Kind) -> u64 {
+        let mut count = 0_u64;
+        for (at_from, at_to) in [(false, false), (false, true), (true, false)] {
+            let filled = Filled {
+                first: true,
+                second: true,
+                at_from,
+                at_to,
+            };
+            count = count.wrapping_add(self.open_records(kind, filled).unwrap_or(0));
+        }
+        count
+    }
+
     /// Tells what is known where it isn't known which messages are followed.
     fn tell_taps<E: Write>(&self, errors: &mut E) {
         let Sides { first, second } = self.taps();
@@ -110,7 +126,7 @@ impl Summary {
                 let (first, second) = (first.text(), second.text());
                 writeln!(
                     errors,
-                    "ptpx: it isn't known whose messages go between {first} and {second}, and which way"
+                    "ptpx: nothing was followed between {first} and {second}: the domain, the master, the slave or the way isn't known"
                 )
             }
             (Some(tap), None) | (None, Some(tap)) => {
@@ -137,6 +153,25 @@ fn tell_count<E: Write>(kind: Kind, count: u64, here: &str, there: &str, errors:
         _ => writeln!(
             errors,
             "ptpx: {count} {more} were met at {here} and not at {there}"
+        ),
+    };
+}
+
+/// Tells how many event messages of a kind were met at both taps, where the message that belongs to them wasn't.
+fn tell_unanswered<E: Write>(kind: Kind, count: u64, errors: &mut E) {
+    let (one, more, other) = match kind {
+        Kind::Sync => ("Sync", "Syncs", "Follow_Up"),
+        Kind::DelayReq => ("Delay_Req", "Delay_Reqs", "Delay_Resp"),
+    };
+    let _ = match count {
+        0 => Ok(()),
+        1 => writeln!(
+            errors,
+            "ptpx: 1 {one} was met at both taps, and a {other} of it is missing"
+        ),
+        _ => writeln!(
+            errors,
+            "ptpx: {count} {more} were met at both taps, and a {other} of each is missing"
         ),
     };
 }
