@@ -59,7 +59,9 @@ them, whoever wrote these; the lines tell which. Standard output says, as text f
   of input of another kind        which it is, and the command that makes of it what is wanted
   of a schedule                   which event its network refuses, and why
   of each report of a transcript  each reason that stands against it, the journeys of its Sync and its
-                                  Delay_Req, and by how much its results differ from those of the readings
+                                  Delay_Req, and by how much its results differ from those of the readings;
+                                  where the messages told the slave something else, the results by these,
+                                  and which message does
   at the end                      how many reports there are, how many each reason stands against, and the
                                   verdict of 'ptpx check'
 What is said of a line goes out before the next is read. The line

@@ -107,31 +107,34 @@ line or packet is read. It is
 in one line, or with --csv, below the head time,kind,number,taken_ns,corrected_ns,rest_ns,
   1795645064.377389335,sync,0,75768,79403,-3635
 A crossing is a Sync that went from the tap --from to the tap --to, or a Delay_Req that went from --to to
---from, as kind says, and number is its sequenceId. All are in nanoseconds, and exact. taken is the time at
-its second tap less that at its first; corrected is by how much its correction grew, and that of its
-Follow_Up or Delay_Resp from --from to --to; a Follow_Up at --to alone counts whole. rest is taken less
-corrected: cables, what a clock in between told wrong, and the difference and the errors of the stamps. time
-is that at its first tap, with nine decimals. lines are the lines or packets of the event message at its
-first and its second tap, and of its Follow_Up or Delay_Resp at --from and at --to, null where there is none.
+--from, as kind says, and number is its sequenceId. taken, corrected and rest are nanoseconds, exactly those
+of the times and corrections that stand there: taken is the time at its second tap less that at its first;
+corrected is by how much its correction grew, and that of its Follow_Up or Delay_Resp from --from to --to; a
+Follow_Up at --to alone counts whole. rest is taken less corrected: cables, what a clock in between told
+wrong, by how much the taps' own clocks differ, and the errors of their stamps. time is that at its first tap,
+with nine decimals. lines are the lines or packets of the event message at its first and its second tap, and
+of its Follow_Up or Delay_Resp at --from and at --to, null where there is none.
 Lines count from 1, and so do packets, those without PTP, too.
 
 Unless they are asked for, the two taps are those that have PTP; of one alone that is asked for, the other
 one is the other of two. --from is then that at which the first Sync of the master that was met at both was
 met earlier, of each tap the last 256 Syncs looked at; the domain is that of the first Sync, of the master
 that is asked for if one is; the master sent the first Sync of the domain, and the slave the first Delay_Req
-of the domain at --to. Up to 1024 messages are kept until all is known; after so many, and at the end, Syncs
-are followed without a slave. Where the rest is known later still, messages are followed from then on.
+of the domain at --to. Up to 1024 messages are kept until all is known; after so many, and at an end without
+a fault, Syncs are followed without a slave. Where the rest is known later still, messages are followed from
+then on.
 
-The order of lines and packets says nothing: of Syncs and of Delay_Reqs the last 256 are kept until all of
-their messages were met, at both taps. One that was met twice at a tap is told of no more. None is told of
-that has a correction which is too big, or another timestamp at one tap than at the other, or a Sync that is
-two-step at --from alone.
+Lines and packets may come in another order, as long as no 256 other Syncs, or Delay_Reqs, come between the
+messages of one: the last 256 of each are kept until all of their messages were met, at both taps. One that
+was met twice at a tap is told of no more. None is told of that has a correction which is too big, or another
+timestamp at one tap than at the other, or a Sync that is two-step at --from alone.
 
 A PORT is a portIdentity: 16 hexadecimal digits, '/' and the number, as 'ptpx show' writes it, or as pmc
 of linuxptp does, 00aabb.fffe.ccddee-1. Number and domain may have zeros in front.
 
 At the end standard error tells of a capture how many packets there are, then the two taps, the domain, the
-master and the slave, and how many Syncs and Delay_Reqs were met at one tap and not at the other.
+master and the slave, and how many Syncs and Delay_Reqs were met at one tap and not at the other, those among
+them that came again when all was told, or behind 256 others, and how many lack a Follow_Up or a Delay_Resp.
 
 Faults, each of which ends the run with 'ptpx: fault 806 at line 3' on standard error, or of a capture with
 'ptpx: fault 1006 at octet 6300, after 41 packets: the capture ends within a packet or a block'. Lines count

@@ -98,12 +98,15 @@ before the next line or packet is read. It is
   "tags":[12,13,9,11],"time":"1795328934.357259633"}
 in one line, or with --csv, below the head time,offset_ns,path_ns,by,line,
   1795328934.357259633,-12.5,1000,sync,17
-With --full each has besides the four times, the corrections and the numbers that it was made of.
 offset is offsetFromMaster and path meanPathDelay, in nanoseconds; offset2 and path2 are twice these, in
-units of 2^-16 ns. All four are exact. by says which half completed the report, sync or response, line which
-line or packet did, and time is the time of that one, of a packet with nine decimals. tags are the lines or
-packets of Sync, Follow_Up, Delay_Req and Delay_Resp; that of Follow_Up is null where the Sync is a one-step
-one. Lines count from 1, and so do packets, those without PTP, too.
+units of 2^-16 ns. These four are exact for the times in the input. by says which half completed the report,
+sync or response, line which line or packet did, and time is the time of that one, of a packet with nine
+decimals. tags are the lines or packets of Sync, Follow_Up, Delay_Req and Delay_Resp; that of Follow_Up is
+null where the Sync is a one-step one. Lines count from 1, and so do packets, those without PTP, too.
+
+With --full each has also t1 to t4 in seconds (t1 and t4 as the master says, t2 and t3 as the input does),
+sync_correction (of Sync and Follow_Up), delay_correction and t2_to_t3, the time between t2 and t3, whichever
+is later, in nanoseconds, and the sequenceIds sync_number and request_number.
 
 A PORT is a portIdentity: 16 hexadecimal digits, '/' and the number, as 'ptpx show' writes it, or as pmc
 of linuxptp does, 00aabb.fffe.ccddee-1. Number and domain may have zeros in front.
