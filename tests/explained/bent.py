@@ -1,9 +1,11 @@
 """What `ptpx explain` says of messages that were bent, each in a way of its own.
 
-A transcript has one exchange for each way: in it the octets of one message say something else, and nothing else is changed, neither
-readings nor results. What is owed is computed here, of these octets and of those that stood there, by the layout of IEEE 1588-2019
-(13.3, 13.6 to 13.8) and the formulas of 11.2 and 11.3."""
+A transcript has one exchange for each way: in it the octets of one message or of more say something else, and readings aren't changed. The
+report has the results by the readings, those by the messages, or others. What is owed is computed here, of these octets and of those that
+stood there, by the layout of IEEE 1588-2019 (13.3, 13.6 to 13.8) and the formulas of 11.2 and 11.3: all that stands above the moments of a
+report and below them, up to the next report, word for word."""
 import dataclasses
+import itertools
 import json
 import os
 import re
@@ -18,16 +20,19 @@ WORKED = [json.loads(line) for line in (TOP / 'examples/exchange.transcript.json
 NODES, BEGIN, EXCHANGE = WORKED[:3], WORKED[3:5], WORKED[5:]
 UNIT = Fraction(1, 65536)
 
-# The messages of an exchange: the place of the event that made each, and what it is.
+# The messages of an exchange: the place of the event that made each; and their order where it is told what differs.
 SYNC, SYNC_LEFT, FOLLOW_UP, DELAY_REQ, DELAY_REQ_LEFT, DELAY_RESP = 0, 2, 4, 6, 8, 9
-MADE = {SYNC: 'a sync at M', SYNC_LEFT: 'a leave at T', FOLLOW_UP: 'a follow at M', DELAY_REQ: 'a request at S',
-        DELAY_REQ_LEFT: 'a leave at T', DELAY_RESP: 'an arrive at M'}
+TOLD = SYNC, SYNC_LEFT, DELAY_REQ, DELAY_REQ_LEFT, FOLLOW_UP, DELAY_RESP
 TYPES = {0: 'Sync', 1: 'Delay_Req', 8: 'Follow_Up', 9: 'Delay_Resp'}
 TIMES = {0: 'originTimestamp', 1: 'originTimestamp', 8: 'preciseOriginTimestamp', 9: 'receiveTimestamp'}
 
 # The fields in which nobody here reads anything: where each begins, and how it is called.
-UNREAD = [(0, 'majorSdoId and messageType'), (1, 'minorVersionPTP and versionPTP'), (5, 'minorSdoId'), (6, 'flagField'),
+UNREAD = [(0, 'majorSdoId and messageType'), (1, 'minorVersionPTP and versionPTP'), (2, 'messageLength'), (5, 'minorSdoId'), (6, 'flagField'),
           (16, 'messageTypeSpecific'), (32, 'controlField'), (33, 'logMessageInterval'), (34, 'the timestamp'), (44, 'the suffix')]
+
+# Why a message can't be read.
+OLD_VERSION, NO_TIME = "202: versionPTP isn't 2", '206: the nanoseconds of the timestamp are 10^9 or more'
+REASON = {706: "the two results aren't those of the readings", 708: "the octets of a message aren't those that a port or a clock writes"}
 
 
 @dataclasses.dataclass(frozen=True)
@@ -37,6 +42,29 @@ class Way:
     place: int
     octets: str
     read: bool = True
+
+
+@dataclasses.dataclass(frozen=True)
+class Case:
+    """The ways in which messages of an exchange are bent, and what the report has, of its results by the readings and by the messages."""
+    ways: tuple
+    reported: object
+
+
+def case(*ways, reported=lambda readings, messages: readings):
+    return Case(ways, reported)
+
+
+def as_told(readings, messages):
+    return messages
+
+
+def half_as_told(readings, messages):
+    return messages[0], readings[1]
+
+
+def otherwise_yet(readings, messages):
+    return messages[0] + 1, readings[1] - 2
 
 
 def unread(message, place, octets):
@@ -67,6 +95,12 @@ WAYS = [
     Way(DELAY_RESP, 34, '0000000f4240'),              # a million seconds
     Way(DELAY_RESP, 44, '00aabbfffeccddff'),          # to another slave
     Way(DELAY_RESP, 52, '0002'),
+    Way(SYNC_LEFT, 0, '08'),                          # a Follow_Up
+    Way(FOLLOW_UP, 0, '00'),                          # a Sync
+    Way(DELAY_RESP, 0, '08'),                         # a Follow_Up
+    Way(SYNC_LEFT, 1, '11'),                          # of PTP version 1
+    Way(FOLLOW_UP, 40, '3b9aca00'),                   # 10^9 ns
+    Way(DELAY_RESP, 40, 'ffffffff'),
     unread(SYNC, 0, '10'),
     unread(SYNC, 1, '22'),
     unread(SYNC_LEFT, 5, '01'),
@@ -85,6 +119,51 @@ WAYS = [
     unread(DELAY_RESP, 33, '01'),
 ]
 
+# The same, with other results in the report.
+LATE, LONG, EARLY = Way(FOLLOW_UP, 40, '0000c350'), Way(SYNC_LEFT, 8, '000000000fa00000'), Way(DELAY_RESP, 40, '00001193')
+REPORTED = [
+    case(LATE, reported=as_told),
+    case(LONG, reported=as_told),
+    case(EARLY, reported=as_told),
+    case(LATE, LONG, EARLY),
+    case(LATE, LONG, EARLY, reported=as_told),
+    case(LATE, reported=half_as_told),
+    case(LATE, reported=otherwise_yet),
+    case(unread(SYNC, 32, '05'), reported=otherwise_yet),
+    case(Way(SYNC_LEFT, 0, '08'), reported=lambda readings, messages: (readings[0] + 1, readings[1])),
+    # t4 is rounded down, and the correctionField has what is missing
+    case(EARLY, Way(DELAY_RESP, 8, '000000000dab0000'), LATE),
+    case(EARLY, Way(DELAY_RESP, 8, '000000000dab0000')),
+]
+
+# Of an exchange whose t1 has a quarter of a nanosecond, which the Follow_Up tells: a clock that tells the residence there.
+IN_FOLLOW_UP = Way(SYNC_LEFT, 8, '0000000000000000'), Way(FOLLOW_UP, 8, '0000000007d04000')
+TWO_STEP_CLOCK = [
+    case(*IN_FOLLOW_UP),
+    case(*IN_FOLLOW_UP, EARLY),
+    case(*IN_FOLLOW_UP, EARLY, reported=as_told),
+    case(*IN_FOLLOW_UP, LATE),
+    case(*IN_FOLLOW_UP, Way(FOLLOW_UP, 40, '00000001'), Way(DELAY_RESP, 8, '000000000dad0000')),
+    case(Way(SYNC_LEFT, 8, '0000000000000000'), Way(FOLLOW_UP, 8, '0000000007d14000')),
+    case(Way(SYNC_LEFT, 8, '0000000000000000')),
+    case(Way(FOLLOW_UP, 8, '0000000000000000')),       # the fraction of t1 is left out
+    case(Way(FOLLOW_UP, 8, 'ffffffffffff4000'), Way(FOLLOW_UP, 40, '00000001'), EARLY),
+]
+
+# Of an exchange with a one-step Sync, whose t1 has a quarter of a nanosecond.
+ONE_STEP = [
+    case(Way(SYNC_LEFT, 40, '0000c350')),
+    case(Way(SYNC, 40, '0000c350'), Way(SYNC_LEFT, 40, '0000c350'), reported=as_told),
+    case(Way(SYNC, 40, '0000c350')),
+    case(Way(SYNC_LEFT, 8, '000000000fa04000')),
+    case(Way(SYNC_LEFT, 8, '0000000007d00000'), reported=as_told),
+    case(Way(SYNC_LEFT, 8, '0000000007cf4000'), Way(SYNC_LEFT, 40, '00000001'), EARLY),
+    case(Way(SYNC_LEFT, 8, '0000000007cf4000'), Way(SYNC_LEFT, 40, '00000003'), EARLY),
+    case(Way(SYNC_LEFT, 6, '02')),                     # a Follow_Up is to come
+    case(Way(SYNC_LEFT, 0, '08')),
+    case(EARLY, reported=otherwise_yet),
+]
+
 
 def number(octets, place, count, signed=False):
     return int.from_bytes(octets[place:place + count], 'big', signed=signed)
@@ -94,17 +173,27 @@ def put(octets, place, new):
     return octets[:place] + new + octets[place + len(new):]
 
 
-def later(octets, by):
-    """A message with a number that is by so much more, and with a timestamp that is by so many times 10 s later, where it has one."""
-    octets = put(octets, 30, (number(octets, 30, 2) + by).to_bytes(2, 'big'))
-    if octets[0] % 16 in (8, 9):
-        octets = put(octets, 34, (number(octets, 34, 6) + 10 * by).to_bytes(6, 'big'))
+def changed(octets, ways):
+    for way in ways:
+        octets = put(octets, way.place, bytes.fromhex(way.octets))
     return octets
 
 
-def repeated(event, by):
-    """An event of the exchange of this number."""
-    shift = len(EXCHANGE) * by
+def has_time(octets):
+    """Whether somebody reads the timestamp of a message: of a Follow_Up, a Delay_Resp or a one-step Sync."""
+    return octets[0] % 16 in (8, 9) or octets[0] % 16 == 0 and not octets[6] & 2
+
+
+def later(octets, by):
+    """A message with a number that is by so much more, and with a timestamp that is by so many times 10 s later, where it has one."""
+    if has_time(octets):
+        octets = put(octets, 34, (number(octets, 34, 6) + 10 * by).to_bytes(6, 'big'))
+    return put(octets, 30, (number(octets, 30, 2) + by).to_bytes(2, 'big'))
+
+
+def repeated(event, by, count):
+    """An event of the exchange of this number, of exchanges with so many events."""
+    shift = count * by
     event = dict(event, n=event['n'] + shift)
     for key in 'copy', 'transit':
         if key in event:
@@ -115,22 +204,54 @@ def repeated(event, by):
     if 'hex' in event:
         event['hex'] = later(bytes.fromhex(event['hex']), by).hex()
     if 'tags' in event:
-        event['tags'] = [tag + shift for tag in event['tags']]
+        event['tags'] = [None if tag is None else tag + shift for tag in event['tags']]
     return event
 
 
-def bent(event, way):
-    return dict(event, hex=put(bytes.fromhex(event['hex']), way.place, bytes.fromhex(way.octets)).hex())
+def with_octets(event, *ways, **members):
+    """An event whose message has other octets, and which has other members."""
+    return dict(event, hex=changed(bytes.fromhex(event['hex']), ways).hex(), **members)
+
+
+def with_fraction(exchange):
+    """The exchange with a quarter of a nanosecond in t1, which the Follow_Up tells."""
+    exchange = list(exchange)
+    exchange[SYNC] = dict(exchange[SYNC], at=[1, 0, 16384], reading=[1, 0, 16384])
+    exchange[FOLLOW_UP] = with_octets(exchange[FOLLOW_UP], Way(FOLLOW_UP, 8, '0000000000004000'))
+    return exchange
+
+
+def with_one_step(exchange):
+    """The same with a one-step Sync. In place of the Follow_Up and its arrival the clock of T is set by nothing, twice."""
+    exchange = with_fraction(exchange)
+    exchange[SYNC] = with_octets(exchange[SYNC], Way(SYNC, 6, '00'), Way(SYNC, 8, '0000000000004000'), Way(SYNC, 34, '000000000001'), ev='syncone')
+    exchange[SYNC_LEFT] = with_octets(exchange[SYNC_LEFT], Way(SYNC, 6, '00'), Way(SYNC, 8, '0000000007d04000'), Way(SYNC, 34, '000000000001'))
+    exchange[3] = dict(exchange[3], out='completed')
+    for place in 4, 5:
+        exchange[place] = {'diff': '0', 'ev': 'stepclock', 'n': exchange[place]['n'], 'node': 'T', 'out': 'done'}
+    sync, _, request, response = exchange[-1]['tags']
+    exchange[-1] = dict(exchange[-1], tags=[sync, None, request, response])
+    return exchange
+
+
+def renamed(lines, old, new):
+    """Lines with another name of a node."""
+    return json.loads(json.dumps(lines).replace(f'"{old}"', f'"{new}"'))
 
 
 class Exchange:
-    """The events of the exchange in which a message is bent in this way, beside those that a port or a clock makes."""
+    """The events of the exchange of this number, with messages that are bent, beside those that a port or a clock makes."""
 
-    def __init__(self, by, way):
-        self.way = way
-        self.right = [repeated(event, by) for event in EXCHANGE]
+    def __init__(self, events, by, case):
+        self.case = case
+        self.right = [repeated(event, by, len(events)) for event in events]
         self.events = list(self.right)
-        self.events[way.message] = bent(self.events[way.message], way)
+        for way in case.ways:
+            self.events[way.message] = with_octets(self.events[way.message], way)
+        self.is_one_step = self.events[SYNC]['ev'] == 'syncone'
+        self.readings, self.messages = readings(self), results(self)
+        self.reported = case.reported(self.readings, self.messages)
+        self.events[-1] = dict(self.events[-1], offset2=str(self.reported[0]), path2=str(self.reported[1]))
 
     def octets(self, place, right=False):
         return bytes.fromhex((self.right if right else self.events)[place]['hex'])
@@ -139,9 +260,17 @@ class Exchange:
         event = self.events[place]['n']
         return f'event {event}, line {len(NODES) + event + 1}'
 
+    def made(self, place):
+        """What made the message, in words."""
+        event = self.events[place]['ev']
+        return f'{"an" if event == "arrive" else "a"} {event} at {self.events[place]["node"]}'
+
     def reading(self, place):
         seconds, nanoseconds, fraction = self.events[place]['reading']
         return Fraction(10 ** 9 * seconds + nanoseconds) + fraction * UNIT
+
+    def in_clock(self, entered, left):
+        return self.reading(left) - self.reading(entered)
 
 
 def decimals(value):
@@ -202,68 +331,174 @@ def otherwise(found, wanted):
     return sentences
 
 
+def unreadable(octets):
+    """Why a message can't be read, by its number and in words; none where it can."""
+    if octets[1] % 16 != 2:
+        return OLD_VERSION
+    return NO_TIME if number(octets, 40, 4) >= 10 ** 9 else None
+
+
+def with_read(found, wanted):
+    """The message that is wanted, with what the other one says in fields that are read. It is as long as its type has it."""
+    octets = bytearray(wanted)
+    octets[0] = wanted[0] & 0xf0 | found[0] & 0x0f
+    octets[4], octets[8:16], octets[20:32] = found[4], found[8:16], found[20:32]
+    if wanted[0] % 16 == 0:
+        octets[6] = wanted[6] & ~2 | found[6] & 2
+    if has_time(octets) or octets[0] % 16 != wanted[0] % 16:
+        octets[34:44] = found[34:44]
+    if octets[0] % 16 == 9:
+        octets[44:54] = found[44:54]
+    else:
+        octets[2:4], octets[44:] = b'\0\x2c', b''
+    return bytes(octets)
+
+
 def rest(found, wanted):
     """What is said of a message that differs in a field that nobody reads."""
-    places = [place for place in range(len(wanted)) if found[place] != wanted[place]]
+    places = [place for place, pair in enumerate(zip(found, wanted)) if pair[0] != pair[1]]
     first = places[0]
     name = [name for begin, name in UNREAD if begin <= first][-1]
     if name == 'the timestamp':
         name = TIMES[wanted[0] % 16]
     more = f', and {len(places) - 1} more differ' if places[1:] else ''
-    return f'octet {first} from 0, in {name}, is {found[first]:02x}; wanted is {wanted[first]:02x}{more}'
+    size = f'; it has {len(found)} octets; wanted are {len(wanted)}' if len(found) != len(wanted) else ''
+    return f'octet {first} from 0, in {name}, is {found[first]:02x}; wanted is {wanted[first]:02x}{more}{size}'
+
+
+def sentences(found, wanted):
+    """What is said of a message that has other octets than are wanted, and whether a field that is read is among what is named."""
+    why = unreadable(found)
+    if why:
+        return [f'nobody can read it, {why}', rest(found, wanted)], True
+    said, others = otherwise(found, wanted), with_read(found, wanted)
+    if found == others:
+        return said, bool(said)
+    return [*said, ("of what isn't read, " if said else '') + rest(found, others)], bool(said)
+
+
+def units(nanoseconds):
+    """In units of 2^-16 ns."""
+    value = nanoseconds / UNIT
+    assert value.denominator == 1
+    return int(value)
+
+
+def readings(exchange):
+    """Twice offsetFromMaster and twice meanPathDelay in units of 2^-16 ns, by the readings and the stays in the clock."""
+    a = exchange.reading(3) - exchange.reading(SYNC) - exchange.in_clock(1, SYNC_LEFT)
+    b = exchange.reading(DELAY_RESP) - exchange.reading(DELAY_REQ) - exchange.in_clock(7, DELAY_REQ_LEFT)
+    return units(a - b), units(a + b)
 
 
 def results(exchange):
-    """Twice offsetFromMaster and twice meanPathDelay in units of 2^-16 ns, by the octets that came to the slave and by its readings of
-    t2 and t3; none where one of the octets isn't of the type that is heard."""
-    sync, follow, response = (exchange.octets(place) for place in (SYNC_LEFT, FOLLOW_UP, DELAY_RESP))
-    t1 = stamp(follow) + correction(follow)
+    """The same by the octets that came to the slave and by its readings of t2 and t3; none where one of these messages isn't of the
+    type that is heard, or can't be read."""
+    types = {SYNC_LEFT: 0, DELAY_RESP: 9} if exchange.is_one_step else {SYNC_LEFT: 0, FOLLOW_UP: 8, DELAY_RESP: 9}
+    if any(exchange.octets(place)[0] % 16 != kind or unreadable(exchange.octets(place)) for place, kind in types.items()):
+        return None
+    sync, response = exchange.octets(SYNC_LEFT), exchange.octets(DELAY_RESP)
+    if exchange.is_one_step:
+        t1 = stamp(sync)
+    else:
+        follow = exchange.octets(FOLLOW_UP)
+        t1 = stamp(follow) + correction(follow)
     a = exchange.reading(3) - t1 - correction(sync)
     b = stamp(response) - correction(response) - exchange.reading(DELAY_REQ)
-    return int((a - b) / UNIT), int((a + b) / UNIT)
+    return units(a - b), units(a + b)
 
 
 def which(exchange):
-    """Which message tells otherwise than the clocks read."""
-    in_clock = exchange.reading(SYNC_LEFT) - exchange.reading(1), exchange.reading(DELAY_REQ_LEFT) - exchange.reading(7)
-    sync, follow, response = (exchange.octets(place) for place in (SYNC_LEFT, FOLLOW_UP, DELAY_RESP))
-    arrived = exchange.reading(DELAY_RESP)
-    for name, place, octets, what, excess in [
-        ('Follow_Up', FOLLOW_UP, follow, 't1', stamp(follow) + correction(follow) - exchange.reading(SYNC)),
-        ('Sync', SYNC_LEFT, sync, None, correction(sync) - in_clock[0]),
-        ('Delay_Resp', DELAY_RESP, response, 't4', stamp(response) - arrived // 1),
-        ('Delay_Resp', DELAY_RESP, response, None, correction(response) - (in_clock[1] - arrived % 1)),
-    ]:
-        if excess == 0:
+    """Which message tells otherwise than the clocks read: nothing of a half that comes out right as a whole."""
+
+    def came(name, place):
+        return f'    {name} {number(exchange.octets(place), 30, 2)} ({exchange.place(place)})'
+
+    def moment(who, what, later, place):
+        if later:
+            side = 'later' if later > 0 else 'earlier'
+            yield f"{who} tells {what} {decimals(abs(later))} ns {side} than {exchange.events[place]['node']}'s clock read\n"
+
+    def clocks(who, verb, more):
+        if more:
+            yield f"{who} {verb} of {decimals(abs(more))} ns {'more' if more > 0 else 'less'} in clocks than these read\n"
+
+    t1, t4 = exchange.reading(SYNC), exchange.reading(DELAY_RESP)
+    sync, sync_came = exchange.octets(SYNC_LEFT), came('Sync', SYNC_LEFT)
+    later, more = stamp(sync) - t1 // 1, correction(sync) - exchange.in_clock(1, SYNC_LEFT) - t1 % 1
+    teller, both, verb = sync_came, sync_came, 'tells'
+    if not exchange.is_one_step:
+        follow = exchange.octets(FOLLOW_UP)
+        teller = came('Follow_Up', FOLLOW_UP)
+        both, verb = f'{sync_came} and {teller.strip()}', 'together tell'
+        later, more = stamp(follow) - t1 // 1, more + correction(follow)
+    if later + more:
+        yield from moment(teller, 't1', later, SYNC)
+        yield from clocks(both, verb, more)
+    response, response_came = exchange.octets(DELAY_RESP), came('Delay_Resp', DELAY_RESP)
+    later, more = stamp(response) - t4 // 1, correction(response) - exchange.in_clock(7, DELAY_REQ_LEFT) + t4 % 1
+    if later - more:
+        yield from moment(response_came, 't4', later, DELAY_RESP)
+        yield from clocks(response_came, 'tells', more)
+
+
+def above(exchange):
+    """What is owed above the moments of a report: the reasons, and what is said of each message."""
+    lines, numbers = [], [708] if exchange.readings == exchange.reported else [706, 708]
+    for place in TOLD:
+        if 'hex' not in exchange.events[place]:
             continue
-        begin = f'    {name} {number(octets, 30, 2)} ({exchange.place(place)}) tells '
-        size = decimals(abs(excess))
-        if what:
-            yield f"{begin}{what} {size} ns {'later' if excess > 0 else 'earlier'} than M's clock read\n"
-        else:
-            yield f"{begin}of {size} ns {'more' if excess > 0 else 'less'} in clocks than these read\n"
+        found, wanted = exchange.octets(place), exchange.octets(place, right=True)
+        if found == wanted:
+            continue
+        said, is_read = sentences(found, wanted)
+        assert said and is_read == any(way.read for way in exchange.case.ways if way.message == place), (said, exchange.case)
+        lines += [f'    {exchange.place(place)}, {exchange.made(place)}: {sentence}\n' for sentence in said]
+    reasons = '  and '.join(f'{number}: {REASON[number]}\n' for number in numbers)
+    return f'{exchange.place(-1)}, slave S: refused, {reasons}' + ''.join(lines)
 
 
-def owed(exchange):
-    """The sentences of an exchange, and what stands behind its results, as they are owed."""
-    way = exchange.way
-    found, wanted = exchange.octets(way.message), exchange.octets(way.message, right=True)
-    begin = f'    {exchange.place(way.message)}, {MADE[way.message]}: '
-    sentences = otherwise(found, wanted) if way.read else [rest(found, wanted)]
-    offset2, path2 = results(exchange)
-    report = exchange.events[-1]
-    reported = int(report['offset2']), int(report['path2'])
-    if (offset2, path2) == reported:
-        return [begin + sentence + '\n' for sentence in sentences], ''
-    row = f'  by the messages  offset2 {offset2}  path2 {path2}\n'
-    return [begin + sentence + '\n' for sentence in sentences], row + ''.join(which(exchange))
+def result_row(name, reported, wanted):
+    more = reported - wanted
+    noun = 'unit' if abs(more) == 1 else 'units'
+    excess = f'  {abs(more)} {noun} of 2^-16 ns too {"much" if more > 0 else "little"}' if more else ''
+    return f'  {name:7}  reported {reported}  by the readings {wanted}{excess}\n'
 
 
-EXCHANGES = [Exchange(by, way) for by, way in enumerate(WAYS)]
+def below(exchange):
+    """What is owed below the moments of a report: the results, those by the messages where they are others, and which message tells otherwise."""
+    rows = ''.join(map(result_row, ('offset2', 'path2'), exchange.reported, exchange.readings))
+    if exchange.messages in (None, exchange.readings):
+        return rows
+    offset2, path2 = exchange.messages
+    same = '  as reported' if exchange.messages == exchange.reported else ''
+    return f'{rows}  by the messages  offset2 {offset2}  path2 {path2}{same}\n' + ''.join(which(exchange))
 
 
-def transcript(exchanges):
-    events = [*NODES, *BEGIN, *(event for exchange in exchanges for event in exchange.events)]
+# Messages that a report takes for others: the events behind the first 13, and what stands below the moments, of which the results by the
+# messages are worked by hand. It isn't told which message tells otherwise, since each told right.
+PAIRED = [
+    # Sync 1, and the Follow_Up of Sync 0: a = 3.000002 s - 1 s, b = 0
+    ([{'copy': 11, 'ev': 'hear', 'node': 'S', 'out': 'completed'},
+      {'at': [3, 0, 0], 'ev': 'sync', 'hex': '0012002c00000200000000000000000000000000001122fffe33445500010001000000000000000000000000', 'node': 'M',
+       'out': 'made', 'reading': [3, 0, 0]},
+      {'at': [3, 1000, 0], 'copy': 14, 'ev': 'arrive', 'node': 'S', 'out': 'held', 'reading': [3, 2000, 0]},
+      {'copy': 6, 'ev': 'hear', 'node': 'S', 'offset2': '131072000', 'out': 'report', 'path2': '131072000', 'tags': [15, 16, 8, 13]}],
+     (131072000, 131072000), (2000002000 * 65536, 2000002000 * 65536)),
+    # Delay_Req 1, and the Delay_Resp to Delay_Req 0: a = 2000 ns, b = 2.000001 s - 3.000001 s
+    ([{'at': [3, 0, 0], 'ev': 'request', 'hex': '0112002c0000000000000000000000000000000000aabbfffeccddee00010001017f00000000000000000000', 'node': 'S',
+       'out': 'made', 'reading': [3, 1000, 0]},
+      {'ev': 'stamped', 'node': 'S', 'out': 'done'},
+      {'copy': 11, 'ev': 'hear', 'node': 'S', 'offset2': '131072000', 'out': 'report', 'path2': '131072000', 'tags': [5, 7, 13, 15]}],
+     (131072000, 131072000), (1000002000 * 65536, -999998000 * 65536)),
+]
+
+
+def exchanges(events, cases):
+    return [Exchange(events, by, case) for by, case in enumerate(cases)]
+
+
+def transcript(events):
     return ''.join(json.dumps(event, sort_keys=True, separators=(',', ':')) + '\n' for event in events)
 
 
@@ -271,23 +506,49 @@ def explain(text):
     return subprocess.run([PROGRAM, 'explain'], input=text.encode(), capture_output=True, timeout=600)
 
 
+def behind_moments(text):
+    """What stands behind the moments of a report, up to the next report or to how many there are."""
+    lines = text[text.index('  offset2  reported '):].splitlines(True)
+    return ''.join(itertools.takewhile(lambda line: line.startswith('  '), lines))
+
+
 class Bent(unittest.TestCase):
     maxDiff = None
+
+    def compare(self, begin, bent):
+        """The whole text of each report but for its moments."""
+        ended = explain(transcript([*begin, *(event for exchange in bent for event in exchange.events)]))
+        self.assertEqual(ended.returncode, 1)
+        told = re.split(r'(?m)^(?=event )', ended.stdout.decode())[1:]
+        self.assertEqual(len(told), len(bent))
+        for exchange, text in zip(bent, told):
+            with self.subTest(case=exchange.case):
+                self.assertEqual(text[:text.index('  t1  ')], above(exchange))
+                self.assertEqual(behind_moments(text), below(exchange))
 
     def test_names_each_field_and_by_how_much(self):
         self.assertGreaterEqual(len(WAYS), 30)
         self.assertGreaterEqual(sum(way.read for way in WAYS), 10)
-        ended = explain(transcript(EXCHANGES))
-        self.assertEqual(ended.returncode, 1)
-        told = re.split(r'(?m)^(?=event )', ended.stdout.decode())[1:]
-        self.assertEqual(len(told), len(EXCHANGES))
-        for exchange, text in zip(EXCHANGES, told):
-            with self.subTest(way=exchange.way):
-                sentences, behind = owed(exchange)
-                for sentence in sentences:
-                    self.assertIn(sentence, text)
-                rows = text[text.index('  offset2  reported'):]
-                self.assertEqual(''.join(rows.splitlines(True)[2:2 + behind.count('\n')]), behind)
+        bent = exchanges(EXCHANGE, [*map(case, WAYS), *REPORTED])
+        self.assertEqual({exchange.readings for exchange in bent}, {(int(EXCHANGE[-1]['offset2']), int(EXCHANGE[-1]['path2']))})
+        self.compare([*NODES, *BEGIN], bent)
+
+    def test_counts_corrections_of_a_sync_and_its_follow_up_together(self):
+        self.compare([*NODES, *BEGIN], exchanges(with_fraction(EXCHANGE), TWO_STEP_CLOCK))
+
+    def test_names_a_one_step_sync(self):
+        begin, events = renamed([[*NODES, *BEGIN], with_one_step(EXCHANGE)], 'M', 'GM-1')
+        self.compare(begin, exchanges(events, ONE_STEP))
+
+    def test_names_no_message_where_messages_are_of_two_exchanges(self):
+        for events, reported, messages in PAIRED:
+            with self.subTest(events=events):
+                lines = [*WORKED[:len(NODES) + 13], *(dict(event, n=13 + place) for place, event in enumerate(events))]
+                text = explain(transcript(lines)).stdout.decode()
+                self.assertIn(': refused, 702: ', text)
+                rows = ''.join(map(result_row, ('offset2', 'path2'), reported, reported))
+                row = f'  by the messages  offset2 {messages[0]}  path2 {messages[1]}\n'
+                self.assertEqual(behind_moments(text), rows + row)
 
 
 if __name__ == '__main__':
