@@ -540,6 +540,18 @@ class Bent(unittest.TestCase):
         begin, events = renamed([[*NODES, *BEGIN], with_one_step(EXCHANGE)], 'M', 'GM-1')
         self.compare(begin, exchanges(events, ONE_STEP))
 
+    def test_names_the_master_that_answered(self):
+        another = dict(NODES[0], id='001122fffe334466', node='N')
+        events = [*BEGIN, *EXCHANGE]
+        answer = len(BEGIN) + DELAY_RESP
+        events[answer] = with_octets(events[answer], Way(DELAY_RESP, 20, another['id']), EARLY, node='N')
+        text = explain(transcript([*NODES, another, *events])).stdout.decode()
+        self.assertIn(': refused, 703: ', text)
+        # b is 1 ns less
+        rows = ''.join(map(result_row, ('offset2', 'path2'), (131072000, 131072000), (131072000, 131072000)))
+        self.assertEqual(behind_moments(text), rows + f'  by the messages  offset2 {2001 * 65536}  path2 {1999 * 65536}\n'
+                         "    Delay_Resp 0 (event 11, line 16) tells t4 1 ns earlier than N's clock read\n")
+
     def test_names_no_message_where_messages_are_of_two_exchanges(self):
         for events, reported, messages in PAIRED:
             with self.subTest(events=events):
