@@ -86,9 +86,11 @@ class Message(typing.NamedTuple):
 
 
 class Followed(typing.NamedTuple):
-    """What is owed: the status, the lines, the fault (its number and its line, or its octet) and the tap that is a third one."""
+    """What is owed: the status, the lines, what standard error says at its end, line by line, the fault (its number and its line, or its octet) and
+    the tap that is a third one."""
     status: int
     crossings: list
+    said: list
     fault: tuple | None = None
     third: bytes | None = None
 
@@ -216,6 +218,14 @@ class Records:
         record['state'] = 'closed'
         return [places[it] if it in needed else None for it in ('first', 'second', 'from', 'to')]
 
+    def lost(self, here, there):
+        """How many open records have an event message here and not there."""
+        return sum(it['state'] == 'open' and here in it['places'] and there not in it['places'] for it in self.opened)
+
+    def unfinished(self):
+        """How many open records have both event messages, and not both of the others."""
+        return sum(it['state'] == 'open' and {'first', 'second'} <= set(it['places']) and not {'from', 'to'} <= set(it['places']) for it in self.opened)
+
 
 def needs(kind):
     """Of a record's places, those that it needs, or None while that isn't known."""
@@ -282,6 +292,29 @@ class Follower:
             self.crossings.append(crossing | {'from': self.start.decode(), 'to': self.end.decode()})
 
 
+def counted(count, word, rest_of_one, rest_of_more):
+    """A line of so many messages of a kind, or none."""
+    return [f'1 {word} was {rest_of_one}' if count == 1 else f'{count} {word}s were {rest_of_more}'] if count else []
+
+
+def said(watch, follower):
+    """What standard error says at its end, without the name of the program in front."""
+    names = [it.decode() for it in watch.taps if it is not None]
+    if follower is None:
+        if len(names) == 2:
+            return [f"nothing was followed between {names[0]} and {names[1]}: the domain, the master, the slave or the way isn't known"]
+        return [f'nothing was met at another tap than {names[0]}' if names else 'nothing was met at a tap']
+    start, end = follower.start.decode(), follower.end.decode()
+    slave = f'slave {port_text(follower.slave)}' if follower.slave else f'no Delay_Req at {end} tells the slave'
+    lines = [f'from {start} to {end}', f'domain {watch.domain}', f'master {port_text(watch.master)}', slave]
+    for kind, word, other, first, second in (('sync', 'Sync', 'Follow_Up', start, end), ('delay_req', 'Delay_Req', 'Delay_Resp', end, start)):
+        records = follower.records[kind]
+        for count, here, there in ((records.lost('first', 'second'), first, second), (records.lost('second', 'first'), second, first)):
+            lines += counted(count, word, *[f'met at {here} and not at {there}'] * 2)
+        lines += counted(records.unfinished(), word, f'met at both taps, and a {other} of it is missing', f'met at both taps, and a {other} of each is missing')
+    return lines
+
+
 def follow(octets, wanted=Wanted()):
     """What `ptpx follow` owes for an input."""
     met, fault = (datagrams_of_capture if octets[:4] in MAGICS else datagrams_of_lines)(octets)
@@ -319,5 +352,5 @@ def follow(octets, wanted=Wanted()):
         follower = begin(True)
     crossings = follower.crossings if follower else []
     if third is not None:
-        return Followed(2, crossings, ('third', (809, third.line)), third.tap)
-    return Followed(3 if fault else 0, crossings, fault)
+        return Followed(2, crossings, said(watch, follower), ('third', (809, third.line)), third.tap)
+    return Followed(3 if fault else 0, crossings, said(watch, follower), fault)

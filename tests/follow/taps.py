@@ -4,11 +4,10 @@
   two-step transparent clock; bridge.pcapng.xz, of a bridge in the clock's place; longer_way.pcapng.xz, at four ports, where the way from clock to
   slave is 400 us longer. What these have was counted and computed apart from both, by the fields that tshark gives;
 - over these bent: a clock that tells 100 ns too much, packets in another order, lines, a message that is lost, repeated or changed, a tap more;
-- over lines that are broken, and made by a fixed seed."""
+- over lines that are worked by hand, that are broken, and made by a fixed seed."""
 import lzma
 import os
 import random
-import re
 import statistics
 import subprocess
 import sys
@@ -100,23 +99,96 @@ TWO_STEP = told(('left', 10**9 + 500, made(SYNC, MASTER, 0, two_step=True)), ('l
 REQUEST = told(('right', 2 * 10**9, made(DELAY_REQ, SLAVE, 7, two_step=False)), ('left', 2 * 10**9 + 1000, made(DELAY_REQ, SLAVE, 7)),
                ('left', 2 * 10**9 + 1500, made(DELAY_RESP, MASTER, 7, requesting=SLAVE)), ('right', 2 * 10**9 + 1800, made(DELAY_RESP, MASTER, 7, 900 * UNITS, requesting=SLAVE)))
 
-# Inputs whose crossings were worked by hand.
+def of_master(*rest):
+    """What standard error says at its end where messages are followed: these lines behind those of the taps and the master."""
+    return ['from left to right', 'domain 0', 'master 0200000000000001/1', *rest]
+
+
+NO_SLAVE = 'no Delay_Req at right tells the slave'
+OF_SLAVE = 'slave 0200000000000002/1'
+NOT_FOLLOWED = ["nothing was followed between left and right: the domain, the master, the slave or the way isn't known"]
+
+
+def syncs(*rows):
+    """Lines of one-step Syncs, by tap and number, 50 ns from left to right."""
+    return told(*[(tap, 1000 * number + (50 if tap == 'right' else 0), made(SYNC, MASTER, number)) for tap, number in rows])
+
+
+def in_turn(count):
+    """So many, each at one tap and then at the other."""
+    return syncs(*[(tap, number) for number in range(count) for tap in ('left', 'right')])
+
+
+def one_by_one(count):
+    """So many, at one tap and then all at the other."""
+    return syncs(*[(tap, number) for tap in ('left', 'right') for number in range(count)])
+
+
+def crossed(count, line_of):
+    """What is told of these, by the lines at left and at right."""
+    return [f'sync {number} 50 0 50 [{line_of(number)[0]}, {line_of(number)[1]}, None, None]' for number in range(count)]
+
+
+IN_TURN = crossed(520, lambda number: (2 * number + 1, 2 * number + 2))
+BY_REQUEST = ['delay_req 7 1000 900 100 [1041, 1042, 1043, 1044]']
+BAD = b'left 1.0\n'
+LAST_OF_TWO_STEP = TWO_STEP.splitlines(keepends=True)[-1]
+
+# Inputs of which the crossings, and what standard error says at its end, were worked by hand.
 WORKED = {
-    'a one-step Sync': (ONE_STEP, ['sync 0 3000 1999 1001 [1, 2, None, None]']),
-    'a two-step Sync': (TWO_STEP, ['sync 0 3000 8.25 2991.75 [1, 3, 2, 4]']),
-    'a Sync and a Delay_Req': (ONE_STEP + REQUEST, ['sync 0 3000 1999 1001 [1, 2, None, None]', 'delay_req 7 1000 900 100 [3, 4, 5, 6]']),
+    'nothing': (b'', [], ['nothing was met at a tap']),
+    'one tap': (b'left 1.0 \n', [], ['nothing was met at another tap than left']),
+    'two taps without a Sync': (b'left 1.0 \nright 1.0 \n', [], NOT_FOLLOWED),
+    'a one-step Sync': (ONE_STEP, ['sync 0 3000 1999 1001 [1, 2, None, None]'], of_master(NO_SLAVE)),
+    'a one-step Sync in front of a bad line': (ONE_STEP + BAD, [], NOT_FOLLOWED),
+    'a two-step Sync': (TWO_STEP, ['sync 0 3000 8.25 2991.75 [1, 3, 2, 4]'], of_master(NO_SLAVE)),
+    'a Sync and a Delay_Req': (ONE_STEP + REQUEST, ['sync 0 3000 1999 1001 [1, 2, None, None]', 'delay_req 7 1000 900 100 [3, 4, 5, 6]'], of_master(OF_SLAVE)),
+    'a Sync and a Delay_Req in front of a bad line': (
+        ONE_STEP + REQUEST + BAD, ['sync 0 3000 1999 1001 [1, 2, None, None]', 'delay_req 7 1000 900 100 [3, 4, 5, 6]'], of_master(OF_SLAVE)),
     'a Sync that is two-step at the second tap alone': (
         told(('left', 0, made(SYNC, MASTER, 3, stamp=9)), ('right', 50, made(SYNC, MASTER, 3, two_step=True)), ('right', 60, made(FOLLOW_UP, MASTER, 3, 3 * UNITS, stamp=9))),
-        ['sync 3 50 3 47 [1, 2, None, 3]']),
+        ['sync 3 50 3 47 [1, 2, None, 3]'], of_master(NO_SLAVE)),
     'a Sync that is two-step at the first tap alone': (
-        told(('left', 0, made(SYNC, MASTER, 3, two_step=True)), ('left', 10, made(FOLLOW_UP, MASTER, 3)), ('right', 50, made(SYNC, MASTER, 3))), []),
-    'another timestamp': (told(('left', 0, made(SYNC, MASTER, 3, stamp=1)), ('right', 50, made(SYNC, MASTER, 3, stamp=2))), []),
-    'a correction that is too big': (told(('left', 0, made(SYNC, MASTER, 3)), ('right', 50, made(SYNC, MASTER, 3, 2**63 - 1))), []),
+        told(('left', 0, made(SYNC, MASTER, 3, two_step=True)), ('left', 10, made(FOLLOW_UP, MASTER, 3)), ('right', 50, made(SYNC, MASTER, 3))), [], of_master(NO_SLAVE)),
+    'another timestamp': (told(('left', 0, made(SYNC, MASTER, 3, stamp=1)), ('right', 50, made(SYNC, MASTER, 3, stamp=2))), [], of_master(NO_SLAVE)),
+    'a correction that is too big': (told(('left', 0, made(SYNC, MASTER, 3)), ('right', 50, made(SYNC, MASTER, 3, 2**63 - 1))), [], of_master(NO_SLAVE)),
     'a Sync that came twice': (
-        told(('left', 0, made(SYNC, MASTER, 3)), ('left', 1, made(SYNC, MASTER, 3)), ('right', 50, made(SYNC, MASTER, 3)), ('right', 60, made(SYNC, MASTER, 3))), []),
+        told(('left', 0, made(SYNC, MASTER, 3)), ('left', 1, made(SYNC, MASTER, 3)), ('right', 50, made(SYNC, MASTER, 3)), ('right', 60, made(SYNC, MASTER, 3))),
+        [], of_master(NO_SLAVE)),
     'a number that comes again': (
         told(*[row for time in (0, 100) for row in (('left', time, made(SYNC, MASTER, 3)), ('right', time + 50, made(SYNC, MASTER, 3)))]),
-        ['sync 3 50 0 50 [1, 2, None, None]', 'sync 3 50 0 50 [3, 4, None, None]']),
+        ['sync 3 50 0 50 [1, 2, None, None]', 'sync 3 50 0 50 [3, 4, None, None]'], of_master(NO_SLAVE)),
+    'a Sync that came again when it had crossed': (
+        syncs(('left', 3), ('right', 3), ('right', 3)), ['sync 3 50 0 50 [1, 2, None, None]'], of_master(NO_SLAVE, '1 Sync was met at right and not at left')),
+    'Syncs that were lost': (
+        syncs(('left', 1), ('right', 1), ('left', 2), ('right', 3), ('left', 4)), ['sync 1 50 0 50 [1, 2, None, None]'],
+        of_master(NO_SLAVE, '2 Syncs were met at left and not at right', '1 Sync was met at right and not at left')),
+    'Delay_Reqs that were lost, with Delay_Resps or without': (
+        ONE_STEP + told(*[('right', 0, made(DELAY_REQ, SLAVE, number)) for number in (1, 2)], ('left', 0, made(DELAY_REQ, SLAVE, 3)),
+                        ('left', 0, made(DELAY_RESP, MASTER, 2, requesting=SLAVE)), ('right', 0, made(DELAY_RESP, MASTER, 2, requesting=SLAVE)),
+                        ('right', 0, made(DELAY_RESP, MASTER, 3, requesting=SLAVE)), ('right', 0, made(DELAY_RESP, MASTER, 4, requesting=SLAVE))),
+        ['sync 0 3000 1999 1001 [1, 2, None, None]'],
+        of_master(OF_SLAVE, '2 Delay_Reqs were met at right and not at left', '1 Delay_Req was met at left and not at right')),
+    'a Sync without its last Follow_Up': (
+        TWO_STEP.removesuffix(LAST_OF_TWO_STEP), [], of_master(NO_SLAVE, '1 Sync was met at both taps, and a Follow_Up of it is missing')),
+    'Syncs and Delay_Reqs without the others': (
+        told(*[(tap, time, made(SYNC, MASTER, number, two_step=True)) for number in (1, 2, 3) for tap, time in (('left', 0), ('right', 50))], ('left', 9, made(FOLLOW_UP, MASTER, 2)),
+             *[(tap, time, made(DELAY_REQ, SLAVE, number)) for number in (1, 2) for tap, time in (('right', 0), ('left', 50))],
+             ('right', 9, made(DELAY_RESP, MASTER, 2, requesting=SLAVE))), [],
+        of_master(OF_SLAVE, '3 Syncs were met at both taps, and a Follow_Up of each is missing', '2 Delay_Reqs were met at both taps, and a Delay_Resp of each is missing')),
+    # the last 256 records count
+    '256 Syncs at one tap and then at the other': (one_by_one(256), crossed(256, lambda number: (number + 1, number + 257)), of_master(NO_SLAVE)),
+    '300 Syncs at one tap and then at the other': (
+        one_by_one(300), [], of_master(NO_SLAVE, '300 Syncs were met at left and not at right', '300 Syncs were met at right and not at left')),
+    # 1,024 messages are kept, and then Syncs are followed without a slave
+    '511 Syncs in front of a bad line': (in_turn(511) + BAD, [], NOT_FOLLOWED),
+    '520 Syncs': (in_turn(520), IN_TURN, of_master(NO_SLAVE)),
+    '520 Syncs in front of a bad line': (in_turn(520) + BAD, IN_TURN, of_master(NO_SLAVE)),
+    '520 Syncs and then a Delay_Req': (in_turn(520) + REQUEST, IN_TURN + BY_REQUEST, of_master(OF_SLAVE)),
+    # what was kept is gone where the way is told later
+    '1,100 Syncs of which the last come at the other tap, too': (
+        syncs(*[('left', number) for number in range(1100)], *[('right', number) for number in range(1090, 1100)], ('left', 1100), ('right', 1100)),
+        ['sync 1100 50 0 50 [1111, 1112, None, None]'], of_master(NO_SLAVE, '10 Syncs were met at right and not at left')),
 }
 
 
@@ -138,7 +210,8 @@ def fault_text(fault):
 
 
 def see(name, octets, wanted=Wanted(), errors=(), csv=False, is_program=True):
-    """Compares an answer of the program with what is owed, and answers that. Standard error has these texts."""
+    """Compares an answer of the program with what is owed, and answers that. Standard error has these texts, and its last lines are those that are owed;
+    of lines without a fault these are all."""
     global cases
     owed = follow(octets, wanted)
     if not is_program:
@@ -150,6 +223,10 @@ def see(name, octets, wanted=Wanted(), errors=(), csv=False, is_program=True):
     expect(f'{name}: another output, {answer.stdout[:400]!r} and not {owed.text(csv)[:400]!r}', answer.stdout == owed.text(csv))
     expect(f'{name}: {said}', owed.fault is None or owed.fault[0] == 'third' or said.startswith(fault_text(owed.fault)))
     expect(f'{name}: {said}', (owed.status == 2) == ('fault 809 ' in said))
+    last = ''.join(f'ptpx: {it}\n' for it in owed.said)
+    expect(f'{name}: {said!r} doesn\'t end with {last!r}', said.endswith(last))
+    if octets[:4] not in followed.MAGICS and owed.third is None:
+        expect(f'{name}: {said!r} says more than {last!r}', said == fault_text(owed.fault) + last)
     for text in errors:
         expect(f'{name}: {text!r} is not in {said!r}', text in said)
     return owed
@@ -171,6 +248,7 @@ def see_real(is_program):
 def see_bent(is_program):
     """A capture as lines, and these bent."""
     messages, plain = messages_of(CLOCK), follow(CLOCK)
+    expect('first.lines: other messages than the first of the capture', lines_of(messages).startswith((HERE / 'first.lines').read_bytes()))
     owed = see('lines', lines_of(messages), is_program=is_program)
     expect('lines: other crossings', without_lines(owed.crossings) == without_lines(plain.crossings))
     for name, order in ('lines in the order of times', sorted(messages, key=lambda it: it.time)), ('lines of one tap after the other', sorted(messages, key=lambda it: it.tap)):
@@ -186,6 +264,7 @@ def see_bent(is_program):
             ('a lost Delay_Req', DELAY_REQ, b'left', 'ptpx: 1 Delay_Req was met at right and not at left\n')):
         place = [place for place, it in enumerate(messages) if (it.kind, it.tap) == (kind, tap)][5]
         owed = see(name, lines_of(messages[:place] + messages[place + 1:]), errors=[sentence], is_program=is_program)
+        expect(f'{name}: isn\'t said', sentence in ''.join(f'ptpx: {it}\n' for it in owed.said))
         expect(f'{name}: other crossings', len(owed.crossings) == len(plain.crossings) - 1)
         owed = see(f'{name} that came twice', lines_of(messages[:place + 1] + messages[place:]), is_program=is_program)
         expect(f'{name} that came twice: other crossings', len(owed.crossings) in (len(plain.crossings) - 1, len(plain.crossings)))
@@ -279,9 +358,10 @@ def see_made(is_program):
 
 def main():
     is_program = '--reader' not in sys.argv[1:]
-    for name, (octets, wanted) in WORKED.items():
+    for name, (octets, wanted, said) in WORKED.items():
         owed = see(name, octets, is_program=is_program)
         expect(f'{name}: {[*map(worked_text, owed.crossings)]}', [*map(worked_text, owed.crossings)] == wanted)
+        expect(f'{name}: {owed.said}', owed.said == said)
     text = follow(ONE_STEP).text()
     expect(f'a line: {text}', text == (b'{"corrected":"1999","from":"left","kind":"sync","lines":[1,2,null,null],"number":0,"rest":"1001","taken":"3000",'
                                        b'"time":"1.000000500","to":"right"}\n'))
