@@ -205,13 +205,15 @@ def fault_text(fault):
     """How the line of a fault begins on standard error."""
     if fault is None:
         return ''
-    kind, (number, place) = fault
-    return f'ptpx: fault {number} at line {place}\n' if kind == 'line' else f'ptpx: fault {number} at octet {place}, after '
+    kind, (number, place, *packets) = fault
+    if kind != 'capture':
+        return f'ptpx: fault {number} at line {place}\n'
+    return f'ptpx: fault {number} at octet {place}, after {packets[0]} packet{"" if packets == [1] else "s"}'
 
 
 def see(name, octets, wanted=Wanted(), errors=(), csv=False, is_program=True):
     """Compares an answer of the program with what is owed, and answers that. Standard error has these texts, and its last lines are those that are owed;
-    of lines without a fault these are all."""
+    of lines there are no others but the fault, and of a whole capture the first one tells how many packets there are."""
     global cases
     owed = follow(octets, wanted)
     if not is_program:
@@ -227,6 +229,9 @@ def see(name, octets, wanted=Wanted(), errors=(), csv=False, is_program=True):
     expect(f'{name}: {said!r} doesn\'t end with {last!r}', said.endswith(last))
     if octets[:4] not in followed.MAGICS and owed.third is None:
         expect(f'{name}: {said!r} says more than {last!r}', said == fault_text(owed.fault) + last)
+    if octets[:4] in followed.MAGICS and owed.fault is None:
+        found = followed.reading.read(octets)
+        expect(f'{name}: {said!r}, other packets', said.startswith(f'ptpx: {found.packets} packets, of which {len(found.rows)} have PTP\n'))
     for text in errors:
         expect(f'{name}: {text!r} is not in {said!r}', text in said)
     return owed
