@@ -11,7 +11,7 @@
 - 100,000 lines more, in spellings other than that of `ptpx` or almost in that one, are read up to their first fault as spelled.py says,
   another such reader, and as `ptpx` reads them behind a blank, with an escape and with a key twice, where it takes other ways;
 - what `explain` says of one in five of these inputs ends as `check` or `replay` did, and judges the reports as the verdict does;
-- no run takes more than 64 MiB of memory.
+- no run asks for more than 64 MiB of memory: with more refused it answers the same.
 
 At the end each fault, each reason and a report must have been seen."""
 import collections
