@@ -6,7 +6,7 @@ use Rattle.text_lines.specs.declared.fault.Cause.{Cause}
 use Rattle.text_lines.specs.declared.fault.Cause.TheVariants.{Reading, Task}
 use Rattle.text_lines.specs.declared.fault.Stopped.{Stopped}
 use Rattle.text_lines.specs.Lines.{lines_of, after_lines, reading_fault, LeavesUnread}
-use Rattle.text_lines.specs.Task.{Rules, TakesLines, WentOut, FaultsInReading, StopsBefore, is_of_writer, AnswersAll, AnswersUntil, Answers}
+use Rattle.text_lines.specs.Task.{Rules, TakesLines, WentOut, FaultsInReading, StopsBefore, is_of_writer, Answers}
 use Rattle.text_lines.proofs.OneAnswer.{IsOfDevice, IsSure}
 
 -- by these rules, of which the states are seen so, each line does what it does by the others, and so does the end, but for

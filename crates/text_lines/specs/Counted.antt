@@ -1,5 +1,8 @@
 -- What a counted reader or writer shows.
-use Rattle.std.specs.Prelude.{◌≡◌, ℕ, ◌+◌, ◌-◌, ◌^◌, min, Bool, true, false}
+use Rattle.std.specs.Prelude.{◌≡◌, ℕ, ◌+◌, ◌-◌, ◌^◌, min, Bool, true, false, ◌||◌}
+use Rattle.std.specs.declared.io.Error.{Error}
+use Rattle.std.specs.IoError.{error_kind}
+use Rattle.text_lines.specs.Broken.{is_broken}
 use Rattle.text_lines.specs.declared.counted.Counted.{Counted}
 
 -- the reader or writer itself
@@ -13,6 +16,10 @@ failures_of c = c.failures
 -- how many octets it gave
 abbrev pub given_of : {T : Type 0} → Counted T → ℕ
 given_of c = c.given
+
+-- whether a write failed since nobody reads what is written
+abbrev pub is_unread : {T : Type 0} → Counted T → Bool
+is_unread c = c.unread
 
 -- the greatest count
 abbrev pub greatest_count : ℕ
@@ -42,3 +49,7 @@ HasFailedIf false old new = HasNotFailed old new
 -- so many octets more were given
 abbrev pub HasGiven : {T : Type 0} → ℕ → Counted T → Counted T → Type 0
 HasGiven count old new = given_of new ≡ with_more (given_of old) count
+
+-- a write failed with this error: nobody reads where it says so, or one before it did
+abbrev pub TellsUnread : {T : Type 0} → Error → Counted T → Counted T → Type 0
+TellsUnread error old new = is_unread new ≡ (is_unread old || is_broken (error_kind error))

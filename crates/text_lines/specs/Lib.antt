@@ -1,3 +1,4 @@
+pub mod Broken
 pub mod Counted
 pub mod Fault
 pub mod OctetReader

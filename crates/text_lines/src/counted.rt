@@ -1,4 +1,5 @@
-ghost use Rattle.std.specs.Prelude.{◌≡◌, ◌<◌, ◌^◌, MatchResult, OnOk, ◌==◌, ◌&&◌, not, length};
+ghost use Rattle.std.specs.Prelude.{◌≡◌, ◌<◌, ◌^◌, MatchResult, OnOk, ◌==◌, ◌&&◌, false, not, length};
+ghost use Rattle.text_lines.specs.Broken.{is_broken};
 ghost use Rattle.std.specs.Io.{ReadsAtMost, WritesAtMost};
 ghost use Rattle.std.specs.Io.KnownBytes.{ReadConsumes, WriteAppends, Keeps, Appends};
 
@@ -8,29 +9,40 @@ pub(crate) use octets::Stop;
 use std::io;
 use std::io::{ErrorKind, Read, Write};
 
+/// Whether this says that nobody reads what is written.
+fn is_broken(kind: ErrorKind) -> bool
+    ensures { result ≡ is_broken kind }
+{
+    matches!(kind, ErrorKind::BrokenPipe)
+}
+
 /// A reader or a writer, and how many of its calls failed: reads that answered an error, and
-/// writes that answered one or took no octet. Of a reader, how many octets it gave, too.
+/// writes that answered one or took no octet. Of a reader, how many octets it gave, too; of a
+/// writer, whether one failed since nobody reads what is written.
 #[derive(Drop)]
 pub struct Counted<T> {
     device: T,
     failures: u64,
     given: u64,
+    unread: bool,
     ghost within: { given < 2 ^ 64 },
 }
 
 impl<T> Counted<T> {
-    ghost use Rattle.text_lines.specs.Counted.{device_of, failures_of, given_of, HasFailed, HasNotFailed, HasGiven};
+    ghost use Rattle.text_lines.specs.Counted.{device_of, failures_of, given_of, is_unread, HasFailed, HasNotFailed, HasGiven};
 
     /// The device, of which no call has failed yet, and which has given no octet.
     pub fn new(device: T) -> Counted<T>
         ensures device { device_of result ≡ device }
         ensures failures { failures_of result ≡ 0 }
         ensures given { given_of result ≡ 0 }
+        ensures unread { is_unread result ≡ false }
     {
         Counted {
             device,
             failures: 0,
             given: 0,
+            unread: false,
         }
     }
 
@@ -55,10 +67,18 @@ impl<T> Counted<T> {
         self.given
     }
 
+    /// Whether a write failed since nobody reads what is written, as behind a pipe whose reader went away.
+    pub fn is_unread(&self) -> bool
+        ensures { result ≡ is_unread self.now }
+    {
+        self.unread
+    }
+
     fn count_failure(&mut self)
         ensures device { device_of self.new ≡ device_of self.old }
         ensures failed { HasFailed self.old self.new }
         ensures given { given_of self.new ≡ given_of self.old }
+        ensures unread { is_unread self.new ≡ is_unread self.old }
     {
         self.failures = self.failures.saturating_add(1);
     }
@@ -112,7 +132,8 @@ impl<R: Read> Read for Counted<R> {
 }
 
 impl<W: Write> Write for Counted<W> {
-    ghost use Rattle.text_lines.specs.Counted.{device_of, given_of, HasFailed, HasNotFailed, HasFailedIf};
+    ghost use Rattle.text_lines.specs.Counted.{device_of, given_of, is_unread, HasFailed, HasNotFailed, HasFailedIf};
+    ghost use Rattle.text_lines.specs.Counted.{TellsUnread};
 
     ghost contents = { λ c. W.contents (device_of c) };
 
@@ -125,11 +146,18 @@ impl<W: Write> Write for Counted<W> {
             (λ taken. HasFailedIf (taken == 0 && not (length buf.now == 0)) self.old self.new)
             (λ _. HasFailed self.old self.new) }
         ensures given { given_of self.new ≡ given_of self.old }
+        ensures unread { MatchResult result
+            (λ _. is_unread self.new ≡ is_unread self.old)
+            (λ error. TellsUnread error self.old self.new) }
     {
         let answer = self.device.write(buf);
-        match answer {
-            Ok(taken) if taken > 0 || buf.is_empty() => {}
-            _ => self.count_failure(),
+        match &answer {
+            Ok(taken) if *taken > 0 || buf.is_empty() => {}
+            Ok(_) => self.count_failure(),
+            Err(error) => {
+                self.count_failure();
+                self.unread = self.unread || is_broken(error.kind());
+            }
         }
         answer
     }
@@ -138,6 +166,7 @@ impl<W: Write> Write for Counted<W> {
         ensures bytes { Keeps (W.contents (device_of self.old)) (W.contents (device_of self.new)) }
         ensures count { HasNotFailed self.old self.new }
         ensures given { given_of self.new ≡ given_of self.old }
+        ensures unread { is_unread self.new ≡ is_unread self.old }
     {
         self.device.flush()
     }
@@ -148,6 +177,9 @@ impl<W: Write> Write for Counted<W> {
             (Appends (W.contents (device_of self.old)) (W.contents (device_of self.new)) buf.now) }
         ensures count { MatchResult result (λ _. HasNotFailed self.old self.new) (λ _. HasFailed self.old self.new) }
         ensures given { given_of self.new ≡ given_of self.old }
+        ensures unread { MatchResult result
+            (λ _. is_unread self.new ≡ is_unread self.old)
+            (λ error. TellsUnread error self.old self.new) }
     {
         let mut rest = buf;
         while !rest.is_empty() {

@@ -10,11 +10,12 @@ moves_front all done rest n e =
 
 pub loop-rest-preserved : goal.loop-rest-preserved
 loop-rest-preserved g c =
-    let (done, split, appended, count, given) = c.loop-rest.invariant in
+    let (done, split, appended, count, given, unread) = c.loop-rest.invariant in
     let taken = c.in_ok-taken.taken in (
       done ++ take taken c.loop-rest.rest.now,
       moves_front _ done c.loop-rest.rest.now taken split,
       Appends-trans _ _ _ _ _ appended c.in_ok-taken.ensures.bytes,
+      search rules,
       search rules,
       search rules,
     )
