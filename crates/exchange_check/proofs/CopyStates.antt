@@ -6,9 +6,9 @@ use Rattle.std.proofs.lemmas.Bool.{true≢false, eqb-true, eq-eqb}
 use Rattle.std.proofs.lemmas.Bool.Decides.{nat_tests}
 use Rattle.std.proofs.lemmas.Option.{same_Some, none-some}
 use Rattle.exchange_check.specs.declared.stays.CopyState.{CopyState}
-use Rattle.exchange_check.specs.Inner.Kept.{Leaves, left_again}
+use Rattle.exchange_check.specs.Inner.Kept.{Leaves, left_again, Firsts}
 use Rattle.exchange_check.specs.Inner.Stays.{LastStays, with_stay, is_once, CopyStates, root, with_state, IsStretch, Stretch}
-use Rattle.exchange_check.specs.Inner.Stays.{depths, nexts, Firsts, with_first, IsOrdered, is_whole, AreCopyStates}
+use Rattle.exchange_check.specs.Inner.Stays.{depths, nexts, with_first, IsOrdered, is_whole, AreCopyStates}
 use Rattle.exchange_check.proofs.Stretches.{run_past, grown_run}
 
 pub less-apart : (x n : ℕ) → x < n → eqb n x ≡ false

@@ -5,9 +5,9 @@ use Rattle.std.specs.Prelude.{is_some}
 use Rattle.std.proofs.lemmas.Bool.{true≢false, eqb-true, eqb-false, eq-eqb, and_parts}
 use Rattle.std.proofs.lemmas.Option.{same_Some, none-some}
 use Rattle.exchange_check.specs.declared.stays.CopyState.{CopyState}
-use Rattle.exchange_check.specs.Inner.Kept.{Leaves, left_again}
+use Rattle.exchange_check.specs.Inner.Kept.{Leaves, left_again, Firsts}
 use Rattle.exchange_check.specs.Inner.Stays.{LastStays, is_once, CopyStates, IsStretch, Stretch, depths}
-use Rattle.exchange_check.specs.Inner.Stays.{nexts, Firsts, IsOrdered, is_whole, AreCopyStates}
+use Rattle.exchange_check.specs.Inner.Stays.{nexts, IsOrdered, is_whole, AreCopyStates}
 use Rattle.exchange_check.proofs.Stretches.{weaker, no_run, ends_nowhere, before_run, not_itself, shrunk_run}
 
 -- a copy's stay was left again: it isn't whole any more, and what grew from it, as far as the order leads from it

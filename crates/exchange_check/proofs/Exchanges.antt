@@ -63,7 +63,7 @@ module _ (network : Network) where
     sent_below limit None = refl
     sent_below limit (Some n) = below_is (nat_lt n limit) n
 
-    senders : (o : Option LinePlace)
+    pub senders : (o : Option LinePlace)
         → option_and_then (sender_by facts) (option_map (fact_of network) o)
         ≡ option_map (fact_of network) (option_and_then (sender network lines) o)
     senders None = refl

@@ -22,7 +22,8 @@ use Rattle.network_model.specs.Kinds.{entered_copy, named_transit}
 use Rattle.trace_model.specs.Sound.{where_passes}
 use Rattle.std.proofs.lemmas.Bool.{eqb-true, eq-eqb, ltb-true}
 use Rattle.exchange_check.specs.Inner.Machine.{accepted_count, Machine, IsKept, facts_of, sites_of, stamps_of, with_fact}
-use Rattle.exchange_check.specs.Inner.Machine.{sites_told, leaves_told, stamps_told, line_judgement_by}
+use Rattle.exchange_check.specs.Inner.Machine.{sites_told, leaves_told, firsts_told, stamps_told, line_judgement_by}
+use Rattle.exchange_check.specs.Inner.Machine.{firsts_of}
 use Rattle.exchange_check.specs.Inner.Machine.{with_judgement, after_line, judgement_after}
 
 same_test : (facts later : Facts) (fact : Option Fact) (k l : ℕ) → facts (suc k) ≡ later k
@@ -176,12 +177,13 @@ module _ (network : Network) (line : TraceLine) (count : ℕ) (m : Machine) (kep
       → ((stays : LastStays) (leaves : Leaves) → AreStays kept.stays stays leaves number
       → AreStays after.stays (with_stay number (option_and_then (stay_of (fact_in items) number) fact) stays)
       (leaves_told fact leaves) (number + 1))
+      → firsts_of after ≡ firsts_told fact number (firsts_of kept)
       → stamps_of after ≡ stamps_told fact number (sites_of network kept) (stamps_of kept)
       → answer ≡ line_judgement_by network (fact_in items) (once_in kept.stays) (stamps_of kept) (sites_of network kept) fact
       line.out
       → after.verdict ≡ with_judgement answer last kept.verdict
       → IsKept network after (count + 1) (after_line network line count m)
-  IsKept-line after last answer last_is items_after sites_is stays_is stamps_is answer_is verdict_is =
+  IsKept-line after last answer last_is items_after sites_is stays_is firsts_is stamps_is answer_is verdict_is =
       let placed : last ≡ count = last_is ∙ h.count_is in
       let stays = last_stays m.facts in
       let more = last_stays-more m.facts count (fact_by network m.facts m.sites line count)
@@ -197,6 +199,7 @@ module _ (network : Network) (line : TraceLine) (count : ℕ) (m : Machine) (kep
             (with_stay (counted i) (option_and_then (stay_of (pushed i) (counted i)) (found i)) stays)
             (leaves_told (found i) m.leaves) (counted i + 1))
             (stays_is stays m.leaves (transport (λ i. AreStays kept.stays stays m.leaves (sym counted i)) h.stays)));
+        firsts = firsts_is ∙ (λ i. firsts_told (found i) (counted i) (h.firsts i));
         stamps = stamps_is ∙ (λ i. stamps_told (found i) (counted i) (h.sites i) (h.stamps i));
         verdict = verdict_is ∙ (λ i. with_judgement (judgement-line answer answer_is i) (placed i) (h.verdict i));
         within = with_judgement-within (judgement_after network line count m) count count m.verdict h.within;

@@ -20,7 +20,7 @@ use Rattle.trace_model.proofs.Complete.{complete, complete_within_one_turn}
 use Rattle.network_model.specs.Premises.{IsFreshAndTicked, IsWithinTurn, exact_limits}
 use Rattle.exchange_check.specs.Inner.Machine.{Machine, IsKept, machine, after_line, judgement_after}
 
-reverse_push : (lines : List TraceLine) (line : TraceLine) → reverse (lines ++ line ∷ []) ≡ line ∷ reverse lines
+pub reverse_push : (lines : List TraceLine) (line : TraceLine) → reverse (lines ++ line ∷ []) ≡ line ∷ reverse lines
 reverse_push lines line = grind (arith, common_steps)
 
 reverse_more : (lines : List TraceLine) (line : TraceLine) (i : ℕ) → i < length lines → line ≡ get_or lines i line

@@ -27,7 +27,7 @@ use Rattle.exchange_check.specs.Inner.Kept.{Facts}
 use Rattle.exchange_check.specs.Inner.Judged.{line_of_by, sync_by, follows_by, arrival_by, found_journey_at}
 use Rattle.exchange_check.specs.Inner.Judged.{found_journey_from, found_journey_to, is_told}
 use Rattle.exchange_check.specs.Inner.Judged.{both_journeys, found_judgement, judgement_by}
-use Rattle.exchange_check.proofs.Noted.{site_at, leaves_at, stamps_at, told_master}
+use Rattle.exchange_check.proofs.Noted.{site_at, leaves_at, firsts_at, stamps_at, told_master}
 use Rattle.exchange_check.proofs.Told.{fact_of, facts_at}
 use Rattle.exchange_check.proofs.Following.{once_is, followed_is}
 use Rattle.trace_model.specs.declared.verdict.Verdict.{Verdict}
@@ -35,10 +35,11 @@ use Rattle.trace_model.specs.declared.verdict.Verdict.TheVariants.{Accepted, Ref
 use Rattle.exchange_check.specs.Inner.Judged.{is_followed_by}
 use Rattle.exchange_check.specs.Inner.Stays.{Once, last_stays, once_of}
 use Rattle.exchange_check.specs.Inner.Kept.{fact_by}
-use Rattle.exchange_check.specs.Inner.Machine.{Machine, machine, with_fact, sites_told, leaves_told, stamps_told}
+use Rattle.exchange_check.specs.Inner.Machine.{Machine, machine, with_fact, sites_told, leaves_told, firsts_told}
+use Rattle.exchange_check.specs.Inner.Machine.{stamps_told}
 use Rattle.exchange_check.specs.Inner.Machine.{line_judgement_by, with_judgement, judgement_after}
 use Rattle.trace_model.specs.Verdict.{verdict, with_line, one_more, report_in, line_judgement}
-use Rattle.exchange_check.proofs.Noted.{sites-line, leaves-line, stamps-line}
+use Rattle.exchange_check.proofs.Noted.{sites-line, leaves-line, firsts-line, stamps-line}
 use Rattle.exchange_check.proofs.FactLines.{fact_by-is, facts-line}
 use Rattle.exchange_check.proofs.Bounds.{sync_within, arrival_within, chain_parts}
 use Rattle.std.proofs.lemmas.Option.{none-some}
@@ -51,7 +52,7 @@ last_number : (o : Option LinePlace) (n : ℕ)
 last_number None n = refl
 last_number (Some e) n = refl
 
-followed_line : (network : Network) (follow : Option LinePlace) (origin : LinePlace)
+pub followed_line : (network : Network) (follow : Option LinePlace) (origin : LinePlace)
     → is_followed_by (option_map (fact_of network) follow) (fact_of network origin) ≡ is_followed network follow origin
 followed_line network None origin = refl
 followed_line network (Some follow) origin =
@@ -303,6 +304,7 @@ pub record Stands (network : Network) (lines : Lines) (m : Machine) : Type 0 whe
   pub facts : m.facts ≡ facts_at network lines
   pub sites : m.sites ≡ site_at network lines
   pub leaves : m.leaves ≡ leaves_at network lines
+  pub firsts : m.firsts ≡ firsts_at network lines
   pub stamps : m.stamps ≡ stamps_at network lines
   pub verdict : m.verdict ≡ verdict network lines
 
@@ -326,7 +328,8 @@ module _ (network : Network) (line : TraceLine) (earlier : Lines) (m : Machine) 
       ∙ line_judgement_is network line earlier (report_in line.out)
 
 pub stands : (network : Network) (lines : Lines) → Stands network lines (machine network lines)
-stands network [] = record { facts = refl; sites = refl; leaves = refl; stamps = refl; verdict = refl }
+stands network [] =
+    record { facts = refl; sites = refl; leaves = refl; firsts = refl; stamps = refl; verdict = refl }
 stands network (line ∷ earlier) =
     let h = stands network earlier in
     let m = machine network earlier in
@@ -340,6 +343,8 @@ stands network (line ∷ earlier) =
           ∙ sites-line network line earlier (fact_of network e) (counts network line) refl refl;
       leaves = (λ i. leaves_told (fact i) (h.leaves i))
           ∙ leaves-line network line earlier (fact_of network e) (counts network line) refl refl;
+      firsts = (λ i. firsts_told (fact i) n (h.firsts i))
+          ∙ firsts-line network line earlier (fact_of network e) (counts network line) refl refl;
       stamps = (λ i. stamps_told (fact i) n (h.sites i) (h.stamps i))
           ∙ stamps-line network line earlier (fact_of network e) (counts network line) refl refl;
       verdict = (λ i. with_judgement (judgement_after_is network line earlier m h i) n (h.verdict i))

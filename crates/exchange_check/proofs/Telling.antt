@@ -12,7 +12,7 @@ use Rattle.network_model.specs.declared.event.Event.{Event}
 use Rattle.network_model.specs.declared.event.Event.TheVariants.{Arrive, Hear}
 use Rattle.network_model.specs.Network.{Network, NodeName}
 use Rattle.network_model.specs.Run.{site_of}
-use Rattle.network_model.specs.Kinds.{is_at, draws_sync, is_follow, is_request, is_stamped, is_arrival, is_hearing}
+use Rattle.network_model.specs.Kinds.{is_at, draws_sync, is_follow, is_request, is_stamped, is_arrival, is_hearing, is_set_master}
 use Rattle.network_model.specs.Kinds.{heard_copy, named_transit, is_leave_of}
 use Rattle.trace_model.specs.declared.line.TraceLine.{TraceLine}
 use Rattle.trace_model.specs.Line.{Lines, counts, is_made, completes}
@@ -45,16 +45,16 @@ use Rattle.exchange_check.proofs.Standing.{found_if, either_within, stands}
 use Rattle.exchange_check.proofs.Made.{message_at_by-is}
 use Rattle.exchange_check.proofs.Walks.{stay_walked, earlier_walked}
 
--- an event that leaves no stay and tells of no departure
-abbrev IsSilent : Event → Type 0
-IsSilent event = (named_transit event ≡ None) × (is_stamped event ≡ false)
+-- an event that leaves no stay, tells of no master and of no departure
+abbrev pub IsSilent : Event → Type 0
+IsSilent event = ((named_transit event ≡ None) × (is_set_master event ≡ false)) × (is_stamped event ≡ false)
 
 arrivals_silent : (event : Event) → is_arrival event ≡ true → IsSilent event
-arrivals_silent (Arrive node copy at) h = (refl, refl)
+arrivals_silent (Arrive node copy at) h = ((refl, refl), refl)
 arrivals_silent _ h = absurd (true≢false (sym h))
 
 hearings_silent : (event : Event) → is_hearing event ≡ true → IsSilent event
-hearings_silent (Hear node copy) h = (refl, refl)
+hearings_silent (Hear node copy) h = ((refl, refl), refl)
 hearings_silent _ h = absurd (true≢false (sym h))
 
 one_of : (a b c : Bool) → (a || b || c) ≡ true → (a ≡ true) ⊎ ((b ≡ true) ⊎ (c ≡ true))
@@ -95,7 +95,7 @@ module _ (network : Network) (line : TraceLine) (earlier : Lines) where
       (all_lines network line earlier report) None))
 
 module _ (network : Network) (line : TraceLine) (earlier : Lines) (counted : counts network line ≡ true) where
-  abbrev lines_now : Lines
+  abbrev pub lines_now : Lines
   lines_now = line ∷ earlier
 
   kind_here : (kind : Event → Bool) (node : NodeName) (n : ℕ) (x : LinePlace) → n ≡ length earlier
@@ -107,7 +107,7 @@ module _ (network : Network) (line : TraceLine) (earlier : Lines) (counted : cou
       ap (λ (y : LinePlace). kind (event_of y)) same ∙ (and_parts (kind (event_of x)) _ parts.1).0
 
   module _ (report : Report) where
-    abbrev at : NodeName
+    abbrev pub at : NodeName
     at = slave network line earlier
 
     sync_silent : (x : LinePlace) → eqb report.sync_tag (length earlier) ≡ true
@@ -152,7 +152,7 @@ module _ (network : Network) (line : TraceLine) (earlier : Lines) (counted : cou
         follow_silent hearing (follow_line network lines_now at hearing) f same refl h
 
     -- a line that a report is of leaves no stay and tells of no departure
-    silent : (x : Lined) → here network line earlier report ≡ true → all_lines network line earlier report ≡ Some x
+    pub silent : (x : Lined) → here network line earlier report ≡ true → all_lines network line earlier report ≡ Some x
         → IsSilent line.event
     silent x of_line found =
         let parts = chain_parts network lines_now (sync_line network lines_now at report)
@@ -169,7 +169,7 @@ module _ (network : Network) (line : TraceLine) (earlier : Lines) (counted : cou
 
   module _ (quiet : IsSilent line.event) where
     -- the request's departure was not learned here
-    stamp_same : (request : ℕ) → first_stamp network request lines_now ≡ first_stamp network request earlier
+    pub stamp_same : (request : ℕ) → first_stamp network request lines_now ≡ first_stamp network request earlier
     stamp_same request = stamp_more network line earlier request true counted
         ∙ (λ i. option_or (first_stamp network request earlier)
         (cond (quiet.1 i && option_map_or (λ last. eqb (line_number last) request)
@@ -177,19 +177,19 @@ module _ (network : Network) (line : TraceLine) (earlier : Lines) (counted : cou
         ∙ or_nothing (first_stamp network request earlier)
 
     -- nor was a stay left
-    leaves_same : (transit : ℕ) → count_by (is_leave_of transit) (events network lines_now)
+    pub leaves_same : (transit : ℕ) → count_by (is_leave_of transit) (events network lines_now)
         ≡ count_by (is_leave_of transit) (events network earlier)
     leaves_same transit = ap (count_by (is_leave_of transit)) (events_more network line earlier true counted)
         ∙ count_more (is_leave_of transit) line.event (events network earlier)
-        ∙ (λ i. cond (option_map_or (λ named. eqb named transit) (quiet.0 i) false)
+        ∙ (λ i. cond (option_map_or (λ named. eqb named transit) (quiet.0.0 i) false)
         (suc (count_by (is_leave_of transit) (events network earlier)))
         (count_by (is_leave_of transit) (events network earlier)))
 
-    once_same : (journey : LineJourney)
+    pub once_same : (journey : LineJourney)
         → left_once (events network lines_now) journey ≡ left_once (events network earlier) journey
     once_same journey = λ i. list_all (λ stay. eqb (leaves_same (line_number stay.entered) i) 1) journey.stays
 
-    followed_here : IsFollowed network line earlier
+    pub followed_here : IsFollowed network line earlier
         (once_of (last_stays (facts_at network lines_now)) (leaves_at network lines_now))
     followed_here copy j h =
         followed_is network (facts_at network lines_now) (leaves_at network lines_now) (events network lines_now)
@@ -198,14 +198,14 @@ module _ (network : Network) (line : TraceLine) (earlier : Lines) (counted : cou
         (line_at-later network line earlier n x there)) h (suc copy) (omega arith)
         ∙ once_same j
 
-  abbrev once_now : Once
+  abbrev pub once_now : Once
   once_now = once_of (last_stays (facts_at network lines_now)) (leaves_at network lines_now)
 
-  abbrev stamps_now : Stamps
+  abbrev pub stamps_now : Stamps
   stamps_now = stamps_at network lines_now
 
   -- the copy that arrives, and its journey
-  abbrev Arrives : LinePlace → LineJourney → Type 0
+  abbrev pub Arrives : LinePlace → LineJourney → Type 0
   Arrives arrival journey = (copy : ℕ) × (heard_copy (event_of arrival) ≡ Some copy)
       × (line_journey_of network lines_now copy ≡ Some journey)
 
@@ -215,7 +215,7 @@ module _ (network : Network) (line : TraceLine) (earlier : Lines) (counted : cou
   below_found true copy journey h = h
   below_found false copy journey h = absurd (none-some journey h)
 
-  arrives : (kind : Event → Bool) (arrival : LinePlace) (journey : LineJourney)
+  pub arrives : (kind : Event → Bool) (arrival : LinePlace) (journey : LineJourney)
       → unbroken network (line_place line earlier) kind arrival ≡ Some journey → Arrives arrival journey
   arrives kind arrival journey h =
       let found = bound (below (line_journey_of network lines_now) (line_number arrival))
@@ -258,7 +258,7 @@ module _ (network : Network) (line : TraceLine) (earlier : Lines) (counted : cou
   })
 
   module _ (report : Report) where
-    abbrev learned_now : Bool
+    abbrev pub learned_now : Bool
     learned_now = is_stamped_by stamps_now report.request_tag report.response_tag
 
     abbrev found_told : Option Lined → Option Exchange
@@ -276,7 +276,7 @@ module _ (network : Network) (line : TraceLine) (earlier : Lines) (counted : cou
         ∙ journeys_told x (unbroken network (line_place line earlier) draws_sync x.sync_arrival)
         (unbroken network (line_place line earlier) is_request x.request_arrival) refl refl
 
-    learned_same : IsSilent line.event → learned_now ≡ learned network line earlier report
+    pub learned_same : IsSilent line.event → learned_now ≡ learned network line earlier report
     learned_same quiet = λ i. nat_lt report.request_tag report.response_tag
         && option_map_or (λ stamp. nat_lt stamp report.response_tag) (stamp_same quiet report.request_tag i) false
 

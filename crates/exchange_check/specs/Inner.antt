@@ -7,3 +7,7 @@ pub mod Machine
 pub mod Stays
 pub mod Telling
 pub mod History
+pub mod Noting
+pub mod Found
+pub mod Finding
+pub mod Messages

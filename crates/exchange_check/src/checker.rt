@@ -1,20 +1,24 @@
 ghost use Rattle.std.specs.Prelude.{◌≡◌, reverse, MatchResult, IfOk, ◌++◌, ◌∷◌, [], length, option_map};
 ghost use Rattle.event_codec.specs.Profile.{contents_of};
 ghost use Rattle.network_model.specs.Premises.{IsFreshAndTicked, IsWithinTurn, exact_limits};
-ghost use Rattle.trace_model.specs.Record.{line_place};
+ghost use Rattle.trace_model.specs.Record.{line_place, first_stamp};
 ghost use Rattle.trace_model.specs.Verdict.{line_judgement, verdict};
 ghost use Rattle.trace_model.specs.Soundness.{TellsSoundness};
 ghost use Rattle.trace_model.specs.Complete.{AcceptsTruth};
 ghost use Rattle.exchange_check.specs.Exchange.{last_exchange};
 ghost use Rattle.exchange_check.specs.Message.{message_at};
+ghost use Rattle.exchange_check.specs.KeptLine.{kept_line_at, origin_at, master_told};
+ghost use Rattle.exchange_check.specs.Inner.Machine.{IsKept, machine};
+ghost use Rattle.trace_model.specs.Finding.{leave_of};
 ghost use Rattle.exchange_check.specs.declared.refusal.CheckFault.TheVariants.{Memory};
 
 use crate::exchange::Exchange;
 use crate::history::History;
 use crate::kept::Kept;
+use crate::kept_line::KeptLine;
 use crate::refusal::CheckFault;
 use event_codec::PortMessage;
-use network_model::{Nodes, Report};
+use network_model::{Name, Nodes, Report};
 use std::alloc::Global;
 use std::marker::Model;
 use trace_model::{Judgement, TraceLine, Verdict};
@@ -123,6 +127,58 @@ impl Checker {
         ensures { option_map contents_of result ≡ message_at self.now.network (reverse self.now.lines) number }
     {
         self.kept.message_at(&self.nodes, number)
+    }
+
+    /// The nodes of the network.
+    pub fn nodes(&self) -> &Nodes
+        ensures { result.now ≡ self.now.network }
+    {
+        &self.nodes
+    }
+
+    /// What is kept of the line of this number, counted from 0; none where it doesn't count, or isn't there.
+    pub fn line_at(&self, number: u64) -> Option<KeptLine>
+        ensures { result ≡ kept_line_at self.now.network (reverse self.now.lines) number }
+    {
+        self.kept.told_at(number)
+    }
+
+    /// The event that sent the message of which the line of this number made a copy, followed back through clocks;
+    /// none where the line doesn't count or makes no copy of an event message, or where that can't be followed.
+    pub fn origin_of(&self, number: u64) -> Option<u64>
+        ensures { result ≡ origin_at self.now.network (reverse self.now.lines) number }
+    {
+        self.kept.origin_at(number)
+    }
+
+    /// The last event that told a slave its master.
+    pub fn master_told(&self, slave: &Name) -> Option<u64>
+        ensures { result ≡ master_told self.now.network (reverse self.now.lines) slave.now }
+    {
+        self.kept.master_told(&self.nodes, slave)
+    }
+
+    /// The first event by which a message left the clock that it entered by the event of this number.
+    pub fn first_leave(&self, entered: u64) -> Option<u64>
+        ensures { result ≡ leave_of self.now.network entered (reverse self.now.lines) }
+    {
+        self.kept.stays.first(entered)
+    }
+
+    /// The first event by which a slave learned when the Delay_Req of this number departed.
+    pub fn first_stamp(&self, request: u64) -> Option<u64>
+        ensures { result ≡ first_stamp self.now.network request (reverse self.now.lines) }
+    {
+        self.kept.first_stamp(request)
+    }
+
+    /// The nodes, and what is kept of the lines.
+    pub(crate) fn inside(&self) -> (&Nodes, &Kept)
+        ensures network { result.0.now ≡ self.now.network }
+        ensures kept { IsKept self.now.network result.1.now (length (reverse self.now.lines))
+            (machine self.now.network (reverse self.now.lines)) }
+    {
+        (&self.nodes, &self.kept)
     }
 
     /// How many lines were fed so far.

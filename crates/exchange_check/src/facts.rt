@@ -2,7 +2,9 @@
 
 ghost use Rattle.std.specs.Prelude.{◌≡◌};
 ghost use Rattle.exchange_check.specs.Inner.Telling.{known_again, hears_earlier};
+ghost use Rattle.exchange_check.specs.Inner.Noting.{line_of_fact};
 
+use crate::kept_line::KeptLine;
 use crate::residence::Residence;
 use network_model::{Event, Name};
 use ptp_units::{ScaledTime, Seq};
@@ -60,6 +62,23 @@ impl Fact {
         }
     }
 
+    /// What is told of the line.
+    pub(crate) fn told(&self) -> KeptLine
+        ensures { result ≡ line_of_fact self.now }
+    {
+        KeptLine {
+            number: self.line,
+            event: self.event,
+            reading: self.reading,
+            sequence: self.number,
+            made: self.made,
+            completes: self.completes,
+            reads_right: self.reads_right,
+            writes_right: self.writes_right,
+            last_sync: self.last_sync,
+        }
+    }
+
     /// Whether the copy that the line hears, if any, was made before it.
     pub(crate) fn hears_earlier(&self) -> bool
         ensures { result ≡ hears_earlier self.now }
@@ -86,6 +105,8 @@ pub(crate) struct Site {
     pub(crate) last_request: Option<u64>,
     /// The master that it was told last, and the number of that line.
     pub(crate) set_master: Option<(Name, u64)>,
+    /// The number of the line that set its clock last.
+    pub(crate) last_step: Option<u64>,
 }
 
 /// What is known of a line from the line itself and from its node.

@@ -1,7 +1,7 @@
 //! How a report is judged by what is kept: in `Inner.Judged` each `x_by` is `x`, `x_line` or `are_x` of
 //! `trace_model`'s `Sound`, as `proofs/Exchanges` and `proofs/Standing` show.
 
-ghost use Rattle.std.specs.Prelude.{◌≡◌, ◌+◌, ◌<◌, ◌-ℤ◌, ◌&&◌, pos, option_map};
+ghost use Rattle.std.specs.Prelude.{◌≡◌, ◌+◌, ◌<◌, ◌-ℤ◌, ◌&&◌, pos, option_map, Some};
 ghost use Rattle.std.specs.Ordering.{int_eq};
 ghost use Rattle.ptp_units.specs.Exchange.{offset2, path2};
 ghost use Rattle.ptp_units.specs.Moment.{bound};
@@ -15,6 +15,7 @@ ghost use Rattle.exchange_check.specs.Inner.Judged.{is_told, of_master_by, readi
 ghost use Rattle.exchange_check.specs.Inner.Judged.{bracket_by, results_of_by, results_by, octets_by, IsElapsed};
 ghost use Rattle.exchange_check.specs.Inner.Judged.{journeys_judgement_by, alone, found_judgement, judgement_by};
 ghost use Rattle.exchange_check.specs.Inner.Machine.{facts_of, sites_of, stamps_of};
+ghost use Rattle.exchange_check.specs.Inner.Found.{of_report};
 
 use crate::facts::{Fact, Found, FoundJourney, Site};
 use crate::kept::Kept;
@@ -26,7 +27,7 @@ use ptp_units::ScaledTime;
 use trace_model::{Judgement, Reasons, Results, Why};
 
 /// Whether a report is of the line of this number.
-fn is_of_line(number: u64, report: &Report) -> bool
+pub(crate) fn is_of_line(number: u64, report: &Report) -> bool
     ensures { result ≡ is_of_line number report.now }
 {
     let heard = match report.follow_tag {
@@ -48,7 +49,7 @@ fn are_later(number: u64, report: &Report) -> bool
 }
 
 /// Whether two ports have one domainNumber.
-fn is_domain(one: &Option<Port>, other: &Option<Port>) -> bool
+pub(crate) fn is_domain(one: &Option<Port>, other: &Option<Port>) -> bool
     ensures { result ≡ is_domain (option_map port_setup one.now) (option_map port_setup other.now) }
 {
     match (one, other) {
@@ -58,7 +59,7 @@ fn is_domain(one: &Option<Port>, other: &Option<Port>) -> bool
 }
 
 /// Whether the Follow_Up follows the Sync of this line; without a Follow_Up, whether it is one-step.
-fn is_followed(follow: &Option<Fact>, origin: &Fact) -> bool
+pub(crate) fn is_followed(follow: &Option<Fact>, origin: &Fact) -> bool
     ensures { result ≡ is_followed_by follow.now origin.now }
 {
     match follow {
@@ -126,7 +127,7 @@ fn fraction_sent(origin: &Fact) -> u16
 }
 
 /// Whether the correctionField holds the residence of a journey.
-fn fits(journey: &FoundJourney) -> bool
+pub(crate) fn fits(journey: &FoundJourney) -> bool
     ensures { result ≡ fits_by journey.now }
 {
     u128::from(fraction_sent(&journey.origin)) + journey.kept.residence.units() < (1 << 63) - 1
@@ -179,7 +180,7 @@ fn path2(a: i128, b: i128) -> i128
 }
 
 /// The two results of the readings.
-fn results_of(found: &Found, sync: &FoundJourney, request: &FoundJourney) -> Results
+pub(crate) fn results_of(found: &Found, sync: &FoundJourney, request: &FoundJourney) -> Results
     ensures { result ≡ results_of_by found.now sync.now request.now }
 {
     let a = bracket(&found.sync_arrival, sync);
@@ -198,7 +199,7 @@ fn is_number(one: i128, other: i128) -> bool
 }
 
 /// Whether these are the two results of a report.
-fn are_results(report: &Report, results: &Results) -> bool
+pub(crate) fn are_results(report: &Report, results: &Results) -> bool
     ensures { result ≡ results_by report.now results.now }
 {
     is_number(report.offset2, results.offset2) && is_number(report.path2, results.path2)
@@ -268,7 +269,7 @@ pub(crate) enum LineKind {
 
 impl LineKind {
     /// Whether an event is of this kind.
-    fn is_of(self, event: &Event) -> bool
+    pub(crate) fn is_of(self, event: &Event) -> bool
         ensures { result ≡ is_of_kind self event.now }
     {
         match self {
@@ -292,7 +293,7 @@ impl Kept {
     }
 
     /// The line that made the copy which is heard at a line, and stands before it.
-    fn sender(&self, fact: &Fact) -> Option<Fact>
+    pub(crate) fn sender(&self, fact: &Fact) -> Option<Fact>
         ensures { result ≡ sender_by (facts_of self.now) fact.now }
     {
         let copy = fact.event.heard_copy()?;
@@ -381,8 +382,19 @@ impl Kept {
         })
     }
 
+    /// The lines of a report of the line of this number, where that counts.
+    pub(crate) fn found_at(&self, number: u64, report: &Report) -> Option<Found>
+        ensures { result ≡ of_report (facts_of self.now) (stamps_of self.now) (λ fact found. Some found) number
+            report.now }
+    {
+        match self.at(number) {
+            Some(fact) => self.found(&fact.event.node(), fact.line, report),
+            None => None,
+        }
+    }
+
     /// The journey of the copy that the line of this number made.
-    fn found_journey_at(&self, copy: u64) -> Option<FoundJourney>
+    pub(crate) fn found_journey_at(&self, copy: u64) -> Option<FoundJourney>
         ensures { result ≡ found_journey_at (facts_of self.now) copy }
     {
         let kept = self.kept_journey_at(copy)?;

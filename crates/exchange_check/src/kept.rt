@@ -1,29 +1,33 @@
 //! What is kept of the lines so far, and what one more line adds to it.
 
 ghost use Rattle.std.specs.Prelude.{◌≡◌, ◌≤ℤ◌, ◌+ℤ◌, ◌+◌, pos, option_map, option_and_then, unwrap_or, IfSome, ℕ, true};
-ghost use Rattle.std.specs.Prelude.{◌==◌, Some, None, OnOk, OnErr, ◌<◌, MatchResult, IfOk};
+ghost use Rattle.std.specs.Prelude.{◌==◌, Some, None, OnOk, OnErr, ◌<◌, ◌-◌, length, MatchResult, IfOk};
 ghost use Rattle.std.specs.BTreeMap.{get};
 ghost use Rattle.std.specs.Ordering.{nat_cmp};
 ghost use Rattle.exchange_check.specs.Inner.Machine.{accepted_count};
 ghost use Rattle.exchange_check.specs.Inner.Machine.{Machine, IsKept, start, line_judgement_by, with_judgement};
 ghost use Rattle.exchange_check.specs.Inner.Machine.{after_line, judgement_after, sites_told};
 ghost use Rattle.exchange_check.specs.Inner.Machine.{leaves_told, stamps_told, facts_of, sites_of, stamps_of};
+ghost use Rattle.exchange_check.specs.Inner.Machine.{firsts_told, firsts_of};
 ghost use Rattle.exchange_check.specs.Inner.Stays.{stay_of, once_in, StaysAfter};
 ghost use Rattle.network_model.specs.Kinds.{named_transit};
+ghost use Rattle.network_model.specs.Run.{site_of};
 ghost use Rattle.network_model.specs.Network.{Network};
 ghost use Rattle.std.specs.Option.{option_map_or};
-ghost use Rattle.exchange_check.specs.Inner.Kept.{stamped, sites_after, leaves_after, stamps_after};
+ghost use Rattle.exchange_check.specs.Inner.Kept.{stamped, sites_after, leaves_after, firsts_after, stamps_after};
 ghost use Rattle.exchange_check.specs.Inner.Kept.{has_site, kept_journey_at, copy_entered_by, stayed, begun_by};
 ghost use Rattle.exchange_check.specs.Inner.Kept.{kept_journey_by, message_after_by, followed_by, answered_by};
 ghost use Rattle.exchange_check.specs.Inner.Kept.{message_by, known_by, number_by, fact_known, fact_from};
 ghost use Rattle.exchange_check.specs.Inner.Kept.{kept_journey_left, written_journey, port_setup};
 ghost use Rattle.exchange_check.specs.Inner.Telling.{message_at_by};
+ghost use Rattle.exchange_check.specs.Inner.Noting.{line_of_fact, is_made_at};
 ghost use Rattle.ptp_units.specs.Sequence.{of_count};
 ghost use Rattle.event_codec.specs.Profile.{contents_of};
 ghost use Rattle.trace_model.specs.Record.{is_reading};
 
 use crate::facts::{Fact, KeptJourney, Known, Site};
 use crate::good::{completes, counts, is_made};
+use crate::kept_line::KeptLine;
 use crate::lookup::Lookup;
 use crate::octets::{Port, delay_resp, is_written, master_at, resided, sent, slave_at};
 use crate::refusal::CheckFault;
@@ -147,6 +151,68 @@ impl Kept {
             Some(Some(fact)) => Some(fact),
             _ => None,
         }
+    }
+
+    /// The number of the last line; 0 also where there is none.
+    pub(crate) fn last_number(&self) -> u64
+        ensures { result ≡ length self.now.facts.items - 1 }
+    {
+        (self.facts.len() as u64).saturating_sub(1)
+    }
+
+    /// What is kept of the node of a line.
+    pub(crate) fn site_of(&self, nodes: &Nodes, fact: &Fact) -> Site
+        ensures { result ≡ sites_of nodes.now self.now (site_of fact.now.event) }
+    {
+        let node = fact.event.node();
+        self.site(&Lookup::new(nodes, node), &node)
+    }
+
+    /// What is told of the line of this number, where it counts.
+    pub(crate) fn told_at(&self, number: u64) -> Option<KeptLine>
+        ensures { result ≡ option_map line_of_fact (facts_of self.now number) }
+    {
+        match self.at(number) {
+            Some(fact) => Some(fact.told()),
+            None => None,
+        }
+    }
+
+    /// Whether the line of this number counts and made a message.
+    pub(crate) fn is_made_at(&self, number: u64) -> bool
+        ensures { result ≡ is_made_at (facts_of self.now) number }
+    {
+        match self.at(number) {
+            Some(fact) => fact.made,
+            None => false,
+        }
+    }
+
+    /// The line that sent the message of which the line of this number made a copy.
+    pub(crate) fn origin_at(&self, number: u64) -> Option<u64>
+        ensures { result ≡ option_map (λ journey. journey.origin) (kept_journey_at (facts_of self.now) number) }
+    {
+        match self.kept_journey_at(number) {
+            Some(journey) => Some(journey.origin),
+            None => None,
+        }
+    }
+
+    /// The last line that told a slave its master.
+    pub(crate) fn master_told(&self, nodes: &Nodes, slave: &Name) -> Option<u64>
+        ensures { result ≡ option_map (λ set. set.1) (sites_of nodes.now self.now slave.now).set_master }
+    {
+        match self.site(&Lookup::new(nodes, *slave), slave).set_master {
+            Some((_, number)) => Some(number),
+            None => None,
+        }
+    }
+
+    /// The first line by which a slave learned when the request of this number departed.
+    pub(crate) fn first_stamp(&self, request: u64) -> Option<u64>
+        ensures { result ≡ stamps_of self.now request }
+    {
+        self.stamps.get(&request).copied()
     }
 
     /// What is kept of a node.
@@ -359,11 +425,14 @@ impl Kept {
             (sites_of nodes.now self.new ≡ sites_after fact.now.event number (sites_of nodes.now self.old)) }
         ensures stays { StaysAfter self.old.stays self.new.stays number (stay_of (facts_of self.old) number fact.now)
             (leaves_after fact.now.event) result }
+        ensures firsts { OnOk result (firsts_of self.new
+            ≡ firsts_after fact.now.event number (firsts_of self.old)) }
         ensures stamps { OnOk result (stamps_of self.new
             ≡ stamps_after fact.now.event number (sites_of nodes.now self.old) (stamps_of self.old)) }
         ensures facts { self.new.facts ≡ self.old.facts }
         ensures verdict { self.new.verdict ≡ self.old.verdict }
         ensures same_sites { OnErr result (sites_of nodes.now self.new ≡ sites_of nodes.now self.old) }
+        ensures same_firsts { OnErr result (firsts_of self.new ≡ firsts_of self.old) }
         ensures same_stamps { OnErr result (stamps_of self.new ≡ stamps_of self.old) }
     {
         match &fact.event {
@@ -395,11 +464,13 @@ impl Kept {
             (sites_of nodes.now self.new ≡ sites_told fact.now number (sites_of nodes.now self.old)) }
         ensures stays { StaysAfter self.old.stays self.new.stays number
             (option_and_then (stay_of (facts_of self.old) number) fact.now) (leaves_told fact.now) result }
+        ensures firsts { OnOk result (firsts_of self.new ≡ firsts_told fact.now number (firsts_of self.old)) }
         ensures stamps { OnOk result
             (stamps_of self.new ≡ stamps_told fact.now number (sites_of nodes.now self.old) (stamps_of self.old)) }
         ensures facts { self.new.facts ≡ self.old.facts }
         ensures verdict { self.new.verdict ≡ self.old.verdict }
         ensures same_sites { OnErr result (sites_of nodes.now self.new ≡ sites_of nodes.now self.old) }
+        ensures same_firsts { OnErr result (firsts_of self.new ≡ firsts_of self.old) }
         ensures same_stamps { OnErr result (stamps_of self.new ≡ stamps_of self.old) }
     {
         match fact {

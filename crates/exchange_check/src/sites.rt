@@ -33,6 +33,7 @@ fn moved(event: &Event, number: u64, site: Site) -> Site
         },
         Event::StepClock { diff, .. } => Site {
             difference: *diff,
+            last_step: Some(number),
             ..site
         },
         _ => site,

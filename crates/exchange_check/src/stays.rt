@@ -10,7 +10,7 @@ ghost use Rattle.std.specs.Prelude.{◌≡◌, ℕ, ◌<◌, ◌+◌, true, fals
 ghost use Rattle.std.specs.Prelude.{None, option_map, length, OnOk, OnErr};
 ghost use Rattle.std.specs.BTreeMap.{get};
 ghost use Rattle.std.specs.Ordering.{nat_cmp};
-ghost use Rattle.exchange_check.specs.Inner.Kept.{Leaves, left_again};
+ghost use Rattle.exchange_check.specs.Inner.Kept.{Leaves, left_again, first_kept};
 ghost use Rattle.exchange_check.specs.Inner.Stays.{LastStays, with_stay, is_once, root, state_in, with_state};
 ghost use Rattle.exchange_check.specs.Inner.Stays.{with_first, AreStays, StaysAfter, once_in};
 
@@ -169,6 +169,7 @@ impl Stays {
             → get nat_cmp self.old.firsts transit ≡ Some number → is_once (leaves transit) ≡ true
             → ((other : ℕ) → get nat_cmp self.old.firsts other ≡ Some number → other ≡ transit)
             → AreStays self.new (with_stay number (Some (transit, from)) stays) leaves (number + 1) }
+        ensures firsts { self.new.firsts ≡ self.old.firsts }
     {
         let parent = self.at(from);
         if parent.once {
@@ -194,7 +195,7 @@ impl Stays {
     }
 
     /// The first Leave line of a stay.
-    fn first(&self, transit: u64) -> Option<u64>
+    pub(crate) fn first(&self, transit: u64) -> Option<u64>
         ensures { result ≡ get nat_cmp self.now.firsts transit }
     {
         self.firsts.get(&transit).copied()
@@ -223,8 +224,11 @@ impl Stays {
         from: Option<u64>,
     ) -> Result<(), CheckFault>
         requires { IfSome from (λ copy. copy < number) }
-        ensures { StaysAfter self.old self.new number (option_map (λ copy. (transit, copy)) from)
+        ensures stays { StaysAfter self.old self.new number (option_map (λ copy. (transit, copy)) from)
             (left_again transit) result }
+        ensures firsts { OnOk result (get nat_cmp self.new.firsts
+            ≡ first_kept transit number (get nat_cmp self.old.firsts)) }
+        ensures same_firsts { OnErr result (get nat_cmp self.new.firsts ≡ get nat_cmp self.old.firsts) }
     {
         self.reach(number)?;
         if let Some(first) = self.first(transit) {

@@ -187,7 +187,7 @@ moved (Sync node at) n site = record site { syncs = record { 0 = next site.syncs
 moved (SyncOne node at) n site = record site { syncs = record { 0 = next site.syncs.0 } }
 moved (Request node at) n site = record site { requests = record { 0 = next site.requests.0 }; last_request = Some n }
 moved (SetMaster node master) n site = record site { set_master = Some (master, n) }
-moved (StepClock node diff) n site = record site { difference = diff }
+moved (StepClock node diff) n site = record site { difference = diff; last_step = Some n }
 moved _ n site = site
 
 -- a node of which no line told anything
@@ -199,6 +199,7 @@ new_site = record {
   last_sync = None;
   last_request = None;
   set_master = None;
+  last_step = None;
 }
 
 -- what is kept of each node, where they stand as in the network; of the others no line told anything
@@ -235,6 +236,18 @@ left_again transit leaves stay = if transit == stay then Some (is_some (leaves s
 -- the same after one more event
 abbrev pub leaves_after : Event → Leaves → Leaves
 leaves_after event leaves = option_map_or (λ transit. left_again transit leaves) (named_transit event) leaves
+
+-- the first Leave line of each stay
+abbrev pub Firsts : Type 0
+Firsts = ℕ → Option ℕ
+
+-- with this line, where the stay has none yet
+abbrev pub first_kept : (transit number : ℕ) → Firsts → Firsts
+first_kept transit number firsts stay = option_or (firsts stay) (if transit == stay then Some number else None)
+
+-- the same after an event at the line of this number
+abbrev pub firsts_after : Event → ℕ → Firsts → Firsts
+firsts_after event n firsts = option_map_or (λ transit. first_kept transit n firsts) (named_transit event) firsts
 
 -- the line at which the departure of the request of each number was learned
 abbrev pub Stamps : Type 0

@@ -14,8 +14,8 @@ use Rattle.trace_model.specs.declared.verdict.Verdict.{Verdict}
 use Rattle.trace_model.specs.declared.verdict.Verdict.TheVariants.{Accepted, Refused}
 use Rattle.trace_model.specs.Line.{Lines}
 use Rattle.trace_model.specs.Verdict.{report_in, one_more}
-use Rattle.exchange_check.specs.Inner.Kept.{Facts, Sites, Leaves, Stamps, new_site, fact_in, site_in}
-use Rattle.exchange_check.specs.Inner.Kept.{fact_by, sites_after, leaves_after, stamps_after}
+use Rattle.exchange_check.specs.Inner.Kept.{Facts, Sites, Leaves, Firsts, Stamps, new_site, fact_in, site_in}
+use Rattle.exchange_check.specs.Inner.Kept.{fact_by, sites_after, leaves_after, firsts_after, stamps_after}
 use Rattle.exchange_check.specs.Inner.Stays.{Once, last_stays, once_of, AreStays}
 use Rattle.exchange_check.specs.Inner.Judged.{judgement_by}
 
@@ -24,6 +24,7 @@ pub record Machine : Type 0 where
   pub facts : Facts
   pub sites : Sites
   pub leaves : Leaves
+  pub firsts : Firsts
   pub stamps : Stamps
   pub verdict : Verdict
 
@@ -33,6 +34,7 @@ start = record {
   facts = λ n. None;
   sites = λ name. new_site;
   leaves = λ n. None;
+  firsts = λ n. None;
   stamps = λ n. None;
   verdict = Accepted 0;
 }
@@ -50,6 +52,11 @@ sites_told (Some fact) n sites = sites_after fact.event n sites
 abbrev pub leaves_told : Option Fact → Leaves → Leaves
 leaves_told None leaves = leaves
 leaves_told (Some fact) leaves = leaves_after fact.event leaves
+
+-- what it changes for the first Leave lines
+abbrev pub firsts_told : Option Fact → ℕ → Firsts → Firsts
+firsts_told None n firsts = firsts
+firsts_told (Some fact) n firsts = firsts_after fact.event n firsts
 
 -- what it changes for requests
 abbrev pub stamps_told : Option Fact → ℕ → Sites → Stamps → Stamps
@@ -79,6 +86,7 @@ with_line_told network out n m fact = record {
   facts = with_fact m.facts n fact;
   sites = sites_told fact n m.sites;
   leaves = leaves_told fact m.leaves;
+  firsts = firsts_told fact n m.firsts;
   stamps = stamps_told fact n m.sites m.stamps;
   verdict = with_judgement (judgement_told network out n m fact) n m.verdict;
 }
@@ -108,6 +116,10 @@ sites_of network kept = site_in kept.sites.items network
 abbrev pub stamps_of : Kept → Stamps
 stamps_of kept = get nat_cmp kept.stamps
 
+-- what is kept of the first Leave lines
+abbrev pub firsts_of : Kept → Firsts
+firsts_of kept = get nat_cmp kept.stays.firsts
+
 -- how many report lines are accepted
 abbrev pub accepted_count : Verdict → ℕ
 accepted_count (Accepted count) = count
@@ -119,6 +131,7 @@ pub record IsKept (network : Network) (kept : Kept) (count : ℕ) (m : Machine) 
   pub facts : facts_of kept ≡ m.facts
   pub sites : sites_of network kept ≡ m.sites
   pub stays : AreStays kept.stays (last_stays m.facts) m.leaves count
+  pub firsts : firsts_of kept ≡ m.firsts
   pub stamps : stamps_of kept ≡ m.stamps
   pub verdict : kept.verdict ≡ m.verdict
   pub within : accepted_count m.verdict ≤ count

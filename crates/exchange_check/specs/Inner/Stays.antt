@@ -11,7 +11,7 @@ use Rattle.exchange_check.specs.declared.facts.Fact.{Fact}
 use Rattle.exchange_check.specs.declared.refusal.CheckFault.{CheckFault}
 use Rattle.exchange_check.specs.declared.stays.CopyState.{CopyState}
 use Rattle.exchange_check.specs.declared.stays.Stays.{Stays}
-use Rattle.exchange_check.specs.Inner.Kept.{Facts, Leaves}
+use Rattle.exchange_check.specs.Inner.Kept.{Facts, Leaves, Firsts}
 
 -- the last stay of each copy whose journey is known: the number of its Enter line, and the copy that entered there
 abbrev pub LastStays : Type 0
@@ -90,11 +90,7 @@ depths states copy = (states copy).depth
 abbrev pub nexts : CopyStates → ℕ → Option ℕ
 nexts states copy = (states copy).next
 
--- the first Leave line of each stay
-abbrev pub Firsts : Type 0
-Firsts = ℕ → Option ℕ
-
--- with that of one more stay
+-- the first Leave line of each stay, with that of one more stay
 abbrev pub with_first : (transit number : ℕ) → Firsts → Firsts
 with_first transit number firsts stay = if transit == stay then Some number else firsts stay
 

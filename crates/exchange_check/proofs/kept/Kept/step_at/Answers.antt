@@ -6,6 +6,7 @@ use Rattle.exchange_check.specs.declared.kept.Kept.{Kept}
 use Rattle.exchange_check.specs.Inner.Kept.{Leaves, has_site, fact_in, fact_from, fact_by, kept_journey_by}
 use Rattle.exchange_check.specs.Inner.Stays.{LastStays, stay_of, with_stay, AreStays}
 use Rattle.exchange_check.specs.Inner.Machine.{facts_of, sites_of, stamps_of, sites_told, leaves_told, stamps_told}
+use Rattle.exchange_check.specs.Inner.Machine.{firsts_of, firsts_told}
 use Rattle.exchange_check.proofs.KeptSites.{fact-there}
 use Rattle.exchange_check.proofs.Keeping.{IsKept-line, judgement-line, accepted-bound}
 use Rattle.exchange_check.proofs.kept.Kept.step_at.Goals as goal
@@ -27,6 +28,8 @@ returns c =
     let stamps : stamps_of c.note_fact.new.self
     ≡ stamps_told c.fact-fact.result c.len-number.result (sites_of c.args.nodes.now c.args.self.now)
     (stamps_of c.args.self.now) = search rules in
+    let firsts : firsts_of c.note_fact.new.self
+    ≡ firsts_told c.fact-fact.result c.len-number.result (firsts_of c.args.self.now) = search rules in
     let known = c.known-known.ensures in
     let journey : c.in_ok-journey.journey
     ≡ kept_journey_by (facts_of c.args.self.now) c.known-known.result c.args.line.now.event = c.in_ok-journey.ensures in
@@ -54,7 +57,7 @@ returns c =
           let below : count < c.len-total.result = omega (arith, h.count_is, total) in (
             IsKept-line c.args.nodes.now c.args.line.now count m c.args.self.now c.len-number.result c.fact-fact.result
                 c.push.new.self.items h number fact pushed after (c.len-total.result - 1) c.line_judgement-answer.result
-                last (λ i. (c.note_fact.ensures.facts i).items) sites stays_are stamps c.line_judgement-answer.ensures
+                last (λ i. (c.note_fact.ensures.facts i).items) sites stays_are firsts stamps c.line_judgement-answer.ensures
                 (c.with_judgement-verdict.ensures
                 (accepted-bound c.args.nodes.now c.args.self.now count m c.len-total.result h below bound)),
             judgement-line c.args.nodes.now c.args.line.now count m c.args.self.now c.len-number.result

@@ -7,8 +7,8 @@ use Rattle.std.specs.Prelude.{is_some}
 use Rattle.std.proofs.lemmas.Bool.Decides.{nat_tests}
 use Rattle.std.proofs.lemmas.Option.{same_Some, none-some}
 use Rattle.exchange_check.specs.declared.stays.CopyState.{CopyState}
-use Rattle.exchange_check.specs.Inner.Kept.{left_again}
-use Rattle.exchange_check.specs.Inner.Stays.{CopyStates, Firsts, AreCopyStates, state_in, with_state}
+use Rattle.exchange_check.specs.Inner.Kept.{left_again, Firsts}
+use Rattle.exchange_check.specs.Inner.Stays.{CopyStates, AreCopyStates, state_in, with_state}
 use Rattle.exchange_check.proofs.CopyStates.{with_state-here, with_state-there}
 use Rattle.exchange_check.proofs.Links.{link, links, links_with, deep_within}
 use Rattle.exchange_check.proofs.Cutting.{cut_flat, cut_start, cut_step, cut_done}

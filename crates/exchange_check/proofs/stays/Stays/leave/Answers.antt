@@ -1,17 +1,21 @@
-use Rattle.std.proofs.Common.{◌≡◌, ◌∙◌, ℕ, ◌+◌, true, false, Option, Some, None, refl, sym, ap, subst, arith}
+use Rattle.std.proofs.Common.{◌≡◌, ◌∙◌, ℕ, ◌+◌, Bool, true, false, cond, eqb, Option, Some, None, refl, sym, ap, subst}
+use Rattle.std.proofs.Common.{arith}
 use Rattle.std.specs.Prelude.{option_map, is_some}
 use Rattle.std.specs.BTreeMap.{get}
 use Rattle.std.specs.Ordering.{nat_cmp}
-use Rattle.exchange_check.specs.Inner.Kept.{Leaves, left_again}
-use Rattle.exchange_check.specs.Inner.Stays.{is_once, CopyStates, Firsts, LastStays, AreCopyStates}
+use Rattle.std.specs.Option.{option_or}
+use Rattle.std.proofs.lemmas.Bool.{eqb-true}
+use Rattle.exchange_check.specs.Inner.Kept.{Leaves, left_again, Firsts, first_kept}
+use Rattle.exchange_check.proofs.Noted.{or_nothing}
+use Rattle.exchange_check.specs.Inner.Stays.{is_once, CopyStates, LastStays, AreCopyStates}
 use Rattle.exchange_check.specs.Inner.Stays.{AreStays, with_first, with_stay, state_in}
 use Rattle.exchange_check.proofs.CopyStates.{same_states, one_more, with_none, unused, first_named}
 use Rattle.exchange_check.proofs.CopyStates.{named_here, named_alone, ended_once, left_again_of}
 use Rattle.exchange_check.proofs.CopyStates.{with_state-here, with_state-there}
 use Rattle.exchange_check.proofs.stays.Stays.leave.Goals as goal
 
-pub returns-then-is_some : goal.returns-then-is_some
-returns-then-is_some c stays leaves h =
+pub returns-then-is_some-clause-stays : goal.returns-then-is_some-clause-stays
+returns-then-is_some-clause-stays c stays leaves h =
     let n : ℕ = c.args.number in
     let transit : ℕ = c.args.transit in
     let old : CopyStates = state_in c.args.self.now.states.items in
@@ -40,8 +44,8 @@ returns-then-is_some c stays leaves h =
     (λ x e. (λ i. c.set.ensures.states i x) ∙ with_state-there cut n _ x e)
     c.args.from (sym c.is_some.ensures ∙ c.if-is_some.true) c.requires)
 
-pub returns-else-is_some : goal.returns-else-is_some
-returns-else-is_some c stays leaves h =
+pub returns-else-is_some-clause-stays : goal.returns-else-is_some-clause-stays
+returns-else-is_some-clause-stays c stays leaves h =
     let n : ℕ = c.args.number in
     let transit : ℕ = c.args.transit in
     let cut : CopyStates = state_in c.cut.new.self.states.items in
@@ -87,8 +91,8 @@ module _ (old reached named : CopyStates) (firsts firsts_reached firsts_named : 
   pub now_once : is_once (left_again transit leaves transit) ≡ true
   now_once = ended_once reached firsts_reached stays leaves n transit before none
 
-pub returns-in-Some-from : goal.returns-in-Some-from
-returns-in-Some-from c stays leaves h =
+pub returns-in-Some-from-clause-stays : goal.returns-in-Some-from-clause-stays
+returns-in-Some-from-clause-stays c stays leaves h =
     let n : ℕ = c.args.number in
     let transit : ℕ = c.args.transit in
     let old : CopyStates = state_in c.args.self.now.states.items in
@@ -110,8 +114,8 @@ returns-in-Some-from c stays leaves h =
     (now_once old reached named firsts before now stays leaves n transit c.reach.ensures.states f k g none h)
     (now_alone old reached named firsts before now stays leaves n transit c.reach.ensures.states f k g none h))
 
-pub returns-in_default-from : goal.returns-in_default-from
-returns-in_default-from c stays leaves h =
+pub returns-in_default-from-clause-stays : goal.returns-in_default-from-clause-stays
+returns-in_default-from-clause-stays c stays leaves h =
     let n : ℕ = c.args.number in
     let transit : ℕ = c.args.transit in
     let old : CopyStates = state_in c.args.self.now.states.items in
@@ -128,3 +132,66 @@ returns-in_default-from c stays leaves h =
     c.in_default-from.is ∙ with_none n stays (unused old firsts stays leaves n h) in
     subst (λ (s : LastStays). AreStays c.keep_first.new.self s (left_again transit leaves) (n + 1)) (sym none_made)
     (now_named old reached named firsts before now stays leaves n transit c.reach.ensures.states f k g none h)
+
+-- a stay that was left before has its first Leave line already
+again : (transit first n : ℕ) (firsts : Firsts) → firsts transit ≡ Some first → firsts ≡ first_kept transit n firsts
+again transit first n firsts h = λ i stay. by stay (eqb transit stay) refl i
+  where
+    by : (stay : ℕ) (b : Bool) → eqb transit stay ≡ b → firsts stay ≡ option_or (firsts stay) (cond b (Some n) None)
+    by stay false e = sym (or_nothing (firsts stay))
+    by stay true e =
+        let there : firsts stay ≡ Some first = ap firsts (sym (eqb-true transit stay e)) ∙ h in
+        there ∙ sym (ap (λ (o : Option ℕ). option_or o (Some n)) there)
+
+-- and else it has this one
+anew : (transit n : ℕ) (firsts : Firsts) → firsts transit ≡ None
+    → with_first transit n firsts ≡ first_kept transit n firsts
+anew transit n firsts h = λ i stay. by stay (eqb transit stay) refl i
+  where
+    by : (stay : ℕ) (b : Bool) → eqb transit stay ≡ b
+        → cond b (Some n) (firsts stay) ≡ option_or (firsts stay) (cond b (Some n) None)
+    by stay false e = sym (or_nothing (firsts stay))
+    by stay true e =
+        let none : firsts stay ≡ None = ap firsts (sym (eqb-true transit stay e)) ∙ h in
+        sym (ap (λ (o : Option ℕ). option_or o (Some n)) none)
+
+module _ (transit first n : ℕ) (old reached cut : Firsts) (f : reached ≡ old) (k : cut ≡ reached)
+    (h : reached transit ≡ Some first) where
+  left_before : cut ≡ first_kept transit n old
+  left_before = k ∙ again transit first n reached h ∙ ap (first_kept transit n) f
+
+pub returns-then-is_some-clause-firsts : goal.returns-then-is_some-clause-firsts
+returns-then-is_some-clause-firsts c =
+    left_before c.args.transit c.in-Some.first c.args.number (get nat_cmp c.args.self.now.firsts)
+    (get nat_cmp c.reach.new.self.firsts) (get nat_cmp c.set.new.self.firsts)
+    (ap (get nat_cmp) c.reach.ensures.firsts)
+    (ap (get nat_cmp) c.set.ensures.firsts ∙ ap (get nat_cmp) c.cut.ensures.firsts)
+    (sym c.first.ensures ∙ c.in-Some.is)
+
+pub returns-else-is_some-clause-firsts : goal.returns-else-is_some-clause-firsts
+returns-else-is_some-clause-firsts c =
+    left_before c.args.transit c.in-Some.first c.args.number (get nat_cmp c.args.self.now.firsts)
+    (get nat_cmp c.reach.new.self.firsts) (get nat_cmp c.cut.new.self.firsts)
+    (ap (get nat_cmp) c.reach.ensures.firsts)
+    (ap (get nat_cmp) c.cut.ensures.firsts)
+    (sym c.first.ensures ∙ c.in-Some.is)
+
+module _ (transit n : ℕ) (old reached named : Firsts) (f : reached ≡ old)
+    (g : named ≡ with_first transit n reached) (none : reached transit ≡ None) where
+  left_first : named ≡ first_kept transit n old
+  left_first = g ∙ anew transit n reached none ∙ ap (first_kept transit n) f
+
+pub returns-in-Some-from-clause-firsts : goal.returns-in-Some-from-clause-firsts
+returns-in-Some-from-clause-firsts c =
+    ap (get nat_cmp) c.grow.ensures.firsts
+    ∙ left_first c.args.transit c.args.number (get nat_cmp c.args.self.now.firsts)
+    (get nat_cmp c.reach.new.self.firsts) (get nat_cmp c.keep_first.new.self.firsts)
+    (ap (get nat_cmp) c.reach.ensures.firsts) c.in_ok-keep_first.ensures.named
+    (sym c.first.ensures ∙ c.in_default.is)
+
+pub returns-in_default-from-clause-firsts : goal.returns-in_default-from-clause-firsts
+returns-in_default-from-clause-firsts c =
+    left_first c.args.transit c.args.number (get nat_cmp c.args.self.now.firsts)
+    (get nat_cmp c.reach.new.self.firsts) (get nat_cmp c.keep_first.new.self.firsts)
+    (ap (get nat_cmp) c.reach.ensures.firsts) c.in_ok-keep_first.ensures.named
+    (sym c.first.ensures ∙ c.in_default.is)

@@ -1,0 +1,347 @@
+//! Tables of what is out of the ordinary in lines, by the numbers of lines.
+
+ghost use Rattle.std.specs.Prelude.{◌≡◌, ◌∷◌, OnOk, option_map, Some, length};
+ghost use Rattle.std.specs.BTreeMap.{get};
+ghost use Rattle.std.specs.Ordering.{nat_cmp};
+ghost use Rattle.trace_model.specs.Line.{Lines};
+ghost use Rattle.exchange_check.specs.Evidence.{octets_in, octets_told, stops_in, came_of, told_by, noted};
+ghost use Rattle.exchange_check.specs.Inner.Machine.{IsKept, machine};
+ghost use Rattle.exchange_check.specs.Inner.Machine.{facts_of, firsts_of};
+ghost use Rattle.exchange_check.specs.Inner.Noting.{with_entry, octets_entry, reading_entry, is_left_again, seconds_with};
+ghost use Rattle.exchange_check.specs.Inner.Noting.{reading_found, stay_found, first_reading_left, first_reading_by};
+ghost use Rattle.exchange_check.specs.Inner.Noting.{octets_found, first_octets_left, first_octets_by, stop_entry, slim};
+ghost use Rattle.exchange_check.specs.Inner.Noting.{AreNone, NotesLine};
+
+use crate::facts::{Fact, Site};
+use crate::kept::Kept;
+use crate::kept_line::{Came, Uncounted, WrongReading};
+use crate::refusal::CheckFault;
+use crate::ways::Stop;
+use arrayvec::ArrayVec;
+use network_model::Nodes;
+use ptp_units::ScaledTime;
+use std::alloc::Global;
+use std::collections::BTreeMap;
+use trace_model::{Finding, TraceLine, TraceOut};
+
+/// What is out of the ordinary in the lines so far.
+#[derive(Drop)]
+pub(crate) struct Exceptions {
+    /// Of each line that counts and made a message whose octets aren't right: these octets.
+    pub(crate) octets: BTreeMap<u64, ArrayVec<u8, 54>>,
+    /// Of each line that counts, has a true moment and a reading that isn't right.
+    pub(crate) readings: BTreeMap<u64, WrongReading>,
+    /// Of each line that doesn't count.
+    pub(crate) uncounted: BTreeMap<u64, Uncounted>,
+    /// Of each stay that was left twice, by the number that its Leave lines name: the second of these.
+    pub(crate) seconds: BTreeMap<u64, u64>,
+    /// Of each copy on whose journey a reading is wrong: the first thing that is.
+    pub(crate) first_readings: BTreeMap<u64, Finding>,
+    /// Of each copy on whose journey octets are wrong: the first line that has such.
+    pub(crate) first_octets: BTreeMap<u64, u64>,
+    /// Of each copy that left a clock, and whose journey can't be followed: where it stops.
+    pub(crate) stops: BTreeMap<u64, Stop>,
+}
+
+/// Puts a value under a number, where there is one.
+fn put<V: Drop>(map: &mut BTreeMap<u64, V>, number: u64, value: Option<V>) -> Result<(), CheckFault>
+    ensures { OnOk result (get nat_cmp map.new ≡ with_entry number value (get nat_cmp map.old)) }
+{
+    let Some(value) = value else {
+        return Ok(());
+    };
+    match map.insert(number, value) {
+        Ok(_) => Ok(()),
+        Err(_) => Err(CheckFault::Memory),
+    }
+}
+
+/// What came of an event that doesn't count.
+fn came(out: &TraceOut) -> Came
+    ensures { result ≡ came_of out.now }
+{
+    match out {
+        TraceOut::Refused(code) => Came::Refused(*code),
+        TraceOut::Ignored(code) => Came::Ignored(*code),
+        _ => Came::Otherwise,
+    }
+}
+
+/// The octets of a line that counts, where they aren't right.
+fn wrong_octets(fact: &Fact, out: &TraceOut) -> Option<ArrayVec<u8, 54>>
+    ensures { option_map (λ octets. octets.items) result ≡ octets_entry fact.now out.now }
+{
+    match out {
+        TraceOut::Made(octets) if !fact.writes_right => Some(copied(octets)),
+        _ => None,
+    }
+}
+
+/// The same octets.
+pub(crate) fn copied(octets: &ArrayVec<u8, 54>) -> ArrayVec<u8, 54>
+    ensures { result.items ≡ octets.now.items }
+{
+    let mut copy = ArrayVec::new();
+    let _ = copy.try_extend_from_slice(octets.as_slice());
+    copy
+}
+
+/// The reading of a line that counts and has a true moment, where it isn't right.
+fn wrong_reading(site: &Site, fact: &Fact, reading: Option<ScaledTime>) -> Option<WrongReading>
+    ensures { result ≡ reading_entry site.now fact.now reading }
+{
+    if fact.reads_right || fact.event.true_moment().is_none() {
+        return None;
+    }
+    Some(WrongReading {
+        reading,
+        set: site.last_step,
+    })
+}
+
+impl Exceptions {
+    /// Nothing was noted yet.
+    pub(crate) fn new(alloc: Global) -> Exceptions
+        ensures { AreNone result }
+    {
+        Exceptions {
+            octets: BTreeMap::new(alloc),
+            readings: BTreeMap::new(alloc),
+            uncounted: BTreeMap::new(alloc),
+            seconds: BTreeMap::new(alloc),
+            first_readings: BTreeMap::new(alloc),
+            first_octets: BTreeMap::new(alloc),
+            stops: BTreeMap::new(alloc),
+        }
+    }
+
+    /// A line, the last of those that were kept.
+    pub(crate) fn note(
+        &mut self,
+        nodes: &Nodes,
+        kept: &Kept,
+        line: &TraceLine,
+    ) -> Result<(), CheckFault>
+        ensures { OnOk result ((earlier : Lines)
+            → IsKept nodes.now kept.now (length (line.now ∷ earlier)) (machine nodes.now (line.now ∷ earlier))
+            → told_by self.old ≡ noted nodes.now earlier → told_by self.new ≡ noted nodes.now (line.now ∷ earlier)) }
+    {
+        let number = kept.last_number();
+        match kept.at(number) {
+            Some(fact) => self.note_counted(kept, &kept.site_of(nodes, fact), fact, line),
+            None => self.note_uncounted(number, line),
+        }
+    }
+
+    /// A line that doesn't count.
+    fn note_uncounted(&mut self, number: u64, line: &TraceLine) -> Result<(), CheckFault>
+        ensures uncounted { OnOk result (get nat_cmp self.new.uncounted
+            ≡ with_entry number (Some (slim line.now)) (get nat_cmp self.old.uncounted)) }
+        ensures others { self.new ≡ record self.old { uncounted = self.new.uncounted } }
+    {
+        let uncounted = Uncounted {
+            event: line.event,
+            came: came(&line.out),
+        };
+        put(&mut self.uncounted, number, Some(uncounted))
+    }
+
+    /// A line that counts, which was kept already. This is what is kept of its node.
+    fn note_counted(
+        &mut self,
+        kept: &Kept,
+        site: &Site,
+        fact: &Fact,
+        line: &TraceLine,
+    ) -> Result<(), CheckFault>
+        ensures { OnOk result (NotesLine kept.now site.now fact.now line.now self.old self.new) }
+    {
+        self.note_octets(fact, &line.out)?;
+        self.note_reading(site, fact, line.reading)?;
+        self.note_leave(kept, fact)?;
+        self.note_first_reading(kept, fact)?;
+        self.note_first_octets(kept, fact)?;
+        self.note_stop(kept, fact)?;
+        Ok(())
+    }
+
+    fn note_octets(&mut self, fact: &Fact, out: &TraceOut) -> Result<(), CheckFault>
+        ensures octets { OnOk result (octets_told self.new
+            ≡ with_entry fact.now.line (octets_entry fact.now out.now) (octets_told self.old)) }
+        ensures others { self.new ≡ record self.old { octets = self.new.octets } }
+    {
+        put(&mut self.octets, fact.line, wrong_octets(fact, out))
+    }
+
+    fn note_reading(
+        &mut self,
+        site: &Site,
+        fact: &Fact,
+        reading: Option<ScaledTime>,
+    ) -> Result<(), CheckFault>
+        ensures readings { OnOk result (get nat_cmp self.new.readings
+            ≡ with_entry fact.now.line (reading_entry site.now fact.now reading) (get nat_cmp self.old.readings)) }
+        ensures others { self.new ≡ record self.old { readings = self.new.readings } }
+    {
+        put(
+            &mut self.readings,
+            fact.line,
+            wrong_reading(site, fact, reading),
+        )
+    }
+
+    fn note_first_reading(&mut self, kept: &Kept, fact: &Fact) -> Result<(), CheckFault>
+        ensures first_readings { OnOk result (get nat_cmp self.new.first_readings
+            ≡ with_entry fact.now.line (first_reading_by (facts_of kept.now) (get nat_cmp self.old.readings)
+            (get nat_cmp self.old.first_readings) fact.now) (get nat_cmp self.old.first_readings)) }
+        ensures others { self.new ≡ record self.old { first_readings = self.new.first_readings } }
+    {
+        let found = self.first_reading(kept, fact);
+        put(&mut self.first_readings, fact.line, found)
+    }
+
+    fn note_first_octets(&mut self, kept: &Kept, fact: &Fact) -> Result<(), CheckFault>
+        ensures first_octets { OnOk result (get nat_cmp self.new.first_octets
+            ≡ with_entry fact.now.line (first_octets_by (facts_of kept.now) (get nat_cmp self.old.first_octets) fact.now)
+            (get nat_cmp self.old.first_octets)) }
+        ensures others { self.new ≡ record self.old { first_octets = self.new.first_octets } }
+    {
+        let found = self.first_octets(kept, fact);
+        put(&mut self.first_octets, fact.line, found)
+    }
+
+    fn note_stop(&mut self, kept: &Kept, fact: &Fact) -> Result<(), CheckFault>
+        ensures stops { OnOk result (stops_in (get nat_cmp self.new.stops)
+            ≡ with_entry fact.now.line (stop_entry (facts_of kept.now) (stops_in (get nat_cmp self.old.stops)) fact.now)
+            (stops_in (get nat_cmp self.old.stops))) }
+        ensures others { self.new ≡ record self.old { stops = self.new.stops } }
+    {
+        let stop = kept.stop_kept(&self.stops, fact);
+        put(&mut self.stops, fact.line, stop)
+    }
+
+    /// Whether a stay is left for the second time at the line of this number.
+    fn is_left_again(&self, kept: &Kept, number: u64, transit: u64) -> bool
+        ensures { result ≡ is_left_again (firsts_of kept.now) (get nat_cmp self.now.seconds) number transit }
+    {
+        match kept.stays.first(transit) {
+            Some(first) => first < number && !self.seconds.contains_key(&transit),
+            None => false,
+        }
+    }
+
+    /// A message left a clock, maybe for the second time.
+    fn note_leave(&mut self, kept: &Kept, fact: &Fact) -> Result<(), CheckFault>
+        ensures seconds { OnOk result (get nat_cmp self.new.seconds
+            ≡ seconds_with (firsts_of kept.now) fact.now (get nat_cmp self.old.seconds)) }
+        ensures others { self.new ≡ record self.old { seconds = self.new.seconds } }
+    {
+        let Some(transit) = fact.event.named_transit() else {
+            return Ok(());
+        };
+        if self.is_left_again(kept, fact.line, transit) {
+            put(&mut self.seconds, transit, Some(fact.line))
+        } else {
+            Ok(())
+        }
+    }
+
+    /// What is wrong with the reading of a line that counts and has a true moment.
+    pub(crate) fn reading_finding(&self, fact: &Fact) -> Option<Finding>
+        ensures { result ≡ reading_found (get nat_cmp self.now.readings) fact.now }
+    {
+        if fact.reads_right {
+            return None;
+        }
+        let set = match self.readings.get(&fact.line) {
+            Some(wrong) => wrong.set,
+            None => None,
+        };
+        Some(Finding::WrongReading {
+            event: fact.line,
+            set,
+        })
+    }
+
+    /// What is wrong with the readings of a stay.
+    fn stay_finding(&self, entered: &Fact, left: &Fact) -> Option<Finding>
+        ensures { result ≡ stay_found (get nat_cmp self.now.readings) entered.now left.now }
+    {
+        if let Some(found) = self.reading_finding(entered) {
+            return Some(found);
+        }
+        if let Some(found) = self.reading_finding(left) {
+            return Some(found);
+        }
+        if left.reading.value() < entered.reading.value() {
+            return Some(Finding::Falls {
+                entered: entered.line,
+                left: left.line,
+            });
+        }
+        None
+    }
+
+    /// The first thing that is wrong with the readings on the journey of a copy that left a clock after this stay.
+    fn first_reading_left(&self, kept: &Kept, left: &Fact, transit: u64) -> Option<Finding>
+        ensures { result ≡ first_reading_left (facts_of kept.now) (get nat_cmp self.now.readings)
+            (get nat_cmp self.now.first_readings) left.now (Some transit) }
+    {
+        let entered = kept.at(transit)?;
+        let copy = entered.event.entered_copy()?;
+        match self.first_readings.get(&copy) {
+            Some(found) => Some(*found),
+            None => self.stay_finding(entered, left),
+        }
+    }
+
+    /// The first thing that is wrong with the readings on the journey of the copy that a line made.
+    fn first_reading(&self, kept: &Kept, fact: &Fact) -> Option<Finding>
+        ensures { result ≡ first_reading_by (facts_of kept.now) (get nat_cmp self.now.readings)
+            (get nat_cmp self.now.first_readings) fact.now }
+    {
+        if fact.journey.is_none() {
+            return None;
+        }
+        match fact.event.named_transit() {
+            Some(transit) => self.first_reading_left(kept, fact, transit),
+            None => self.reading_finding(fact),
+        }
+    }
+
+    /// The first line with wrong octets on the journey of a copy that left a clock after this stay.
+    fn first_octets_left(&self, kept: &Kept, left: &Fact, transit: u64) -> Option<u64>
+        ensures { result ≡ first_octets_left (facts_of kept.now) (get nat_cmp self.now.first_octets) left.now
+            (Some transit) }
+    {
+        let copy = kept.at(transit)?.event.entered_copy()?;
+        match self.first_octets.get(&copy) {
+            Some(first) => Some(*first),
+            None => octets_found(left),
+        }
+    }
+
+    /// The first line with wrong octets on the journey of the copy that a line made.
+    fn first_octets(&self, kept: &Kept, fact: &Fact) -> Option<u64>
+        ensures { result ≡ first_octets_by (facts_of kept.now) (get nat_cmp self.now.first_octets) fact.now }
+    {
+        if fact.journey.is_none() {
+            return None;
+        }
+        match fact.event.named_transit() {
+            Some(transit) => self.first_octets_left(kept, fact, transit),
+            None => octets_found(fact),
+        }
+    }
+}
+
+/// The line, where its octets are wrong.
+fn octets_found(fact: &Fact) -> Option<u64>
+    ensures { result ≡ octets_found fact.now }
+{
+    if fact.writes_right {
+        None
+    } else {
+        Some(fact.line)
+    }
+}

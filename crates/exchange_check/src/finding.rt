@@ -1,0 +1,626 @@
+//! What is found wrong with a report: of each reason the first thing that breaks its condition.
+
+ghost use Rattle.std.specs.Prelude.{◌≡◌, true, nat_lt, option_map, reverse};
+ghost use Rattle.std.specs.BTreeMap.{get};
+ghost use Rattle.std.specs.Ordering.{nat_cmp};
+ghost use Rattle.std.specs.Option.{option_or, option_map_or};
+ghost use Rattle.network_model.specs.Run.{site_of};
+ghost use Rattle.trace_model.specs.declared.finding.Finding.TheVariants as findings;
+ghost use Rattle.trace_model.specs.Finding.{broken, early_finding};
+ghost use Rattle.exchange_check.specs.Evidence.{Evidences, last_finding, is_of_exchange};
+ghost use Rattle.exchange_check.specs.Inner.Finding.{follow_finding_by, pair_finding_by, told_finding_by};
+ghost use Rattle.exchange_check.specs.Inner.Finding.{master_finding_by, copy_in, arrival_reading, readings_finding_by};
+ghost use Rattle.exchange_check.specs.Inner.Finding.{size_finding_by, value_finding_by, octets_finding_by};
+ghost use Rattle.exchange_check.specs.Inner.Finding.{follow_octets_by, all_octets_by, found_finding_by};
+ghost use Rattle.exchange_check.specs.Inner.Found.{of_report, of_found};
+ghost use Rattle.exchange_check.specs.Inner.Machine.{facts_of, sites_of, stamps_of};
+ghost use Rattle.exchange_check.specs.Inner.Noting.{mapped};
+ghost use Rattle.exchange_check.specs.Inner.Stays.{once_in};
+
+use crate::checker::Checker;
+use crate::evidence::Evidence;
+use crate::exceptions::Exceptions;
+use crate::facts::{Fact, Found, FoundJourney, Site};
+use crate::judging::{LineKind, are_results, fits, is_domain, is_followed, is_of_line, results_of};
+use crate::kept::Kept;
+use crate::lookup::Lookup;
+use crate::octets::{master_at, slave_at};
+use crate::ways::Stop;
+use network_model::{Name, Nodes, Report};
+use trace_model::{Finding, Lack, Part, Why};
+
+/// What is found where a condition doesn't hold.
+fn broken(holds: bool, finding: Finding) -> Option<Finding>
+    ensures { result ≡ broken holds finding }
+{
+    if holds { None } else { Some(finding) }
+}
+
+/// What a tag lacks.
+fn wrong_tag(part: Part, found: Result<Fact, Lack>) -> Option<Finding> {
+    match found {
+        Ok(_) => None,
+        Err(lack) => Some(Finding::WrongTag { part, lack }),
+    }
+}
+
+/// A line that passes a test, or what it lacks.
+fn passing(fact: &Fact, passes: bool, lack: Lack) -> Result<Fact, Lack> {
+    if passes { Ok(*fact) } else { Err(lack) }
+}
+
+impl Kept {
+    /// The line of a number below another one, or what this number lacks.
+    fn line_found(&self, limit: u64, number: u64) -> Result<Fact, Lack> {
+        if number >= limit {
+            return Err(Lack::NotBefore(number));
+        }
+        match self.at(number) {
+            Some(fact) => Ok(*fact),
+            None => Err(Lack::CameToNothing(number)),
+        }
+    }
+
+    /// The line of a report's tag, of this kind and at this slave.
+    fn tag_found(&self, kind: LineKind, slave: &Name, number: u64) -> Result<Fact, Lack> {
+        match self.line_found(self.facts.len() as u64, number) {
+            Ok(fact) => passing(
+                &fact,
+                kind.is_of(&fact.event) && fact.event.node() == *slave,
+                Lack::OtherEvent(number),
+            ),
+            Err(lack) => Err(lack),
+        }
+    }
+
+    /// The line that made the copy which is heard at a line.
+    fn sender_found(&self, fact: &Fact) -> Result<Fact, Lack> {
+        match fact.event.heard_copy() {
+            Some(copy) => self.line_found(fact.line, copy),
+            None => Err(Lack::OtherEvent(fact.line)),
+        }
+    }
+
+    /// The Sync's arrival.
+    fn sync_found(&self, slave: &Name, report: &Report) -> Result<Fact, Lack> {
+        let tag = report.sync_tag;
+        match self.tag_found(LineKind::Arrival, slave, tag) {
+            Ok(fact) => passing(
+                &fact,
+                report.follow_tag.is_some() || fact.completes,
+                Lack::CompletedNothing(tag),
+            ),
+            Err(lack) => Err(lack),
+        }
+    }
+
+    /// The line that sent the Follow_Up.
+    fn follow_found(&self, slave: &Name, hearing: u64) -> Result<Fact, Lack> {
+        let sender = match self.tag_found(LineKind::Hearing, slave, hearing) {
+            Ok(heard) => self.sender_found(&heard),
+            Err(lack) => Err(lack),
+        };
+        match sender {
+            Ok(sender) => passing(
+                &sender,
+                sender.event.is_follow(),
+                Lack::OtherEvent(sender.line),
+            ),
+            Err(lack) => Err(lack),
+        }
+    }
+
+    /// What the tag of the Follow_Up lacks; nothing where the report has none.
+    fn follow_tag_finding(&self, slave: &Name, hearing: Option<u64>) -> Option<Finding> {
+        match hearing {
+            Some(hearing) => wrong_tag(Part::FollowUp, self.follow_found(slave, hearing)),
+            None => None,
+        }
+    }
+
+    /// The hearing of this number, where it completed a pair.
+    fn completion_found(&self, slave: &Name, hearing: u64) -> Result<Fact, Lack> {
+        match self.tag_found(LineKind::Hearing, slave, hearing) {
+            Ok(heard) => passing(&heard, heard.completes, Lack::CompletedNothing(hearing)),
+            Err(lack) => Err(lack),
+        }
+    }
+
+    /// The arrival that sent the Delay_Resp.
+    fn response_found(&self, slave: &Name, hearing: u64) -> Result<Fact, Lack> {
+        let sender = match self.completion_found(slave, hearing) {
+            Ok(heard) => self.sender_found(&heard),
+            Err(lack) => Err(lack),
+        };
+        match sender {
+            Ok(sender) => passing(
+                &sender,
+                sender.event.is_arrival() && sender.made,
+                Lack::OtherEvent(sender.line),
+            ),
+            Err(lack) => Err(lack),
+        }
+    }
+
+    /// The first line before this one by which the slave learned when the request of this number departed.
+    fn stamp_before(&self, request: u64, number: u64) -> Option<u64> {
+        match self.stamps.get(&request) {
+            Some(stamp) if *stamp < number => Some(*stamp),
+            _ => None,
+        }
+    }
+
+    /// What is found of the tags of a report of the line of this number, which counts.
+    fn tags_finding(&self, slave: &Name, number: u64, report: &Report) -> Option<Finding> {
+        if !is_of_line(number, report) {
+            return Some(Finding::OfOtherLine);
+        }
+        if let Some(found) = wrong_tag(Part::Sync, self.sync_found(slave, report)) {
+            return Some(found);
+        }
+        if let Some(found) = self.follow_tag_finding(slave, report.follow_tag) {
+            return Some(found);
+        }
+        let request = self.tag_found(LineKind::Request, slave, report.request_tag);
+        if let Some(found) = wrong_tag(Part::DelayReq, request) {
+            return Some(found);
+        }
+        let response = self.response_found(slave, report.response_tag);
+        if let Some(found) = wrong_tag(Part::DelayResp, response) {
+            return Some(found);
+        }
+        let first = self.stamp_before(report.request_tag, number);
+        let stamped = match first {
+            Some(stamp) => stamp < report.response_tag,
+            None => false,
+        };
+        broken(
+            report.request_tag < report.response_tag && stamped,
+            Finding::Unstamped { first },
+        )
+    }
+
+    /// 701: what is found of the lines of a report of the line of this number.
+    fn place_finding(&self, number: u64, report: &Report) -> Option<Finding> {
+        match self.at(number) {
+            Some(fact) => self.tags_finding(&fact.event.node(), number, report),
+            None => Some(Finding::CantReport),
+        }
+    }
+}
+
+/// 702: another Sync's Follow_Up, or none of a two-step Sync.
+fn follow_finding(follow: &Option<Fact>, origin: &Fact) -> Finding
+    ensures { result ≡ follow_finding_by follow.now origin.now }
+{
+    match follow {
+        Some(follow) => Finding::OtherSync {
+            follow_up: follow.line,
+            follows: follow.last_sync,
+            sync: origin.line,
+        },
+        None => Finding::NoFollowUp { sync: origin.line },
+    }
+}
+
+/// 702: a Follow_Up of another Sync, or another Delay_Req.
+fn pair_finding(found: &Found, sync: &FoundJourney, request: &FoundJourney) -> Option<Finding>
+    ensures { result ≡ pair_finding_by found.now sync.now request.now }
+{
+    if !is_followed(&found.follow, &sync.origin) {
+        return Some(follow_finding(&found.follow, &sync.origin));
+    }
+    broken(
+        request.origin.line == found.request.line,
+        Finding::OtherRequest {
+            request: request.origin.line,
+        },
+    )
+}
+
+/// A message that isn't later than the line of this number.
+fn early(part: Part, set: u64, later: bool) -> Option<Finding>
+    ensures { result ≡ broken later (findings.Early part set) }
+{
+    broken(later, Finding::Early { part, set })
+}
+
+/// The first of two findings.
+fn or(one: Option<Finding>, other: Option<Finding>) -> Option<Finding>
+    ensures { result ≡ option_or one other }
+{
+    match one {
+        Some(found) => Some(found),
+        None => other,
+    }
+}
+
+/// Whether the Follow_Up, if any, is later than the line of this number.
+fn is_follow_later(set: u64, report: &Report) -> bool
+    ensures { result ≡ option_map_or (λ hearing. nat_lt set hearing) report.now.follow_tag true }
+{
+    match report.follow_tag {
+        Some(hearing) => set < hearing,
+        None => true,
+    }
+}
+
+/// The first line of a report that isn't later than the line of this number.
+fn early_finding(set: u64, report: &Report) -> Option<Finding>
+    ensures { result ≡ early_finding set report.now }
+{
+    let sync = early(Part::Sync, set, set < report.sync_tag);
+    let follow = early(Part::FollowUp, set, is_follow_later(set, report));
+    let request = early(Part::DelayReq, set, set < report.request_tag);
+    let response = early(Part::DelayResp, set, set < report.response_tag);
+    or(sync, or(follow, or(request, or(response, None))))
+}
+
+/// 703: what the slave was told of its master.
+fn told_finding(set: &Option<(Name, u64)>, master: &Name, report: &Report) -> Option<Finding>
+    ensures { result ≡ told_finding_by set.now master.now report.now }
+{
+    match set {
+        Some((told, number)) => or(
+            broken(*told == *master, Finding::ToldOther { set: *number }),
+            early_finding(*number, report),
+        ),
+        None => Some(Finding::NoMaster),
+    }
+}
+
+/// 703: what is found of the master.
+fn master_finding(
+    nodes: &Lookup<'_>,
+    at: &Site,
+    slave: &Name,
+    report: &Report,
+    found: &Found,
+    sync: &FoundJourney,
+) -> Option<Finding>
+    ensures { result ≡ master_finding_by nodes.now at.now slave.now report.now found.now sync.now }
+{
+    let master = sync.origin.event.node();
+    let answers = broken(
+        found.request_arrival.event.node() == master,
+        Finding::OtherAnswers {
+            arrival: found.request_arrival.line,
+        },
+    );
+    let domain = broken(
+        is_domain(&slave_at(nodes, slave), &master_at(nodes, &master)),
+        Finding::OtherDomain,
+    );
+    or(
+        told_finding(&at.set_master, &master, report),
+        or(answers, domain),
+    )
+}
+
+/// 707: a message that was too long in clocks.
+fn size_finding(sync: &FoundJourney, request: &FoundJourney) -> Option<Finding>
+    ensures { result ≡ size_finding_by sync.now request.now }
+{
+    or(
+        broken(fits(sync), Finding::TooLong { part: Part::Sync }),
+        broken(
+            fits(request),
+            Finding::TooLong {
+                part: Part::DelayReq,
+            },
+        ),
+    )
+}
+
+/// 706: other results.
+fn value_finding(
+    report: &Report,
+    found: &Found,
+    sync: &FoundJourney,
+    request: &FoundJourney,
+) -> Option<Finding>
+    ensures { result ≡ value_finding_by report.now found.now sync.now request.now }
+{
+    broken(
+        are_results(report, &results_of(found, sync, request)),
+        Finding::OtherResults,
+    )
+}
+
+/// 708: other octets at a line.
+fn octets_finding(fact: &Fact) -> Option<Finding>
+    ensures { result ≡ octets_finding_by fact.now }
+{
+    broken(fact.writes_right, Finding::OtherOctets { event: fact.line })
+}
+
+/// 708: other octets of the Follow_Up, where there is one.
+fn follow_octets(follow: &Option<Fact>) -> Option<Finding>
+    ensures { result ≡ follow_octets_by follow.now }
+{
+    match follow {
+        Some(follow) => octets_finding(follow),
+        None => None,
+    }
+}
+
+impl Exceptions {
+    /// 705: the first wrong reading on the journey of the copy that arrives at a line.
+    fn copy_reading(&self, arrival: &Fact) -> Option<Finding>
+        ensures { result ≡ copy_in (get nat_cmp self.now.first_readings) arrival.now }
+    {
+        match arrival.event.heard_copy() {
+            Some(copy) => self.first_readings.get(&copy).copied(),
+            None => None,
+        }
+    }
+
+    /// 705: the same, after that of the arrival.
+    fn arrival_reading(&self, arrival: &Fact) -> Option<Finding>
+        ensures { result ≡ arrival_reading (get nat_cmp self.now.readings) (get nat_cmp self.now.first_readings)
+            arrival.now }
+    {
+        or(self.reading_finding(arrival), self.copy_reading(arrival))
+    }
+
+    /// 705: what is found of readings.
+    fn readings_finding(&self, found: &Found) -> Option<Finding>
+        ensures { result ≡ readings_finding_by (get nat_cmp self.now.readings) (get nat_cmp self.now.first_readings)
+            found.now }
+    {
+        or(
+            self.arrival_reading(&found.sync_arrival),
+            self.arrival_reading(&found.request_arrival),
+        )
+    }
+
+    /// 708: the first message with other octets on the journey of the copy that arrives at a line.
+    fn copy_octets(&self, arrival: &Fact) -> Option<Finding>
+        ensures { result ≡ copy_in (mapped findings.OtherOctets (get nat_cmp self.now.first_octets)) arrival.now }
+    {
+        let Some(copy) = arrival.event.heard_copy() else {
+            return None;
+        };
+        match self.first_octets.get(&copy) {
+            Some(event) => Some(Finding::OtherOctets { event: *event }),
+            None => None,
+        }
+    }
+
+    /// 708: what is found of octets.
+    fn all_octets_finding(&self, found: &Found) -> Option<Finding>
+        ensures { result ≡ all_octets_by (mapped findings.OtherOctets (get nat_cmp self.now.first_octets)) found.now }
+    {
+        let sync = self.copy_octets(&found.sync_arrival);
+        let request = self.copy_octets(&found.request_arrival);
+        let response = octets_finding(&found.request_arrival);
+        or(
+            sync,
+            or(follow_octets(&found.follow), or(request, response)),
+        )
+    }
+}
+
+/// 703: what is found of the master of the slave of a report.
+fn slave_finding(
+    nodes: &Nodes,
+    kept: &Kept,
+    fact: &Fact,
+    report: &Report,
+    found: &Found,
+    sync: &FoundJourney,
+) -> Option<Finding>
+    ensures { result ≡ master_finding_by nodes.now (sites_of nodes.now kept.now (site_of fact.now.event))
+        (site_of fact.now.event) report.now found.now sync.now }
+{
+    let slave = fact.event.node();
+    let nodes = Lookup::new(nodes, slave);
+    let at = kept.site(&nodes, &slave);
+    master_finding(&nodes, &at, &slave, report, found, sync)
+}
+
+/// What is found of a report of a line, and of its journeys.
+fn journeys_finding(
+    evidence: &Exceptions,
+    nodes: &Nodes,
+    kept: &Kept,
+    fact: &Fact,
+    report: &Report,
+    found: &Found,
+    sync: &FoundJourney,
+    request: &FoundJourney,
+    why: Why,
+) -> Option<Finding>
+    ensures { result ≡ found_finding_by nodes.now (sites_of nodes.now kept.now) (get nat_cmp evidence.now.readings)
+        (get nat_cmp evidence.now.first_readings) (mapped findings.OtherOctets (get nat_cmp evidence.now.first_octets))
+        report.now why fact.now found.now sync.now request.now }
+{
+    match why {
+        Why::OtherNumber => pair_finding(found, sync, request),
+        Why::OtherMaster => slave_finding(nodes, kept, fact, report, found, sync),
+        Why::WrongReading => evidence.readings_finding(found),
+        Why::TooBig => size_finding(sync, request),
+        Why::WrongValue => value_finding(report, found, sync, request),
+        Why::Bytes => evidence.all_octets_finding(found),
+        Why::NoSuchLine | Why::BrokenJourney => None,
+    }
+}
+
+/// What is found of a report of a line, where its journeys can be followed.
+fn found_finding(
+    evidence: &Exceptions,
+    nodes: &Nodes,
+    kept: &Kept,
+    fact: &Fact,
+    report: &Report,
+    found: &Found,
+    why: Why,
+) -> Option<Finding>
+    ensures { result ≡ of_found (facts_of kept.now) (once_in kept.now.stays) (found_finding_by nodes.now
+        (sites_of nodes.now kept.now) (get nat_cmp evidence.now.readings) (get nat_cmp evidence.now.first_readings)
+        (mapped findings.OtherOctets (get nat_cmp evidence.now.first_octets)) report.now why fact.now) found.now }
+{
+    let sync = kept.journey_to(LineKind::DrawsSync, &found.sync_arrival);
+    let request = kept.journey_to(LineKind::Request, &found.request_arrival);
+    match (sync, request) {
+        (Some(sync), Some(request)) => journeys_finding(
+            evidence, nodes, kept, fact, report, found, &sync, &request, why,
+        ),
+        _ => None,
+    }
+}
+
+/// What is found of a report of the line of this number, where its lines are there and its journeys can be followed.
+fn report_finding(
+    evidence: &Exceptions,
+    nodes: &Nodes,
+    kept: &Kept,
+    number: u64,
+    report: &Report,
+    why: Why,
+) -> Option<Finding>
+    ensures { result ≡ of_report (facts_of kept.now) (stamps_of kept.now) (λ fact. of_found (facts_of kept.now)
+        (once_in kept.now.stays) (found_finding_by nodes.now (sites_of nodes.now kept.now)
+        (get nat_cmp evidence.now.readings) (get nat_cmp evidence.now.first_readings)
+        (mapped findings.OtherOctets (get nat_cmp evidence.now.first_octets)) report.now why fact)) number report.now }
+{
+    let Some(fact) = kept.at(number) else {
+        return None;
+    };
+    match kept.found(&fact.event.node(), fact.line, report) {
+        Some(found) => found_finding(evidence, nodes, kept, fact, report, &found, why),
+        None => None,
+    }
+}
+
+/// The stay that was left twice first, of those that were looked at.
+#[derive(Clone, Copy)]
+struct Twice {
+    entered: u64,
+    second: u64,
+}
+
+/// The one of two stays that was left twice first.
+fn earlier(one: Option<Twice>, other: Option<Twice>) -> Option<Twice> {
+    match (one, other) {
+        (Some(one), Some(other)) if other.second < one.second => Some(other),
+        (Some(one), _) => Some(one),
+        (None, other) => other,
+    }
+}
+
+impl Evidence {
+    /// The stay by which the copy left that the line of this number made, where that was left twice, and the copy that
+    /// entered there.
+    fn last_twice(&self, kept: &Kept, copy: u64) -> Option<(Option<Twice>, u64)> {
+        let transit = kept.at(copy)?.event.named_transit()?;
+        let entered = kept.at(transit)?.event.entered_copy()?;
+        let twice = match self.exceptions.seconds.get(&transit) {
+            Some(second) => Some(Twice {
+                entered: transit,
+                second: *second,
+            }),
+            None => None,
+        };
+        Some((twice, entered))
+    }
+
+    /// 704: the stay on the journey of a copy that was left twice first. It takes time with the stays of the journey.
+    fn left_twice(&self, kept: &Kept, part: Part, copy: u64) -> Option<Finding> {
+        if kept.stays.once(copy) {
+            return None;
+        }
+        let mut first = None;
+        let mut at = copy;
+        while let Some((twice, before)) = self.last_twice(kept, at)
+            && before < at
+        {
+            first = earlier(first, twice);
+            at = before;
+        }
+        let twice = first?;
+        Some(Finding::LeftTwice {
+            part,
+            entered: twice.entered,
+            first: kept.stays.first(twice.entered)?,
+            second: twice.second,
+        })
+    }
+
+    /// Where the journey stops of the copy that arrives at a line, or the copy.
+    fn copy_arrived(&self, kept: &Kept, kind: LineKind, arrival: &Fact) -> Result<u64, Stop> {
+        let by = arrival.line;
+        let stop = |lack| Err(Stop { by, lack });
+        let Some(copy) = arrival.event.heard_copy() else {
+            return stop(Lack::OtherEvent(by));
+        };
+        if copy >= by {
+            return stop(Lack::NotBefore(copy));
+        }
+        if let Some(found) = kept.stop_of(&self.exceptions.stops, by, copy) {
+            return Err(found);
+        }
+        match kept.found_journey_at(copy) {
+            Some(journey) if !kind.is_of(&journey.origin.event) => {
+                stop(Lack::OtherEvent(journey.origin.line))
+            }
+            _ => Ok(copy),
+        }
+    }
+
+    /// 704: what is found of the journey of the message that arrives at a line.
+    fn way_finding(
+        &self,
+        kept: &Kept,
+        part: Part,
+        kind: LineKind,
+        arrival: &Fact,
+    ) -> Option<Finding> {
+        match self.copy_arrived(kept, kind, arrival) {
+            Ok(copy) => self.left_twice(kept, part, copy),
+            Err(stop) => Some(Finding::Stops {
+                part,
+                by: stop.by,
+                lack: stop.lack,
+            }),
+        }
+    }
+
+    /// 704: what is found of the two journeys.
+    fn ways_finding(&self, kept: &Kept, found: &Found) -> Option<Finding> {
+        let sync = self.way_finding(kept, Part::Sync, LineKind::DrawsSync, &found.sync_arrival);
+        if sync.is_some() {
+            return sync;
+        }
+        self.way_finding(
+            kept,
+            Part::DelayReq,
+            LineKind::Request,
+            &found.request_arrival,
+        )
+    }
+
+    /// The first thing that breaks the condition of a reason against a report of the line that was noted last; none
+    /// where this reason doesn't stand against it. The time that it takes doesn't grow with the lines, but for looking
+    /// some of them up, and of a journey on which a stay was left twice it grows with its stays.
+    pub fn finding(&self, checker: &Checker, report: &Report, why: Why) -> Option<Finding>
+        ensures of_exchange { Evidences self.now checker.now → is_of_exchange why ≡ true
+            → result ≡ last_finding checker.now.network (reverse checker.now.lines) report.now why }
+    {
+        let (nodes, kept) = checker.inside();
+        let number = kept.last_number();
+        match why {
+            Why::NoSuchLine => kept.place_finding(number, report),
+            Why::BrokenJourney => self.broken_journey(kept, number, report),
+            _ => report_finding(&self.exceptions, nodes, kept, number, report, why),
+        }
+    }
+
+    /// 704: what is found of the journeys of a report of the line of this number.
+    fn broken_journey(&self, kept: &Kept, number: u64, report: &Report) -> Option<Finding> {
+        match kept.found_at(number, report) {
+            Some(found) => self.ways_finding(kept, &found),
+            None => None,
+        }
+    }
+}
