@@ -27,11 +27,11 @@ read_compact d same numbers shallow =
     ∙ ap (λ o. option_and_then of_json (option_and_then (λ p. json.if_last p.0 p.1) o)) (value-json_tokens (outline d) max_depth [] shallow)
     ∙ same
 
--- a value that is read as it was printed, of one level at the most
+-- a value that is read as it was printed, of two levels at the most
 pub record IsReadable (d : Data) : Type 0 where
   pub same : of_json (outline d) ≡ Some d
   pub numbers : HasNumbers (outline d)
-  pub shallow : tree.depth (outline d) ≤ 1
+  pub shallow : tree.depth (outline d) ≤ 2
 
 -- ---- keys that ascend
 
@@ -142,7 +142,7 @@ numbers_of : (ms : Members) → AreReadable ms → MembersHaveNumbers (members_o
 numbers_of no_members h = tt
 numbers_of (member k d ms) h = (h.0.numbers, numbers_of ms h.1)
 
-depth_of : (ms : Members) → AreReadable ms → tree.members_depth (members_outline ms) ≤ 1
+depth_of : (ms : Members) → AreReadable ms → tree.members_depth (members_outline ms) ≤ 2
 depth_of no_members h = omega arith
 depth_of (member k d ms) h = omega (arith, h.0.shallow, depth_of ms h.1)
 

@@ -1,0 +1,4 @@
+pub mod Choice
+pub mod Sound
+pub mod Complete
+pub mod InCourse

@@ -1,0 +1,2 @@
+mod Divisions
+mod Pairs
