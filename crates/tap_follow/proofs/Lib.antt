@@ -7,3 +7,4 @@ mod PacketTakings
 mod Inputs
 mod Summaries
 mod OneCourse
+mod Summing

@@ -53,8 +53,7 @@ module _ {T : Type 0} (d : Datagram) (c : Course) (new : Holding) (before after 
       (later, out, at, subst (λ (a : Arrival). TakesAt a d c later out) (sym is) changes, went)
   taken_at (Err Write) side is (out, (later, text, some, changes), went) =
       (out, (later, text, some, subst (λ (a : Arrival). TakesAt a d c later text) (sym is) changes), went)
-  taken_at (Err Memory) side is (out, (none, later, text, changes), went) =
-      (out, (none, later, text, subst (λ (a : Arrival). TakesAt a d c later text) (sym is) changes), went)
+  taken_at (Err Memory) side is (out, (none, m, has), went) = (out, (none, side, m, is, has), went)
   taken_at (Err Field) side is (out, stops, went) = absurd stops
   taken_at (Err (ThirdTap name)) side is (out, stops, went) = absurd stops
 
@@ -139,11 +138,7 @@ module _ {T : Type 0} (c : Course) (new : Holding) (before : Option (List ℕ)) 
 -- memory was refused
 pub no_memory : (T : Type 0) (o : Option Met) (m : Met) (c : Course) (new : Holding) (before : Option (List ℕ)) → o ≡ Some m
     → ChangesAs {T = T} (Err Memory) o c new before before
-no_memory T o m c new before is = (
-  [],
-  (refl, after m c, new_text m c, subst (λ (x : Option Met). Changes x c (after m c) (new_text m c)) (sym is) (refl, refl)),
-  Appends-nil before,
-)
+no_memory T o m c new before is = ([], (refl, m, is), Appends-nil before)
 
 -- what is appended to nothing
 pub cleared : (before told text : List ℕ) → before ≡ [] → told ≡ before ++ text → told ≡ text

@@ -17,7 +17,7 @@ use Rattle.capture_file.specs.Task as packets
 use Rattle.capture_file.specs.Wrong.{HasMagic, HasNoMagic}
 use Rattle.tap_choice.specs.declared.wanted.Wanted.{Wanted}
 use Rattle.tap_following.specs.declared.following.Form.{Form}
-use Rattle.tap_following.specs.declared.following.Form.TheVariants.{Json, Table}
+use Rattle.tap_following.specs.declared.following.Form.TheVariants.{Json, Table, Sums}
 use Rattle.tap_following.specs.Course.{begun}
 use Rattle.tap_lines.specs.Crossed.{table_head}
 use Rattle.tap_follow.specs.declared.fault.FollowFault.{FollowFault}
@@ -30,6 +30,7 @@ use Rattle.tap_follow.specs.Rules.{nothing_read, line_rules, packet_rules}
 abbrev pub head_text : Form → List ℕ
 head_text Json = []
 head_text Table = table_head
+head_text Sums = []
 
 -- what an answer over the octets of lines says: the head went out, and then what the lines bring
 abbrev pub FollowsLines : Form → Wanted → List ℕ → (left before after : Option (List ℕ))

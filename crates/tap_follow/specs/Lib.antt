@@ -4,4 +4,5 @@ pub mod Rules
 pub mod Input
 pub mod Told
 pub mod OneAnswer
+pub mod Summed
 pub mod Inner

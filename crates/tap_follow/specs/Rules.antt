@@ -5,6 +5,7 @@ use Rattle.text_lines.specs.Task.{Rules}
 use Rattle.capture_file.specs.Packet.{PacketOf}
 use Rattle.capture_file.specs.Task.{PacketRules}
 use Rattle.tap_choice.specs.declared.met.Met.{Met}
+use Rattle.tap_choice.specs.declared.met.Side.{Side}
 use Rattle.tap_choice.specs.declared.wanted.Wanted.{Wanted}
 use Rattle.tap_following.specs.declared.following.Form.{Form}
 use Rattle.tap_following.specs.declared.follower.Arrival.{Arrival}
@@ -29,12 +30,13 @@ TakesAt arrivals.Third d c later out = ⊥
 abbrev pub TakesDatagram : Datagram → Course → Course → List ℕ → Type 0
 TakesDatagram d c later out = TakesAt (arrival_of c d.tap) d c later out
 
--- why a datagram isn't taken: the tap is a third one; or its message changes what is written, and memory or the writer failed,
--- and nothing of that went out where memory did
+-- why a datagram isn't taken: the tap is a third one; or its message changes what is written, and the writer failed; or it has a
+-- message, at one of the two taps, and memory was refused, and nothing of that went out
 abbrev pub StopsAtDatagram : FollowFault → Datagram → Course → List ℕ → Type 0
 StopsAtDatagram Write d c out = (later : Course) × (new : List ℕ) × (new ≢ []) × TakesDatagram d c later new
 StopsAtDatagram Field d c out = ⊥
-StopsAtDatagram Memory d c out = (out ≡ []) × (later : Course) × (new : List ℕ) × TakesDatagram d c later new
+StopsAtDatagram Memory d c out =
+    (out ≡ []) × (side : Side) × (m : Met) × (arrival_of c d.tap ≡ arrivals.At side) × (met_in side d ≡ Some m)
 StopsAtDatagram (ThirdTap name) d c out = (out ≡ []) × (name ≡ d.tap) × (arrival_of c d.tap ≡ arrivals.Third)
 
 -- how many lines were read, and the course of what they tell

@@ -80,7 +80,7 @@ fn write_head<W: Write>(form: Form, output: &mut Counted<W>) -> Result<(), Follo
         (λ _. HasFailed output.old output.new) }
 {
     match form {
-        Form::Json => Ok(()),
+        Form::Json | Form::Sums => Ok(()),
         Form::Table => write_text(table_head(), output),
     }
 }

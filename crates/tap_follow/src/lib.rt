@@ -2,6 +2,7 @@
 #![tactic(auto)]
 
 mod fault;
+mod figures;
 mod input;
 pub mod laws;
 mod lines;

@@ -1,16 +1,25 @@
 //! What is told of an input beside its crossings.
-ghost use Rattle.std.specs.Prelude.{◌≡◌};
+ghost use Rattle.std.specs.Prelude.{◌≡◌, MatchResult};
+ghost use Rattle.text_lines.specs.Counted.{device_of, HasNotFailed, HasFailedIf};
+ghost use Rattle.tap_sums.specs.Held.{AreSums};
 ghost use Rattle.tap_following.specs.Course.{Course};
 ghost use Rattle.tap_following.specs.Held.{IsFollower};
-ghost use Rattle.tap_following.specs.SoFar.{followed_so_far, open_so_far};
+ghost use Rattle.tap_following.specs.SoFar.{followed_so_far, crossings_so_far, open_so_far};
 ghost use Rattle.tap_follow.specs.Told.{IsSummaryOf};
+ghost use Rattle.tap_follow.specs.Fault.{is_write};
+ghost use Rattle.tap_follow.specs.Summed.{WritesSums};
 
+use crate::fault::FollowFault;
+use crate::figures::tell_figures;
 use capture_extract::Summary as PacketCounts;
 use datagram_text::Identity;
+use std::alloc::Global;
 use std::io::Write;
 use tap_choice::{Sides, TapName};
 use tap_crossing::{Filled, Kind};
 use tap_following::{Followed, Follower};
+use tap_sums::{Sums, push_sums};
+use text_lines::{Counted, write_text};
 
 /// What is told of an input beside its crossings.
 #[derive(Drop)]
@@ -50,6 +59,30 @@ impl Summary {
         self.follower.open_records(kind, filled)
     }
 
+    /// The sums over the crossings.
+    pub fn sums(&self) -> Sums
+        ensures { (c : Course) → IsSummaryOf c self.now → AreSums (crossings_so_far c) result }
+    {
+        self.follower.sums()
+    }
+
+    /// Writes the sums over the crossings in one write, three lines.
+    pub fn write_sums<W: Write>(
+        &self,
+        alloc: Global,
+        output: &mut Counted<W>,
+    ) -> Result<(), FollowFault>
+        ensures written { (c : Course) → IsSummaryOf c self.now → WritesSums result c
+            (W.contents (device_of output.old)) (W.contents (device_of output.new)) }
+        ensures failures { MatchResult result
+            (λ _. HasNotFailed output.old output.new)
+            (λ fault. HasFailedIf (is_write fault) output.old output.new) }
+    {
+        let mut text = String::new(alloc);
+        push_sums(&mut text, &self.sums())?;
+        write_text(text.as_str(), output)
+    }
+
     /// Tells it, in lines. What can't be written is lost.
     pub fn tell<E: Write>(&self, errors: &mut E) {
         if let Some(packets) = &self.packets {
@@ -77,6 +110,7 @@ impl Summary {
             Some(slave) => writeln!(errors, "ptpx: slave {}", Identity(slave)),
             None => writeln!(errors, "ptpx: no Delay_Req at {to} tells the slave"),
         };
+        tell_figures(&self.sums(), from, to, errors);
         self.tell_lost(Kind::Sync, from, to, errors);
         self.tell_lost(Kind::DelayReq, to, from, errors);
     }

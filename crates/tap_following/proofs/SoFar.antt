@@ -1,15 +1,18 @@
 -- What is told of a course beside its crossings, by what is kept of it.
-use Rattle.std.proofs.Common.{◌≡◌, ◌∙◌, ℕ, Some, None, refl, ap}
+use Rattle.std.proofs.Common.{◌≡◌, ◌∙◌, ℕ, [], Option, Some, None, refl, sym, ap, subst}
+use Rattle.std.specs.Option.{option_map_or}
 use Rattle.std.specs.Prelude.{◌%◌, ◌^◌}
 use Rattle.tap_crossing.specs.declared.places.Filled.{Filled}
 use Rattle.tap_crossing.specs.declared.sighting.Kind.{Kind}
 use Rattle.tap_crossing.specs.Open.{number_of, open_count}
 use Rattle.tap_crossing.specs.Records.{records}
 use Rattle.tap_following.specs.declared.followed.Followed.{Followed}
-use Rattle.tap_following.specs.Written.{records_most, placed_in}
+use Rattle.tap_sums.specs.declared.sums.Sums.{Sums}
+use Rattle.tap_sums.specs.Held.{AreSums}
+use Rattle.tap_following.specs.Written.{records_most, placed_in, crossings_in}
 use Rattle.tap_following.specs.Course.{Course}
 use Rattle.tap_following.specs.Held.{Held, Holding, IsFollower}
-use Rattle.tap_following.specs.SoFar.{with_slave, followed_so_far, open_so_far}
+use Rattle.tap_following.specs.SoFar.{with_slave, followed_so_far, crossings_so_far, open_so_far}
 use Rattle.tap_following.proofs.Courses.{known_of, unknown_of}
 
 pub followed-known : (c : Course) (task : Holding) (held : Held) (result : Followed) → IsFollower task c
@@ -40,3 +43,16 @@ pub open-unknown : (kind : Kind) (filled : Filled) (c : Course) (task : Holding)
 open-unknown kind filled c task at never =
     let (unknown, nothing, known, keeps, empty) = unknown_of c.followed c task at.stage never in
     rw unknown refl
+
+pub sums-known : (c : Course) (task : Holding) (held : Held) (result : Sums) → IsFollower task c
+    → task.following ≡ Some held → result ≡ held.sums → AreSums (crossings_so_far c) result
+sums-known c task held result at is told =
+    let (f, known, follows) = known_of c.followed c task held at.stage is in
+    subst (λ (k : Option Followed). AreSums (option_map_or (λ g. crossings_in g c.met) k []) result) (sym known)
+    (subst (AreSums (crossings_in f c.met)) (sym told) follows.sums)
+
+pub sums-unknown : (c : Course) (task : Holding) (result : Sums) → IsFollower task c
+    → ((held : Held) → task.following ≡ Some held → ⊥) → AreSums [] result → AreSums (crossings_so_far c) result
+sums-unknown c task result at never none =
+    let (unknown, nothing, known, keeps, empty) = unknown_of c.followed c task at.stage never in
+    subst (λ (k : Option Followed). AreSums (option_map_or (λ g. crossings_in g c.met) k []) result) (sym unknown) none

@@ -9,13 +9,17 @@ use Rattle.tap_following.specs.declared.followed.Followed.{Followed}
 use Rattle.tap_following.specs.declared.following.Form.{Form}
 use Rattle.tap_following.specs.Course.{Course, kept_most, first_followed}
 use Rattle.tap_following.specs.Followed.{watched_in}
-use Rattle.tap_following.specs.Written.{records_most, placed_in}
+use Rattle.tap_sums.specs.declared.sums.Sums.{Sums}
+use Rattle.tap_sums.specs.Held.{AreSums}
+use Rattle.tap_following.specs.Written.{records_most, placed_in, crossings_in}
 
--- how crossings are written, whose messages are followed, the slave once it is known, and the tables of their records
+-- how crossings are written, whose messages are followed, the slave once it is known, the tables of their records, and the
+-- sums over the crossings
 pub record Held : Type 0 where
   pub form : Form
   pub followed : Followed
   pub tables : Tables
+  pub sums : Sums
 
 -- what is held is that of these messages
 pub record IsFollowing (form : Form) (f : Followed) (met : List Met) (task : Held) : Type 0 where
@@ -25,6 +29,7 @@ pub record IsFollowing (form : Form) (f : Followed) (met : List Met) (task : Hel
   pub from_name : task.followed.from_name ≡ f.from_name
   pub to_name : task.followed.to_name ≡ f.to_name
   pub stands : StandsFor records_most task.tables (placed_in f met)
+  pub sums : AreSums (crossings_in f met) task.sums
 
 -- what is asked for, the taps and what is known of whom; the messages that are kept, the oldest in front, and how many
 -- there were; what is held of those that are followed, once it is known which

@@ -13,7 +13,7 @@ use Rattle.tap_crossing.specs.Told.{told}
 use Rattle.tap_lines.specs.Crossed.{Told, json_text, row_text}
 use Rattle.tap_following.specs.declared.followed.Followed.{Followed}
 use Rattle.tap_following.specs.declared.following.Form.{Form}
-use Rattle.tap_following.specs.declared.following.Form.TheVariants.{Json, Table}
+use Rattle.tap_following.specs.declared.following.Form.TheVariants.{Json, Table, Sums}
 use Rattle.tap_following.specs.Followed.{tap_at, watched_in, contents_of}
 
 -- how many records of a kind count
@@ -43,6 +43,11 @@ abbrev pub crossing_at : Followed → Met → (earlier : List Met) → Option Cr
 crossing_at f m earlier =
     option_and_then (λ p. crossing_in (told records_most p (placed_in f earlier))) (placed_at f m earlier)
 
+-- the crossings of all that were followed, the newest in front
+abbrev pub crossings_in : Followed → List Met → List Crossing
+crossings_in f [] = []
+crossings_in f (m ∷ earlier) = option_to_list (crossing_at f m earlier) ++ crossings_in f earlier
+
 -- a crossing with the time of its event message at its first tap, and the names of the taps
 abbrev pub told_of : Followed → Crossing → Told
 told_of f x = record {
@@ -56,6 +61,7 @@ told_of f x = record {
 abbrev pub text_as : Form → Told → List ℕ
 text_as Json x = json_text x
 text_as Table x = row_text x
+text_as Sums x = []
 
 -- what is written of the newest message
 abbrev pub text_at : Form → Followed → Met → (earlier : List Met) → List ℕ

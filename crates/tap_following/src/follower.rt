@@ -5,7 +5,8 @@ ghost use Rattle.tap_choice.specs.Sides.{side_of, sides_after, both_named};
 ghost use Rattle.tap_following.specs.Followed.{slave_in};
 ghost use Rattle.tap_following.specs.Written.{written};
 ghost use Rattle.tap_following.specs.Course.{Course, begun, name_at, followed_by, arrival_of, with_tap, after, ended, new_text, end_text};
-ghost use Rattle.tap_following.specs.SoFar.{followed_so_far, open_so_far};
+ghost use Rattle.tap_following.specs.SoFar.{followed_so_far, crossings_so_far, open_so_far};
+ghost use Rattle.tap_sums.specs.Held.{AreSums};
 ghost use Rattle.tap_following.specs.Held.{IsFollower, IsKept, KeepsFor};
 
 use crate::followed::{Followed, requester};
@@ -17,6 +18,7 @@ use std::alloc::{AllocError, Global};
 use std::marker::Model;
 use tap_choice::{Choice, Met, Pair, Side, Sides, TapName, Wanted};
 use tap_crossing::{Filled, Kind, Watched};
+use tap_sums::Sums;
 
 /// How many messages are kept until it is known which are followed.
 const KEPT_MOST: u64 = 1024;
@@ -151,6 +153,16 @@ impl Follower {
         match &self.following {
             Some(following) => Some(following.open_records(kind, filled)),
             None => None,
+        }
+    }
+
+    /// The sums over the crossings so far.
+    pub fn sums(&self) -> Sums
+        ensures { (c : Course) → IsFollower self.now c → AreSums (crossings_so_far c) result }
+    {
+        match &self.following {
+            Some(following) => following.sums(),
+            None => Sums::new(),
         }
     }
 

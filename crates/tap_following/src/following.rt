@@ -21,6 +21,7 @@ use std::marker::Model;
 use tap_choice::Met;
 use tap_crossing::{Crossing, Filled, Kind, Outcome, Record, Taps};
 use tap_lines::{Crossed, push_json, push_row};
+use tap_sums::Sums;
 
 /// How many records of a kind count.
 const RECORDS_MOST: usize = 256;
@@ -32,6 +33,8 @@ pub enum Form {
     Json,
     /// Rows of a table, with commas between the columns.
     Table,
+    /// Not at all: their sums are wanted.
+    Sums,
 }
 
 /// The messages that are followed.
@@ -41,6 +44,8 @@ pub(crate) struct Following {
     /// Whose messages; the slave is told by the first Delay_Req at `to`, where it isn't known before.
     followed: Followed,
     taps: Taps<RingTable<Record, RECORDS_MOST>>,
+    /// The sums over the crossings.
+    sums: Sums,
     /// The time of the last crossing, in the one text that all share.
     time: String,
 }
@@ -50,7 +55,7 @@ impl Model for Following {
 
     ghost Value = { Held };
 
-    ghost view = { λ f. record { form = f.form; followed = f.followed; tables = f.taps } };
+    ghost view = { λ f. record { form = f.form; followed = f.followed; tables = f.taps; sums = f.sums } };
 }
 
 /// Puts the text of a time in place of what `text` holds: seconds, a point, and nine decimals.
@@ -70,6 +75,7 @@ impl Following {
             form,
             followed: *followed,
             taps: Taps::new(),
+            sums: Sums::new(),
             time: String::new(alloc),
         }
     }
@@ -87,6 +93,13 @@ impl Following {
             → result ≡ open_count (number_of filled) (records capacity kind met) % 2 ^ 64 }
     {
         self.taps.open_records(kind, filled)
+    }
+
+    /// The sums over the crossings.
+    pub(crate) fn sums(&self) -> Sums
+        ensures { result ≡ self.now.sums }
+    {
+        self.sums
     }
 
     /// Takes who the slave is, where that isn't known and the message tells it.
@@ -117,6 +130,7 @@ impl Following {
         match self.form {
             Form::Json => push_json(text, &crossed),
             Form::Table => push_row(text, &crossed),
+            Form::Sums => Ok(()),
         }
     }
 
@@ -137,7 +151,10 @@ impl Following {
             return Ok(());
         };
         match self.taps.meet(placed) {
-            Outcome::Crossed(crossing) => self.push(&crossing, text),
+            Outcome::Crossed(crossing) => {
+                self.sums.take(&crossing);
+                self.push(&crossing, text)
+            }
             Outcome::Waits | Outcome::Spoils | Outcome::IsSpoiled | Outcome::Closed(_) => Ok(()),
         }
     }

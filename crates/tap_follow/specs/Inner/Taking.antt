@@ -1,5 +1,5 @@
 -- What is done with a datagram.
-use Rattle.std.specs.Prelude.{◌≡◌, ◌≢◌, ℕ, ⊤, List, [], Option, Result, Ok, Err, MatchResult}
+use Rattle.std.specs.Prelude.{◌≡◌, ◌≢◌, ℕ, ⊤, List, [], Option, Some, Result, Ok, Err, MatchResult}
 use Rattle.std.specs.Io.KnownBytes.{Appends}
 use Rattle.text_lines.specs.Task.{WentOut}
 use Rattle.event_codec.specs.declared.message.Message.{Message}
@@ -26,11 +26,12 @@ reading_of (Err refusal) = Err refusal
 abbrev pub datagram_of : read.Datagram → Datagram
 datagram_of d = record { tap = d.tap; line = d.line; time = d.time; said = reading_of d.said }
 
--- why a message doesn't change a course: what it changes is written, and the writer failed, or memory did, and nothing went out
+-- why a message doesn't change a course: what it changes is written, and the writer failed, or there is one and memory was refused,
+-- and nothing went out
 abbrev pub StopsChanging : FollowFault → Option Met → Course → List ℕ → Type 0
 StopsChanging Write m c out = (later : Course) × (new : List ℕ) × (new ≢ []) × Changes m c later new
 StopsChanging Field m c out = ⊥
-StopsChanging Memory m c out = (out ≡ []) × (later : Course) × (new : List ℕ) × Changes m c later new
+StopsChanging Memory m c out = (out ≡ []) × (met : Met) × (m ≡ Some met)
 StopsChanging (ThirdTap name) m c out = ⊥
 
 -- a message, if it is one, changed a course, or didn't, and this went out
