@@ -1,7 +1,8 @@
 -- What is counted with one datagram more.
 use Rattle.std.proofs.Common.{◌≡◌, ◌∙◌, ◌⊎◌, inl, inr, ℕ, ◌+◌, ◌*◌, ◌<◌, Bool, true, false, List, [], ◌∷◌, length, get_or}
 use Rattle.std.proofs.Common.{replicate, Option, Some, None, Ok, Err, refl, sym, ap, subst, arith}
-use Rattle.std.specs.Prelude.{cond, ◌==◌, count_by, is_some, slice_set, map, option_map}
+use Rattle.std.specs.Prelude.{cond, ◌==◌, count_by, is_some, slice_set, map, filter_map, option_map}
+use Rattle.std.specs.List.{cons_option}
 use Rattle.std.specs.Result.{result_err}
 use Rattle.std.proofs.lemmas.Bool.{cases_eq, eq-eqb, ne_eqb}
 use Rattle.std.proofs.lemmas.List.{length-set, length-replicate, get_or-replicate, get_or-set_same, get_or-set_other}
@@ -15,6 +16,8 @@ use Rattle.capture_model.specs.Recorded.{Recorded}
 use Rattle.capture_measure.specs.Made.{Measured}
 use Rattle.recording_quality.specs.declared.quality.Quality.{Quality}
 use Rattle.recording_quality.specs.Noted.{Noted, Reported}
+use Rattle.recording_quality.specs.declared.others.Others.{Others}
+use Rattle.recording_quality.specs.Others.{AreOthers}
 use Rattle.recording_quality.specs.Quality.{IsQuality}
 use Rattle.capture_measure.specs.declared.listener.Became.{Became}
 use Rattle.capture_measure.specs.declared.listener.Became.TheVariants as became
@@ -24,7 +27,8 @@ use Rattle.capture_measure.specs.declared.tally.Kind.TheVariants as kinds
 use Rattle.capture_measure.specs.declared.tally.Why.{Why}
 use Rattle.capture_measure.specs.declared.tally.Why.TheVariants as whys
 use Rattle.capture_measure.specs.Counts.{kind_number, why_number, kind_of, kind_of_refused, why_refused, place_of, at_most}
-use Rattle.capture_measure.specs.Counts.{Fate, fate_in, early_fate, noted_of, is_so, IsCounts}
+use Rattle.capture_measure.specs.Counts.{Fate, fate_in, early_fate, noted_of, meeting_of, is_so, IsCounts}
+use Rattle.capture_measure.specs.Meetings.{meeting_at}
 use Rattle.capture_measure.specs.Inner.Counting.{with_one, with_unreported, with_why, with_anew, why_by, is_slave_anew, is_master_anew}
 use Rattle.capture_measure.specs.Inner.Listener.{became_of}
 use Rattle.capture_measure.proofs.Became.{why-became, slave-became, master-became}
@@ -112,6 +116,20 @@ anew_others became.Repeated counts = (refl, refl, refl)
 anew_others became.Anew counts = (refl, refl, refl)
 anew_others became.Foreign counts = (refl, refl, refl)
 
+-- who else is there, too
+pub anew_same : (b : Became) (counts : Counts) → (with_anew b counts).others ≡ counts.others
+anew_same (became.Heard heard) counts = refl
+anew_same (became.HeardAnew heard) counts = refl
+anew_same became.HeardBefore counts = refl
+anew_same became.Asked counts = refl
+anew_same became.Repeated counts = refl
+anew_same became.Anew counts = refl
+anew_same became.Foreign counts = refl
+
+pub why_same : (kind : Kind) (why : Option Why) (counts : Counts) → (with_why kind why counts).others ≡ counts.others
+why_same kind None counts = refl
+why_same kind (Some why) counts = refl
+
 -- the counts of those that gave no report
 abbrev Table : List Fate → List ℕ → Type 0
 Table all there = (kind : Kind) (why : Why) → get_or there (place_of kind why) 0 ≡ at_most (count_by (is_so kind why) all)
@@ -157,6 +175,7 @@ pub record IsNoted (fate : Fate) (all : List Fate) (counts : Counts) : Type 0 wh
   pub unreported : Table all counts.unreported
   pub places : length counts.unreported ≡ 140
   pub quality : IsQuality (map noted_of (fate ∷ all)) counts.quality
+  pub others : AreOthers (filter_map meeting_of all) counts.others
 
 -- what is noted of it
 pub unreported_noted : (fate : Fate) → fate.measured ≡ None → (noted_of fate).reported ≡ None
@@ -173,12 +192,14 @@ noted_counts fate all counts later so others better = record {
   unreported = subst (Table all) (sym (ap (λ (c : Counts). c.unreported) others)) so.unreported;
   places = ap (λ (c : Counts). length c.unreported) others ∙ so.places;
   quality = better;
+  others = subst (AreOthers (filter_map meeting_of all)) (sym (ap (λ (c : Counts). c.others) others)) so.others;
 }
 
-more_by : (why : Option Why) (b : Became) (fate : Fate) (all : List Fate) (counts : Counts) → fate.why ≡ why → fate.measured ≡ None
-    → fate.slave_anew ≡ is_slave_anew b → fate.master_anew ≡ is_master_anew b → IsNoted fate all counts
-    → IsCounts (fate ∷ all) (with_why fate.kind why (with_anew b counts))
-more_by None b fate all counts is unmeasured slave master so = record {
+more_by : (why : Option Why) (b : Became) (fate : Fate) (all : List Fate) (counts : Counts) (others : Others) → fate.why ≡ why
+    → fate.measured ≡ None → fate.slave_anew ≡ is_slave_anew b → fate.master_anew ≡ is_master_anew b → IsNoted fate all counts
+    → AreOthers (filter_map meeting_of (fate ∷ all)) others
+    → IsCounts (fate ∷ all) (record (with_why fate.kind why (with_anew b counts)) { others = others })
+more_by None b fate all counts others is unmeasured slave master so met = record {
   reports = (anew_others b counts).1
       ∙ count_no (λ f. is_some f.measured) fate all counts.reports (ap is_some unmeasured) so.reports;
   slave_anew = slave_more b counts fate all slave so.slave_anew;
@@ -187,8 +208,9 @@ more_by None b fate all counts is unmeasured slave master so = record {
       (table_none fate all counts.unreported so.places so.unreported is);
   places = ap length (anew_others b counts).0 ∙ so.places;
   quality = subst (IsQuality (map noted_of (fate ∷ all))) (sym (anew_others b counts).2) so.quality;
+  others = met;
 }
-more_by (Some own) b fate all counts is unmeasured slave master so = record {
+more_by (Some own) b fate all counts others is unmeasured slave master so met = record {
   reports = (anew_others b counts).1
       ∙ count_no (λ f. is_some f.measured) fate all counts.reports (ap is_some unmeasured) so.reports;
   slave_anew = slave_more b counts fate all slave so.slave_anew;
@@ -198,21 +220,26 @@ more_by (Some own) b fate all counts is unmeasured slave master so = record {
       (sym (anew_others b counts).0) (table_more fate all counts.unreported so.places so.unreported own is);
   places = length-set (with_anew b counts).unreported (place_of fate.kind own) _ ∙ ap length (anew_others b counts).0 ∙ so.places;
   quality = subst (IsQuality (map noted_of (fate ∷ all))) (sym (anew_others b counts).2) so.quality;
+  others = met;
 }
 
 -- of one that a port hears in this state
 pub heard_counts : (w : Watched) (d : Recorded) (m : Contents) (l : Listening) (b : Became) (all : List Fate) (counts : Counts)
-    → d.said ≡ Ok m → b ≡ became_of w d.line d.time m m.body l → IsNoted (fate_in w d l) all counts
-    → IsCounts (fate_in w d l ∷ all) (with_why (kind_of m.body) (why_by w.domain m.header b) (with_anew b counts))
-heard_counts w d m l b all counts said is so =
+    (others : Others) → d.said ≡ Ok m → b ≡ became_of w d.line d.time m m.body l → IsNoted (fate_in w d l) all counts
+    → AreOthers (cons_option (meeting_at d.line d.time m.body m.header (why_by w.domain m.header b)) (filter_map meeting_of all)) others
+    → IsCounts (fate_in w d l ∷ all)
+    (record (with_why (kind_of m.body) (why_by w.domain m.header b) (with_anew b counts)) { others = others })
+heard_counts w d m l b all counts others said is so met =
     let own : Recorded = record d { said = Ok m } in
+    let why = ap (why_by w.domain m.header) is ∙ why-became w d.line d.time m m.body l in
     subst (λ (s : Reading). IsCounts (fate_in w (record d { said = s }) l ∷ all)
-    (with_why (kind_of m.body) (why_by w.domain m.header b) (with_anew b counts))) (sym said)
-    (more_by (why_by w.domain m.header b) b (fate_in w own l) all counts
-    (sym (ap (why_by w.domain m.header) is ∙ why-became w d.line d.time m m.body l)) refl
+    (record (with_why (kind_of m.body) (why_by w.domain m.header b) (with_anew b counts)) { others = others })) (sym said)
+    (more_by (why_by w.domain m.header b) b (fate_in w own l) all counts others (sym why) refl
     (sym (ap is_slave_anew is ∙ slave-became w d.line d.time m m.body l))
     (sym (ap is_master_anew is ∙ master-became w d.line d.time m m.body l))
-    (subst (λ (s : Reading). IsNoted (fate_in w (record d { said = s }) l) all counts) said so))
+    (subst (λ (s : Reading). IsNoted (fate_in w (record d { said = s }) l) all counts) said so)
+    (subst (λ (y : Option Why). AreOthers (cons_option (meeting_at d.line d.time m.body m.header y) (filter_map meeting_of all)) others)
+    why met))
 
 -- of one that isn't one of the four messages
 pub refused_counts : (w : Watched) (d : Recorded) (refusal : DecodeRefusal) (l : Listening) (all : List Fate) (counts : Counts)
@@ -223,8 +250,8 @@ refused_counts w d refusal l all counts said so =
     let own : Recorded = record d { said = Err refusal } in
     subst (λ (s : Reading). IsCounts (fate_in w (record d { said = s }) l ∷ all)
     (with_unreported (kind_of_refused refusal) (why_refused (kind_of_refused refusal)) counts)) (sym said)
-    (more_by (Some (why_refused (kind_of_refused refusal))) became.HeardBefore (fate_in w own l) all counts refl refl refl refl
-    (subst (λ (s : Reading). IsNoted (fate_in w (record d { said = s }) l) all counts) said so))
+    (more_by (Some (why_refused (kind_of_refused refusal))) became.HeardBefore (fate_in w own l) all counts counts.others refl refl refl refl
+    (subst (λ (s : Reading). IsNoted (fate_in w (record d { said = s }) l) all counts) said so) so.others)
 
 -- of one that came too early
 pub early_counts : (d : Recorded) (m : Contents) (all : List Fate) (counts : Counts) → d.said ≡ Ok m → IsNoted (early_fate d) all counts
@@ -233,8 +260,8 @@ early_counts d m all counts said so =
     let own : Recorded = record d { said = Ok m } in
     subst (λ (s : Reading). IsCounts (early_fate (record d { said = s }) ∷ all)
     (with_unreported (kind_of m.body) whys.TooEarly counts)) (sym said)
-    (more_by (Some whys.TooEarly) became.HeardBefore (early_fate own) all counts refl refl refl refl
-    (subst (λ (s : Reading). IsNoted (early_fate (record d { said = s })) all counts) said so))
+    (more_by (Some whys.TooEarly) became.HeardBefore (early_fate own) all counts counts.others refl refl refl refl
+    (subst (λ (s : Reading). IsNoted (early_fate (record d { said = s })) all counts) said so) so.others)
 
 pub early_refused_counts : (d : Recorded) (refusal : DecodeRefusal) (all : List Fate) (counts : Counts) → d.said ≡ Err refusal
     → IsNoted (early_fate d) all counts
@@ -243,8 +270,8 @@ early_refused_counts d refusal all counts said so =
     let own : Recorded = record d { said = Err refusal } in
     subst (λ (s : Reading). IsCounts (early_fate (record d { said = s }) ∷ all)
     (with_unreported (kind_of_refused refusal) (why_refused (kind_of_refused refusal)) counts)) (sym said)
-    (more_by (Some (why_refused (kind_of_refused refusal))) became.HeardBefore (early_fate own) all counts refl refl refl refl
-    (subst (λ (s : Reading). IsNoted (early_fate (record d { said = s })) all counts) said so))
+    (more_by (Some (why_refused (kind_of_refused refusal))) became.HeardBefore (early_fate own) all counts counts.others refl refl refl refl
+    (subst (λ (s : Reading). IsNoted (early_fate (record d { said = s })) all counts) said so) so.others)
 
 -- ---- of a report that was written
 same_head : (f g : Fate) (all : List Fate) (p : Fate → Bool) → p f ≡ p g → count_by p (f ∷ all) ≡ count_by p (g ∷ all)
@@ -268,6 +295,7 @@ written_counts fate all counts quality m unmeasured so better =
       unreported = λ kind why. so.unreported kind why ∙ ap at_most (same_head fate now all (is_so kind why) refl);
       places = so.places;
       quality = better;
+      others = so.others;
     }
 
 -- the report of a datagram is noted beside it
@@ -275,14 +303,14 @@ pub written_quality : (fate : Fate) (all : List Fate) (line time : ℕ) (m : Mea
     → fate.datagram.line ≡ line → fate.datagram.time ≡ time → IsQuality (map noted_of (fate ∷ all)) before
     → ((refusal : Option DecodeRefusal) (earlier : List Noted)
     → IsQuality (record { line = line; time = time; refusal = refusal; reported = None } ∷ earlier) before
-    → IsQuality (record { line = line; time = time; refusal = refusal; reported = Some (record { by = m.by; report = m.report }) }
+    → IsQuality (record { line = line; time = time; refusal = refusal; reported = Some (record { by = m.by; report = m.report; exchange = m.exchange }) }
     ∷ earlier) after)
     → IsQuality (map noted_of (record fate { measured = Some m } ∷ all)) after
 written_quality fate all line time m before after unmeasured of_line of_time so notes =
     let refusal : Option DecodeRefusal = result_err fate.datagram.said in
     let of : (l t : ℕ) → Option Reported → Noted =
     λ (l : ℕ) (t : ℕ) (r : Option Reported). record { line = l; time = t; refusal = refusal; reported = r } in
-    let reported : Option Measured → Option Reported = λ (o : Option Measured). option_map (λ x. record { by = x.by; report = x.report }) o in
+    let reported : Option Measured → Option Reported = λ (o : Option Measured). option_map (λ x. record { by = x.by; report = x.report; exchange = x.exchange }) o in
     let noted : IsQuality (of line time None ∷ map noted_of all) before =
     subst (λ (n : Noted). IsQuality (n ∷ map noted_of all) before)
     (λ i. of (of_line i) (of_time i) (reported (unmeasured i))) so in
@@ -292,8 +320,8 @@ written_quality fate all line time m before after unmeasured of_line of_time so 
 
 -- ---- none
 pub no_counts : (counts : Counts) → counts.reports ≡ 0 → counts.slave_anew ≡ 0 → counts.master_anew ≡ 0
-    → counts.unreported ≡ replicate 140 0 → IsQuality [] counts.quality → IsCounts [] counts
-no_counts counts reports slave master unreported quality = record {
+    → counts.unreported ≡ replicate 140 0 → IsQuality [] counts.quality → AreOthers [] counts.others → IsCounts [] counts
+no_counts counts reports slave master unreported quality others = record {
   reports = reports;
   slave_anew = slave;
   master_anew = master;
@@ -301,4 +329,5 @@ no_counts counts reports slave master unreported quality = record {
       ∙ get_or-replicate 140 (place_of kind why) 0 0 (place_few kind why);
   places = ap length unreported ∙ length-replicate {A = ℕ} 140 0;
   quality = quality;
+  others = others;
 }

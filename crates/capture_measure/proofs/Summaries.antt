@@ -39,22 +39,20 @@ use Rattle.capture_measure.specs.Inner.Measuring.{IsMeasuring, IsLeft}
 use Rattle.capture_measure.proofs.Exact as exact
 use Rattle.capture_measure.proofs.ExactCapture as exact_capture
 
--- what the end leaves is what was there
-abbrev pub IsKept : {T : Type 0} → T → T → Type 0
-IsKept old new = new ≡ old
-
 -- ---- lines
-module _ (form : Form) (w : Wanted) (octets : List ℕ) (task : Measuring) (summary : Summary)
-    (is : (r : Recording) → IsMeasuring task r → IsLinesSummary r.wanted summary r.rows)
+-- of a task that has in it what measures
+module _ {T : Type 0} (of : T → Measuring) (form : Form) (w : Wanted) (octets : List ℕ) (task : T) (summary : Summary)
+    (is : (r : Recording) → IsMeasuring (of task) r → IsLinesSummary r.wanted summary r.rows)
   where
     told : (those : List (List ℕ)) (read : Recording) (text : List ℕ) → lines.TakesLines measure_rules 1 those (begun form w) read text
-        → IsMeasuring task read → IsLinesSummary w summary read.rows
+        → IsMeasuring (of task) read → IsLinesSummary w summary read.rows
     told those read text taken at = subst (λ (v : Wanted). IsLinesSummary v summary read.rows)
         (exact.read_on 1 those (begun form w) read text taken).wanted (is read at)
 
     lines_until : (earlier line : ℕ) (what : Cause LineFault) (state : Recording) (text : List ℕ) → line ≡ earlier + 1
         → lines.TakesLines measure_rules 1 (take earlier (lines_of octets)) (begun form w) state text
-        → lines.IsLeftAt IsMeasuring IsLeft state task what → OfLinesUntil form w octets line what (IsLinesSummary w summary)
+        → lines.IsLeftAt (λ t. IsMeasuring (of t)) (λ old new. IsLeft (of old) (of new)) state task what
+        → OfLinesUntil form w octets line what (IsLinesSummary w summary)
     lines_until earlier line (Reading fault) state text numbered taken at =
         (earlier, numbered, state, text, taken, told (take earlier (lines_of octets)) state text taken at)
     lines_until earlier line (Task Field) state text numbered taken (before, at, same) = (
@@ -69,7 +67,8 @@ module _ (form : Form) (w : Wanted) (octets : List ℕ) (task : Measuring) (summ
     lines_until earlier line (Task Memory) state text numbered taken left = tt
 
     pub lines_left : (answer : Result ℕ (Stopped (Cause LineFault)))
-        → lines.LeavesTask measure_rules IsMeasuring IsLeft IsKept (begun form w) octets task answer
+        → lines.LeavesTask measure_rules (λ t. IsMeasuring (of t)) (λ old new. IsLeft (of old) (of new)) (λ old new. of new ≡ of old)
+        (begun form w) octets task answer
         → OfLines form w octets answer (IsLinesSummary w summary)
     lines_left (Ok count) (state, text, taken, before, at, same) =
         (state, text, taken, told (lines_of octets) state text taken (subst (λ (t : Measuring). IsMeasuring t state) (sym same) at))
@@ -77,19 +76,19 @@ module _ (form : Form) (w : Wanted) (octets : List ℕ) (task : Measuring) (summ
         lines_until earlier stop.line stop.what state text numbered taken left
 
 -- ---- packets
-module _ (is_left : CaptureMeasuring → CaptureMeasuring → LineFault → Type 0) (form : Form) (w : Wanted) (octets : List ℕ)
-    (task : CaptureMeasuring) (summary : Summary)
-    (is : (c : Capture) → IsCapturing task c → IsCaptureSummary c.wanted summary c.rows)
+-- the same
+module _ {T : Type 0} (of : T → CaptureMeasuring) (is_left : T → T → LineFault → Type 0) (form : Form) (w : Wanted) (octets : List ℕ)
+    (task : T) (summary : Summary) (is : (c : Capture) → IsCapturing (of task) c → IsCaptureSummary c.wanted summary c.rows)
   where
     captured : (parts : List Part) (rest : List ℕ) (read : Capture) (text : List ℕ)
         → packets.HasTaken capture_rules (capture_begun form w) octets parts rest read text
-        → IsCapturing task read → IsCaptureSummary w summary read.rows
+        → IsCapturing (of task) read → IsCaptureSummary w summary read.rows
     captured parts rest read text has at = subst (λ (v : Wanted). IsCaptureSummary v summary read.rows)
         (exact_capture.read_on form w (packets_of parts) read text has.taken).wanted (is read at)
 
     packets_until : (count : ℕ) (what : CaptureCause LineFault) (parts : List Part) (rest : List ℕ) (state : Capture) (text : List ℕ)
         → packets.HasTaken capture_rules (capture_begun form w) octets parts rest state text → count ≡ length (packets_of parts)
-        → packets.IsLeftAt IsCapturing is_left state task what
+        → packets.IsLeftAt (λ t. IsCapturing (of t)) is_left state task what
         → OfPacketsUntil form w octets count what (IsCaptureSummary w summary)
     packets_until count causes.Read parts rest state text has numbered at =
         (parts, rest, state, text, has, numbered, captured parts rest state text has at)
@@ -100,7 +99,8 @@ module _ (is_left : CaptureMeasuring → CaptureMeasuring → LineFault → Type
     packets_until count (causes.Task fault) parts rest state text has numbered left = tt
 
     pub packets_left : (answer : Result ℕ (CaptureStop LineFault))
-        → packets.LeavesTask capture_rules IsCapturing is_left IsKept (capture_begun form w) octets task answer
+        → packets.LeavesTask capture_rules (λ t. IsCapturing (of t)) is_left (λ old new. of new ≡ of old) (capture_begun form w) octets task
+        answer
         → OfPackets form w octets answer (IsCaptureSummary w summary)
     packets_left (Ok count) (parts, state, text, has, before, at, same) = (
       parts,

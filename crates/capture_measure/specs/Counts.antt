@@ -1,7 +1,7 @@
 -- What is counted while an input is measured: what each datagram is, and why it gave no report, if it gave none. Lists have the
 -- newest in front.
 use Rattle.std.specs.Prelude.{◌≡◌, ℕ, ◌+◌, ◌-◌, ◌*◌, ◌^◌, ◌==◌, nat_lt, min, Bool, true, false, not, ◌&&◌, ◌||◌, is_some}
-use Rattle.std.specs.Prelude.{if◌then◌else◌, List, [], ◌∷◌, ◌++◌, length, drop, map, count_by, slice_index}
+use Rattle.std.specs.Prelude.{if◌then◌else◌, List, [], ◌∷◌, ◌++◌, length, drop, map, filter_map, count_by, slice_index}
 use Rattle.std.specs.Prelude.{Option, Some, None, Ok, Err, option_map}
 use Rattle.std.specs.Option.{option_map_or}
 use Rattle.std.specs.Result.{result_err}
@@ -30,6 +30,8 @@ use Rattle.capture_model.specs.Listening.{Listening, setup_in, table_capacity, i
 use Rattle.capture_model.specs.Listening.{after_all}
 use Rattle.capture_measure.specs.Made.{Measured}
 use Rattle.recording_quality.specs.Noted.{Noted}
+use Rattle.recording_quality.specs.declared.others.Meeting.{Meeting}
+use Rattle.recording_quality.specs.Others.{AreOthers}
 use Rattle.recording_quality.specs.Quality.{IsQuality}
 use Rattle.capture_measure.specs.declared.tally.Counts.{Counts}
 use Rattle.capture_measure.specs.declared.tally.Kind.{Kind}
@@ -40,6 +42,7 @@ use Rattle.capture_measure.specs.declared.watch.Wanted.{Wanted}
 use Rattle.capture_measure.specs.Watch.{watched_in}
 use Rattle.capture_measure.specs.Row.{Row, datagrams, heard}
 use Rattle.capture_measure.specs.Measured.{measured_at}
+use Rattle.capture_measure.specs.Meetings.{meeting_at}
 use Rattle.capture_measure.specs.Interfaces.{InterfaceRow, rows_at}
 use Rattle.capture_measure.specs.Chosen.{heard_at, watched_at, capture_watched}
 
@@ -282,8 +285,17 @@ noted_of fate = record {
   line = fate.datagram.line;
   time = fate.datagram.time;
   refusal = result_err fate.datagram.said;
-  reported = option_map (λ m. record { by = m.by; report = m.report }) fate.measured;
+  reported = option_map (λ m. record { by = m.by; report = m.report; exchange = m.exchange }) fate.measured;
 }
+
+-- ---- who else is there
+-- what it tells of whom it is, if it tells that
+abbrev pub meeting_said : (line time : ℕ) → Option Why → Reading → Option Meeting
+meeting_said line time why (Ok m) = meeting_at line time m.body m.header why
+meeting_said line time why (Err refusal) = None
+
+abbrev pub meeting_of : Fate → Option Meeting
+meeting_of fate = meeting_said fate.datagram.line fate.datagram.time fate.why fate.datagram.said
 
 -- ---- how many there are
 -- so many, as far as is counted
@@ -298,7 +310,7 @@ count_at counts kind why = slice_index counts.unreported (place_of kind why)
 abbrev pub is_so : Kind → Why → Fate → Bool
 is_so kind why fate = option_map_or (λ own. place_of fate.kind own == place_of kind why) fate.why false
 
--- how many of these there are of each, and what they are worth
+-- how many of these there are of each, what they are worth, and who else is there by them
 pub record IsCounts (all : List Fate) (counts : Counts) : Type 0 where
   pub reports : counts.reports ≡ at_most (count_by (λ fate. is_some fate.measured) all)
   pub slave_anew : counts.slave_anew ≡ at_most (count_by (λ fate. fate.slave_anew) all)
@@ -306,6 +318,7 @@ pub record IsCounts (all : List Fate) (counts : Counts) : Type 0 where
   pub unreported : (kind : Kind) (why : Why) → count_at counts kind why ≡ at_most (count_by (is_so kind why) all)
   pub places : length counts.unreported ≡ 140
   pub quality : IsQuality (map noted_of all) counts.quality
+  pub others : AreOthers (filter_map meeting_of all) counts.others
 
 -- counts are there, and are these
 abbrev pub AreCounted : List Fate → Option Counts → Type 0

@@ -12,6 +12,7 @@ pub mod ExactCapture
 pub mod AsLines
 pub mod Input
 pub mod Summary
+pub mod Meetings
 pub mod Counts
 pub mod Told
 pub mod Once

@@ -1,9 +1,10 @@
 //! What is told of the numbers of reports, and of what they are worth.
 
+use crate::others::{doubt_others, doubt_repeats, doubt_turn};
 use crate::rounded::{Signed, deviation, mean, slope};
 use crate::tally::{Counts, Kind, Why};
 use ptp_units::{Nanoseconds, ScaledTime};
-use recording_quality::{Point, Series, Statistics, Times};
+use recording_quality::{Point, Series, Spread, Statistics, Times};
 use std::fmt;
 use std::fmt::{Display, Formatter};
 use std::io::Write;
@@ -49,6 +50,21 @@ impl Display for At {
     }
 }
 
+/// A correction, and the line or packet of which it is.
+#[derive(Clone, Copy)]
+struct CorrectionAt {
+    point: Point,
+    unit: &'static str,
+}
+
+impl Display for CorrectionAt {
+    fn fmt<W: fmt::Write>(&self, f: &mut Formatter<W>) -> fmt::Result {
+        let Point { value, line, .. } = self.point;
+        let doubled = Nanoseconds(value.saturating_mul(2));
+        write!(f, "{doubled} ns at {} {line}", self.unit)
+    }
+}
+
 /// How much later a time is, in units of 2^-16 ns.
 fn later(time: ScaledTime, than: ScaledTime) -> u128 {
     time.value().saturating_sub(than.value())
@@ -81,6 +97,22 @@ fn tell_series<E: Write>(name: &str, series: &Series, unit: &'static str, errors
         " (rounded), least {}, greatest {}",
         At { point: least, unit },
         At {
+            point: greatest,
+            unit
+        }
+    );
+}
+
+/// Tells of corrections, where there are any.
+fn tell_spread<E: Write>(name: &str, spread: &Spread, unit: &'static str, errors: &mut E) {
+    let (Some(least), Some(greatest)) = (spread.least, spread.greatest) else {
+        return;
+    };
+    let _ = writeln!(
+        errors,
+        "ptpx: {name}: least {}, greatest {}",
+        CorrectionAt { point: least, unit },
+        CorrectionAt {
             point: greatest,
             unit
         }
@@ -164,22 +196,15 @@ fn doubt_port<E: Write>(statistics: &Statistics, errors: &mut E) -> bool {
     requests || syncs
 }
 
-/// Tells where reports end long before the recording does. What can't be written is lost.
-fn doubt_end<E: Write>(reports: u64, statistics: &Statistics, times: &Times, errors: &mut E) {
-    let (Some(first), Some(last), Some(end)) = (times.first, statistics.last, times.last) else {
-        return;
-    };
+/// How many tenths of a second of a recording come after the last of so many, where these are many and there were more of them before.
+fn silence(times: &Times, last: Option<ScaledTime>, count: u64) -> Option<u128> {
+    let (first, end, last) = (times.first?, times.last?, last?);
     let silence = later(end, last);
-    let often = later(last, first) / u128::from(reports.max(1));
+    let often = later(last, first) / u128::from(count.max(1));
     if silence >= SILENCE * TENTH && silence / 10 >= often {
-        let seconds = silence / TENTH;
-        let _ = writeln!(
-            errors,
-            "ptpx: beware: no report is of the last {}.{} s: the master or the slave went away, or the slave follows another \
-             master, whom --master picks",
-            seconds / 10,
-            seconds % 10
-        );
+        Some(silence / TENTH)
+    } else {
+        None
     }
 }
 
@@ -201,10 +226,42 @@ impl Counts {
         let is_of_slave = !doubt_port(&quality.statistics, errors);
         doubt_paths(&quality.statistics.paths, is_of_slave, unit, errors);
         doubt_offsets(&quality.statistics, errors);
-        doubt_end(self.reports, &quality.statistics, &quality.times, errors);
+        self.doubt_end(unit, errors);
         self.doubt_datagrams(errors);
         if self.reports > 0 {
             doubt_times(&quality.times, unit, errors);
+        }
+    }
+
+    /// How many Syncs of the master came: at least so many.
+    fn master_syncs(&self) -> u64 {
+        let reasons = [
+            Why::Held,
+            Why::Alone,
+            Why::Before,
+            Why::TooBig,
+            Why::NotNewer,
+        ];
+        let unreported = reasons.iter().fold(0_u64, |sum, why| {
+            sum.saturating_add(self.at(Kind::Sync, *why))
+        });
+        unreported.max(self.quality.statistics.offsets.count)
+    }
+
+    /// Tells where the Syncs of the master, or else the reports, end long before the recording does. What can't be written is lost.
+    fn doubt_end<E: Write>(&self, unit: &'static str, errors: &mut E) {
+        let times = &self.quality.times;
+        let turn = &self.others.turn;
+        if let Some(tenths) = silence(times, turn.last, self.master_syncs()) {
+            doubt_turn(tenths, turn.newcomer, unit, errors);
+        } else if let Some(tenths) = silence(times, self.quality.statistics.last, self.reports) {
+            let _ = writeln!(
+                errors,
+                "ptpx: beware: no report is of the last {}.{} s: the slave went away, or it follows another master, whom --master \
+                 picks, or nobody answers it",
+                tenths / 10,
+                tenths % 10
+            );
         }
     }
 
@@ -215,13 +272,7 @@ impl Counts {
             .fold(self.at(Kind::DelayReq, Why::Again), |sum, kind| {
                 sum.saturating_add(self.at(*kind, Why::Before))
             });
-        if repeats > 0 {
-            let _ = writeln!(
-                errors,
-                "ptpx: beware: messages with a number that came before: {repeats}; a mirror of both directions writes each twice, and \
-                 the first of each was used"
-            );
-        }
+        doubt_repeats(repeats, &self.others.repeats, errors);
         if self.quality.cut > 0 {
             let _ = writeln!(
                 errors,
@@ -229,20 +280,7 @@ impl Counts {
                 self.quality.cut
             );
         }
-        let masters = self.at(Kind::Sync, Why::OtherMaster);
-        if masters > 0 {
-            let _ = writeln!(
-                errors,
-                "ptpx: beware: Syncs of other masters of the domain: {masters}; --master picks one"
-            );
-        }
-        let slaves = self.at(Kind::DelayReq, Why::OtherSlave);
-        if slaves > 0 {
-            let _ = writeln!(
-                errors,
-                "ptpx: beware: Delay_Reqs of other slaves of the domain: {slaves}; --slave picks one"
-            );
-        }
+        doubt_others(&self.others, errors);
     }
 
     /// Tells what all times are, where that is worth telling, and the statistics of the reports, in lines. What can't be written is
@@ -252,8 +290,20 @@ impl Counts {
         if last.is_some() && finer == 0 {
             let _ = writeln!(errors, "ptpx: all times are of whole microseconds");
         }
-        let Statistics { offsets, paths, .. } = &self.quality.statistics;
-        tell_series("offsets at a Sync", offsets, unit, errors);
-        tell_series("path delays at a response", paths, unit, errors);
+        let statistics = &self.quality.statistics;
+        tell_series("offsets at a Sync", &statistics.offsets, unit, errors);
+        tell_series("path delays at a response", &statistics.paths, unit, errors);
+        tell_spread(
+            "corrections at a Sync",
+            &statistics.sync_corrections,
+            unit,
+            errors,
+        );
+        tell_spread(
+            "corrections at a response",
+            &statistics.delay_corrections,
+            unit,
+            errors,
+        );
     }
 }

@@ -14,8 +14,8 @@ ghost use Rattle.capture_measure.specs.Inner.Capturing.{IsCapturing};
 ghost use Rattle.capture_measure.specs.Inner.Measuring.{IsMeasuring};
 ghost use Rattle.capture_measure.specs.Inner.Outcomes.{LinesAnswer, PacketsAnswer, LinesTell, PacketsTell};
 
-use crate::measuring::{Form, Measuring, write_head};
-use crate::packets::CaptureMeasuring;
+use crate::measuring::{Form, Measuring, Telling, write_head};
+use crate::packets::{CaptureMeasuring, CaptureTelling};
 use crate::tally::Counts;
 use crate::watch::{Wanted, Whom};
 use capture_file::{Beginning, CaptureStop, Interface, answer_packets_behind};
@@ -73,11 +73,11 @@ impl Summary {
         }
     }
 
-    /// Tells it, in lines. What can't be written is lost.
+    /// Tells it, in lines: of whom the input is only what is known, where that wasn't enough. What can't be written is lost.
     pub fn tell<E: Write>(&self, errors: &mut E) {
         match &self.of {
             Measured::Lines(lines) => lines.tell(self.whom, self.counts, errors),
-            Measured::Capture(capture) => capture.tell(self.whom, self.counts, errors),
+            Measured::Capture(capture) => capture.tell(self.counts, errors),
         }
     }
 }
@@ -88,12 +88,16 @@ impl Summary {
 ///
 /// What a packet or line brings goes out before an octet behind it is read, but for a first line that is refused: where a magic begins
 /// with the first octet, four are read.
-pub fn measure<R: Read, W: Write>(
+///
+/// Whom the input is of goes to `errors`, in lines, once it is known, before the first report goes out. What can't be written there is
+/// lost: all that is promised holds whatever that writer does.
+pub fn measure<R: Read, W: Write, E: Write>(
     alloc: Global,
     wanted: &Wanted,
     form: Form,
     input: &mut Counted<R>,
     output: &mut Counted<W>,
+    errors: &mut E,
 ) -> (Outcome, Summary)
     ensures measured { MeasuresInput form wanted.now R.remaining W.contents result.0
         input.old input.new output.old output.new }
@@ -103,20 +107,20 @@ pub fn measure<R: Read, W: Write>(
 {
     let lines = Measuring::new(alloc, wanted, form);
     if let Err(fault) = write_head(form, output) {
-        return stopped(lines, 0, Cause::Task(fault));
+        return stopped(lines, 0, Cause::Task(fault), errors);
     }
     let Ok(beginning) = Beginning::read(input) else {
-        return stopped(lines, 1, Cause::Reading(ReadingFault::Read));
+        return stopped(lines, 1, Cause::Reading(ReadingFault::Read), errors);
     };
     let start = beginning.octets();
     if beginning.is_capture() {
         let capture = CaptureMeasuring::new(alloc, wanted, form);
-        return measure_packets(alloc, capture, start, input, output);
+        return measure_packets(alloc, capture, start, input, output, errors);
     }
     if has_lf(start) {
-        return stopped(lines, 1, Cause::Task(LineFault::Field));
+        return stopped(lines, 1, Cause::Task(LineFault::Field), errors);
     }
-    measure_lines(lines, start, input, output)
+    measure_lines(lines, start, input, output, errors)
 }
 
 /// Whether an LF is among these octets.
@@ -128,10 +132,16 @@ fn has_lf(octets: &[u8]) -> bool
 }
 
 /// What came of lines where one stops them early.
-fn stopped(lines: Measuring, line: u64, what: Cause<LineFault>) -> (Outcome, Summary)
+fn stopped<E: Write>(
+    lines: Measuring,
+    line: u64,
+    what: Cause<LineFault>,
+    errors: &mut E,
+) -> (Outcome, Summary)
     ensures outcome { result.0 ≡ Outcome.Lines (Err (record { line = line; what = what })) }
     ensures summary { (r : Recording) → IsMeasuring lines r → IsLinesSummary r.wanted result.1 r.rows }
 {
+    lines.tell_wanted(errors);
     of_lines(Err(Stopped { line, what }), lines)
 }
 
@@ -161,11 +171,12 @@ fn of_capture(
 }
 
 /// Measures lines, of which these octets were read.
-fn measure_lines<R: Read, W: Write>(
-    mut lines: Measuring,
+fn measure_lines<R: Read, W: Write, E: Write>(
+    lines: Measuring,
     start: &[u8],
     input: &mut Counted<R>,
     output: &mut Counted<W>,
+    errors: &mut E,
 ) -> (Outcome, Summary)
     requires unended { All (λ x. x ≢ 10) start.now }
     requires within { length start.now ≤ line_limit }
@@ -177,17 +188,23 @@ fn measure_lines<R: Read, W: Write>(
         → ForSome (R.remaining (device_of input.old)) (λ octets. LinesTell form w (start.now ++ octets) result.0 result.1) }
     ensures failures { OutcomeFailed result.0 input.old input.new output.old output.new }
 {
-    let answer = answer_lines_behind(start, &mut lines, input, output);
-    of_lines(answer, lines)
+    lines.tell_wanted(errors);
+    let mut task = Telling {
+        measuring: lines,
+        errors,
+    };
+    let answer = answer_lines_behind(start, &mut task, input, output);
+    of_lines(answer, task.measuring)
 }
 
 /// Measures a capture, of which these octets were read.
-fn measure_packets<R: Read, W: Write>(
+fn measure_packets<R: Read, W: Write, E: Write>(
     alloc: Global,
-    mut capture: CaptureMeasuring,
+    capture: CaptureMeasuring,
     start: &[u8],
     input: &mut Counted<R>,
     output: &mut Counted<W>,
+    errors: &mut E,
 ) -> (Outcome, Summary)
     requires most { length start.now ≤ 4 }
     requires stands { (c : Capture) × IsCapturing capture c }
@@ -198,6 +215,10 @@ fn measure_packets<R: Read, W: Write>(
         → ForSome (R.remaining (device_of input.old)) (λ octets. PacketsTell form w (start.now ++ octets) result.0 result.1) }
     ensures failures { OutcomeFailed result.0 input.old input.new output.old output.new }
 {
-    let answer = answer_packets_behind(alloc, start, &mut capture, input, output);
-    of_capture(answer, capture)
+    let mut task = CaptureTelling {
+        measuring: capture,
+        errors,
+    };
+    let answer = answer_packets_behind(alloc, start, &mut task, input, output);
+    of_capture(answer, task.measuring)
 }

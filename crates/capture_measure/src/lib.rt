@@ -8,6 +8,8 @@ mod interface_counts;
 pub mod laws;
 mod listener;
 mod measuring;
+mod meetings;
+mod others;
 mod packets;
 mod recording;
 mod reports;

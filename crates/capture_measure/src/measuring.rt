@@ -1,17 +1,18 @@
 //! A recording that is measured line by line.
 
-ghost use Rattle.std.specs.Prelude.{◌≡◌, ◌≤◌, ◌+◌, List, [], ◌∷◌, ◌++◌, length, map, MatchResult, MatchOption, OnOk};
+ghost use Rattle.std.specs.Prelude.{◌≡◌, ◌≤◌, ◌+◌, ℕ, List, [], ◌∷◌, ◌++◌, length, map, MatchResult, MatchOption, OnOk};
 ghost use Rattle.std.specs.Prelude.{Some, None, Err, ⊤, option_to_list};
 ghost use Rattle.std.specs.List.{All};
 ghost use Rattle.text_lines.specs.Counted.{device_of, HasFailed, HasNotFailed, HasFailedIf};
 ghost use Rattle.std.specs.Io.KnownBytes.{Appends};
 ghost use Rattle.text_lines.specs.Fault.{is_write};
+ghost use Rattle.text_lines.specs.Task.{WentOut};
 ghost use Rattle.text_lines.specs.Lines.{line_limit};
 ghost use Rattle.capture_model.specs.Listening.{after_all};
 ghost use Rattle.capture_measure.specs.Watch.{watched_in};
 ghost use Rattle.capture_measure.specs.Row.{Row, datagrams, IsRow};
 ghost use Rattle.capture_measure.specs.Measured.{measured_at, measurements};
-ghost use Rattle.capture_measure.specs.Measure.{Recording, begun, head_text, HasHead, measure_rules};
+ghost use Rattle.capture_measure.specs.Measure.{Recording, begun, Takes, Stops, head_text, HasHead, measure_rules};
 ghost use Rattle.capture_measure.specs.Inner.Listener.{IsListener};
 ghost use Rattle.capture_measure.specs.Inner.Watching.{IsWatch};
 ghost use Rattle.capture_measure.specs.Inner.Hearing.{recorded_of, made_of, measured_by, IsOfOutput, Goes};
@@ -283,7 +284,15 @@ impl Reports {
     }
 }
 
-impl LineTask for Measuring {
+/// Measures each line of a recording, and says whom it is of as soon as that is known, before the first report goes out.
+#[derive(Drop)]
+pub(crate) struct Telling<'errors, E> {
+    pub(crate) measuring: Measuring,
+    /// What can't be written here is lost, and changes nothing of what is measured.
+    pub(crate) errors: &'errors mut E,
+}
+
+impl<E: Write> LineTask for Telling<'_, E> {
     type Answer = u64;
 
     type Fault = LineFault;
@@ -292,17 +301,49 @@ impl LineTask for Measuring {
 
     ghost rules = { measure_rules };
 
-    ghost is_at = { IsMeasuring };
+    ghost is_at = { λ task. IsMeasuring task.measuring };
 
-    ghost is_left = { IsLeft };
+    ghost is_left = { λ old new. IsLeft old.measuring new.measuring };
 
-    ghost is_ended = { λ old new. new ≡ old };
+    ghost is_ended = { λ old new. new.measuring ≡ old.measuring };
 
     fn lines_limit() -> u64 {
         u64::MAX - 1
     }
 
     fn take<W: Write>(&mut self, line: &[u8], output: &mut Counted<W>) -> Result<(), LineFault> {
+        self.measuring.take(line, output, self.errors)
+    }
+
+    /// How many lines there were.
+    fn finish<W: Write>(&mut self, lines: u64, _output: &mut Counted<W>) -> Result<u64, LineFault> {
+        Ok(lines)
+    }
+}
+
+impl Measuring {
+    /// Takes one more line, and says whom the recording is of once that is known.
+    fn take<W: Write, E: Write>(
+        &mut self,
+        line: &[u8],
+        output: &mut Counted<W>,
+        errors: &mut E,
+    ) -> Result<(), LineFault>
+        requires stands { (r : Recording) × IsMeasuring self.old r }
+        requires within { length line.now ≤ line_limit }
+        ensures taken { (r : Recording) → IsMeasuring self.old r →
+            let before = W.contents (device_of output.old) in
+            let after = W.contents (device_of output.new) in
+            MatchResult result
+            (λ _. (later : Recording) × (out : List ℕ) × IsMeasuring self.new later
+            × Takes line.now r later out × Appends before after out)
+            (λ fault. (out : List ℕ) × Stops line.now r fault out
+            × WentOut (is_write fault) (Appends before after out)) }
+        ensures left { (fault : LineFault) → result ≡ Err fault → IsLeft self.old self.new fault }
+        ensures failures { MatchResult result
+            (λ _. HasNotFailed output.old output.new)
+            (λ fault. HasFailedIf (is_write fault) output.old output.new) }
+    {
         if let Stage::Hearing(listener) = &mut self.stage {
             self.lines = self.reports.hear(listener, self.lines, line, output)?;
             return Ok(());
@@ -315,18 +356,21 @@ impl LineTask for Measuring {
         self.lines = read.datagram.number;
         notice(&mut self.watch, &read);
         match self.watch.watched() {
-            Some(watched) => self.begin(watched, &read, output),
+            Some(watched) => {
+                self.whom().tell("line", errors);
+                self.begin(watched, &read, output)
+            }
             None => self.keep(&read, line),
         }
     }
 
-    /// How many lines there were.
-    fn finish<W: Write>(&mut self, lines: u64, _output: &mut Counted<W>) -> Result<u64, LineFault> {
-        Ok(lines)
+    /// Says whom the recording is of where that is known before the first line, as where all of it is asked for.
+    pub(crate) fn tell_wanted<E: Write>(&self, errors: &mut E) {
+        if let Stage::Hearing(_) = &self.stage {
+            self.whom().tell("line", errors);
+        }
     }
-}
 
-impl Measuring {
     /// Whom the recording is of, as far as that is known.
     pub(crate) fn whom(&self) -> Whom
         ensures { result ≡ whom_of self.now.watch }
@@ -341,14 +385,17 @@ impl Measuring {
         self.reports.tally.counts
     }
 
-    /// Tells what is told of a recording beside its reports, in lines. What can't be written is lost.
+    /// Tells in lines what is told of a recording at its end: of whom it is only what is known, where that wasn't enough. What can't be
+    /// written is lost.
     pub(crate) fn tell<E: Write>(
         &self,
         whom: Option<Whom>,
         counts: Option<Counts>,
         errors: &mut E,
     ) {
-        if let Some(whom) = whom {
+        if let Some(whom) = whom
+            && !whom.is_known()
+        {
             whom.tell("line", errors);
         }
         if let Some(counts) = counts {

@@ -142,7 +142,15 @@ pub(crate) struct CaptureMeasuring {
     interfaces: InterfaceCounts,
 }
 
-impl PacketTask for CaptureMeasuring {
+/// Measures each packet of a capture, and says whom it is of as soon as that is known, before the first report goes out.
+#[derive(Drop)]
+pub(crate) struct CaptureTelling<'errors, E> {
+    pub(crate) measuring: CaptureMeasuring,
+    /// What can't be written here is lost, and changes nothing of what is measured.
+    pub(crate) errors: &'errors mut E,
+}
+
+impl<E: Write> PacketTask for CaptureTelling<'_, E> {
     type Answer = u64;
 
     type Fault = LineFault;
@@ -151,9 +159,9 @@ impl PacketTask for CaptureMeasuring {
 
     ghost rules = { capture_rules };
 
-    ghost is_at = { IsCapturing };
+    ghost is_at = { λ task. IsCapturing task.measuring };
 
-    ghost is_ended = { λ old new. new ≡ old };
+    ghost is_ended = { λ old new. new.measuring ≡ old.measuring };
 
     fn take<W: Write>(
         &mut self,
@@ -162,13 +170,16 @@ impl PacketTask for CaptureMeasuring {
         output: &mut Counted<W>,
     ) -> Result<(), LineFault> {
         match packet {
-            Packet::Captured(captured) => self.take_captured(number, captured, output),
+            Packet::Captured(captured) => {
+                self.measuring
+                    .take_captured(number, captured, output, self.errors)
+            }
             Packet::Timeless => {
-                self.packets.count_timeless();
+                self.measuring.packets.count_timeless();
                 Ok(())
             }
             Packet::Simple => {
-                self.packets.count_simple();
+                self.measuring.packets.count_simple();
                 Ok(())
             }
         }
@@ -204,11 +215,12 @@ impl CaptureMeasuring {
     }
 
     /// Takes a packet, if it is of the interface that is asked for and carries a datagram.
-    fn take_captured<W: Write>(
+    fn take_captured<W: Write, E: Write>(
         &mut self,
         number: u64,
         captured: &Captured<'_>,
         output: &mut Counted<W>,
+        errors: &mut E,
     ) -> Result<(), LineFault>
         requires { (c : Capture) × IsCapturing self.old c }
         ensures taken { (c : Capture) → IsCapturing self.old c →
@@ -231,7 +243,7 @@ impl CaptureMeasuring {
         let found = find_datagram(captured.link, captured.octets);
         if let Found::Datagram(octets) = found {
             let datagram = datagram_of(number, captured.time, octets);
-            self.take_datagram(captured, &datagram, output)?;
+            self.take_datagram(captured, &datagram, output, errors)?;
         }
         self.packets
             .count_captured(captured.time, captured.link, found);
@@ -239,11 +251,12 @@ impl CaptureMeasuring {
     }
 
     /// Takes a datagram, and what it adds to all that is written goes out.
-    fn take_datagram<W: Write>(
+    fn take_datagram<W: Write, E: Write>(
         &mut self,
         captured: &Captured<'_>,
         datagram: &Datagram<'_>,
         output: &mut Counted<W>,
+        errors: &mut E,
     ) -> Result<(), LineFault>
         requires stands { (c : Capture) × IsCapturing self.old c }
         requires row { IsDatagramRow datagram.now.number captured.now.time datagram.now.octets.now
@@ -261,7 +274,7 @@ impl CaptureMeasuring {
                 if is_kept {
                     *count += 1;
                 }
-                self.look(captured, datagram, is_kept, output)
+                self.look(captured, datagram, is_kept, output, errors)
             }
             Stage::Hearing(place, listener) => {
                 if self.recordings.is_at(*place, &captured.interface) {
@@ -275,13 +288,15 @@ impl CaptureMeasuring {
         }
     }
 
-    /// Takes a datagram by which it isn't known yet whom to watch. Where it tells that, a port hears those at its interface.
-    fn look<W: Write>(
+    /// Takes a datagram by which it isn't known yet whom to watch. Where it tells that, this is said, and a port hears those at its
+    /// interface.
+    fn look<W: Write, E: Write>(
         &mut self,
         captured: &Captured<'_>,
         datagram: &Datagram<'_>,
         is_kept: bool,
         output: &mut Counted<W>,
+        errors: &mut E,
     ) -> Result<(), LineFault>
         requires { IsDatagramRow datagram.now.number captured.now.time datagram.now.octets.now
             (row_at captured.now.time datagram.now) }
@@ -300,7 +315,10 @@ impl CaptureMeasuring {
             return Ok(());
         };
         match self.recordings.watched(place) {
-            Some(watched) => self.begin(watched, place, is_kept, captured.time, datagram, output),
+            Some(watched) => {
+                self.recordings.tell_whom(place, errors);
+                self.begin(watched, place, is_kept, captured.time, datagram, output)
+            }
             None => Ok(()),
         }
     }
@@ -377,37 +395,24 @@ impl CaptureMeasuring {
         }
     }
 
-    /// Tells what is told of a capture beside its reports, in lines. What can't be written is lost.
-    pub(crate) fn tell<E: Write>(
-        &self,
-        whom: Option<Whom>,
-        counts: Option<Counts>,
-        errors: &mut E,
-    ) {
+    /// Tells in lines what is told of a capture at its end: of whom it is only what is known, where that wasn't enough. What can't be
+    /// written is lost.
+    pub(crate) fn tell<E: Write>(&self, counts: Option<Counts>, errors: &mut E) {
         self.packets.tell_packets(errors);
         match self.stage {
-            Stage::Hearing(measured, _) => self.tell_measured(measured, whom, counts, errors),
+            Stage::Hearing(measured, _) => self.tell_measured(measured, counts, errors),
             Stage::Looking(_) => self.tell_unknown(errors),
         }
     }
 
     /// Tells what was measured at the interface of this place, and what was passed over at others.
-    fn tell_measured<E: Write>(
-        &self,
-        measured: usize,
-        whom: Option<Whom>,
-        counts: Option<Counts>,
-        errors: &mut E,
-    ) {
+    fn tell_measured<E: Write>(&self, measured: usize, counts: Option<Counts>, errors: &mut E) {
         let recordings = self.recordings.all();
         let Some(recording) = recordings.get(measured) else {
             return;
         };
         if self.has_others() {
             let _ = writeln!(errors, "ptpx: measured at {}", recording.place);
-        }
-        if let Some(whom) = whom {
-            whom.tell("packet", errors);
         }
         if let Some(counts) = counts {
             counts.tell("packet", errors);

@@ -25,6 +25,7 @@ use capture_model::Watched;
 use event_codec::{Header, PortIdentity};
 use ptp_units::{ScaledTime, Timestamp};
 use std::alloc::{AllocError, Global};
+use std::io::Write;
 
 /// How many interfaces are looked at.
 const INTERFACES_MOST: usize = 16;
@@ -281,6 +282,13 @@ impl Recordings {
         match self.recordings.get(place) {
             Some(recording) => Some(recording.watch.whom()),
             None => None,
+        }
+    }
+
+    /// Tells in lines whom the packets at the interface of this place are of, where there is one. What can't be written is lost.
+    pub(crate) fn tell_whom<E: Write>(&self, place: usize, errors: &mut E) {
+        if let Some(whom) = self.whom(place) {
+            whom.tell("packet", errors);
         }
     }
 

@@ -173,7 +173,13 @@ impl Reports {
             }
         };
         let became = listener.hear(datagram.number, datagram.time, message);
-        self.tally.count_heard(message, listener.domain(), &became);
+        self.tally.count_heard(
+            datagram.number,
+            datagram.time,
+            message,
+            listener.domain(),
+            &became,
+        );
         Some(Completed {
             by: half_of(&message.body),
             report: report_in(&became)?,

@@ -3,16 +3,21 @@
 ghost use Rattle.std.specs.Prelude.{◌≡◌, ◌<◌, List, [], ◌∷◌, map, Some, None};
 ghost use Rattle.capture_measure.specs.Counts.{kind_number, why_number, kind_of, kind_of_refused, why_answered, why_refused, place_of};
 ghost use Rattle.std.specs.Result.{result_err};
+ghost use Rattle.std.specs.List.{cons_option};
+ghost use Rattle.recording_quality.specs.declared.others.Meeting.{Meeting};
+ghost use Rattle.recording_quality.specs.Others.{AreOthers};
 ghost use Rattle.recording_quality.specs.Quality.{IsQuality};
+ghost use Rattle.capture_measure.specs.Meetings.{meeting_at};
 ghost use Rattle.capture_measure.specs.Counts.{count_at, Fate, early_fate, noted_of, IsCounts};
 ghost use Rattle.capture_measure.specs.Inner.Counting.{why_by, with_one, with_unreported, with_why, with_anew};
 ghost use Rattle.capture_measure.specs.Inner.Hearing.{reading_of, recorded_of, made_of};
 
 use crate::listener::Became;
+use crate::meetings::{meeting_at, take_some};
 use crate::reports::{Datagram, Made};
 use event_codec::{Body, DecodeRefusal, Header, Message};
 use ptp_units::ScaledTime;
-use recording_quality::Quality;
+use recording_quality::{Others, Quality};
 use slave_port::{Heard, Reason};
 use std::fmt;
 use std::fmt::{Display, Formatter};
@@ -290,6 +295,8 @@ pub struct Counts {
     pub unreported: [u64; PLACES],
     /// What the numbers of the reports are worth.
     pub quality: Quality,
+    /// Who else is there.
+    pub others: Others,
 }
 
 /// Where the count of a kind and a reason stands.
@@ -318,6 +325,7 @@ impl Counts {
             master_anew: 0,
             unreported: [0; PLACES],
             quality: Quality::new(),
+            others: Others::new(),
         }
     }
 
@@ -334,6 +342,15 @@ impl Counts {
     {
         let place = place_of(kind, why);
         self.unreported[place] = self.unreported[place].saturating_add(1);
+    }
+
+    /// Counts a datagram of this kind, where it gave no report.
+    fn count_why(&mut self, kind: Kind, why: Option<Why>)
+        ensures { self.new ≡ with_why kind why self.old }
+    {
+        if let Some(why) = why {
+            self.count(kind, why);
+        }
     }
 
     /// Counts who began anew by what became of a message.
@@ -434,18 +451,32 @@ impl Tally {
             time,
             made.measured.by,
             &made.measured.report,
+            made.exchange,
         );
     }
 
-    /// Counts a message that is heard by a port of this domain.
-    pub(crate) fn count_heard(&mut self, message: &Message<'_>, domain: u8, became: &Became)
-        ensures { self.new.counts ≡ with_why (kind_of message.now.body) (why_by domain message.now.header became.now)
-            (with_anew became.now self.old.counts) }
+    /// Counts a message of this line and time that is heard by a port of this domain.
+    pub(crate) fn count_heard(
+        &mut self,
+        line: u64,
+        time: ScaledTime,
+        message: &Message<'_>,
+        domain: u8,
+        became: &Became,
+    )
+        ensures counted { self.new.counts ≡ record (with_why (kind_of message.now.body) (why_by domain message.now.header became.now)
+            (with_anew became.now self.old.counts)) { others = self.new.counts.others } }
+        ensures others { (earlier : List Meeting) → AreOthers earlier self.old.counts.others → AreOthers
+            (cons_option (meeting_at line time message.now.body message.now.header (why_by domain message.now.header became.now)) earlier)
+            self.new.counts.others }
     {
+        let why = Why::of_became(became, &message.header, domain);
         self.counts.count_anew(became);
-        if let Some(why) = Why::of_became(became, &message.header, domain) {
-            self.counts.count(Kind::of(&message.body), why);
-        }
+        self.counts.count_why(Kind::of(&message.body), why);
+        take_some(
+            &mut self.counts.others,
+            meeting_at(line, time, message, why),
+        );
     }
 
     /// Counts a datagram that isn't heard, or not yet, since it isn't known whom to watch.

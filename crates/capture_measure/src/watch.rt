@@ -187,6 +187,11 @@ impl Watch {
 }
 
 impl Whom {
+    /// Whether all three are known.
+    pub(crate) fn is_known(&self) -> bool {
+        self.domain.is_some() && self.master.is_some() && self.slave.is_some()
+    }
+
     /// Tells in lines whom an input is of, and which of its lines or packets told that. What can't be written is lost.
     pub(crate) fn tell<E: Write>(&self, unit: &'static str, errors: &mut E) {
         let _ = match self.domain {

@@ -1,2 +1,3 @@
+mod Meetings
 mod Noting
 mod Worked

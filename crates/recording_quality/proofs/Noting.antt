@@ -36,6 +36,8 @@ unreported n earlier s so = record {
   offsets = so.offsets;
   trend = so.trend;
   paths = so.paths;
+  sync_corrections = so.sync_corrections;
+  delay_corrections = so.delay_corrections;
   requests_at_once = so.requests_at_once ∙ ap at_most (sym (count_none _ (record n { reported = None }) earlier refl));
   syncs_at_once = so.syncs_at_once ∙ ap at_most (sym (count_none _ (record n { reported = None }) earlier refl));
   last = so.last;
@@ -47,6 +49,8 @@ still_unreported n earlier s so = record {
   offsets = so.offsets;
   trend = so.trend;
   paths = so.paths;
+  sync_corrections = so.sync_corrections;
+  delay_corrections = so.delay_corrections;
   requests_at_once = so.requests_at_once ∙ ap at_most (count_none _ (record n { reported = None }) earlier refl);
   syncs_at_once = so.syncs_at_once ∙ ap at_most (count_none _ (record n { reported = None }) earlier refl);
   last = so.last;

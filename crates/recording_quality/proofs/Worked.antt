@@ -1,6 +1,12 @@
 -- Worked cases: what is told of the first two reports of a real recording, of packets 23 and 25. Their offsets are -3512.5 ns and
--- -2709 ns, and their path delays 18522.5 ns and 17719 ns.
-use Rattle.std.proofs.Common.{◌≡◌, pos, negsuc, [], ◌∷◌, Some, refl}
+-- -2709 ns, and their path delays 18522.5 ns and 17719 ns. And who else is there by a few messages.
+use Rattle.std.proofs.Common.{◌≡◌, ℕ, ◌*◌, pos, negsuc, [], ◌∷◌, replicate, Some, None, refl}
+use Rattle.event_codec.specs.declared.port.PortIdentity.{PortIdentity}
+use Rattle.recording_quality.specs.declared.others.Meeting.{Meeting}
+use Rattle.recording_quality.specs.declared.others.MessageKind.TheVariants.{Sync, FollowUp}
+use Rattle.recording_quality.specs.declared.others.Met.{Met}
+use Rattle.recording_quality.specs.declared.others.Met.TheVariants.{First, Repeat, Master}
+use Rattle.recording_quality.specs.Others.{other_master, senders, newcomer, least_lag}
 use Rattle.recording_quality.specs.declared.series.Point.{Point}
 use Rattle.recording_quality.specs.Series.{above, below, square, least, greatest}
 use Rattle.recording_quality.specs.Wide.{wide_sum}
@@ -37,3 +43,28 @@ squares_of_paths = refl
 -- 6221.5 ns below 0 together
 sum_of_offsets : wide_sum (λ p. below p.value) (offset_25 ∷ offset_23 ∷ []) ≡ 815464448
 sum_of_offsets = refl
+
+-- another master, of this portNumber
+abbrev other : ℕ → PortIdentity
+other port = record { clock = 2 ∷ 0 ∷ 0 ∷ 255 ∷ 254 ∷ 17 ∷ 34 ∷ 153 ∷ []; port = port }
+
+abbrev at : (line : ℕ) → Met → Meeting
+at line met = record { line = line; time = line * 100; met = met }
+
+-- two messages of the first, and one of the second
+two_masters : senders other_master (at 3 (Master FollowUp (other 1)) ∷ at 2 (Master Sync (other 2)) ∷ at 1 (Master Sync (other 1)) ∷ [])
+    ≡ record {
+      listed = Some (record { port = other 1; count = 2 }) ∷ Some (record { port = other 2; count = 1 }) ∷ replicate 6 None;
+      rest = 0;
+    }
+two_masters = refl
+
+-- the second one's Sync came before the master's last
+taken_over : newcomer (at 9 (Master Sync (other 1)) ∷ at 8 (First Sync (record { 0 = 5 })) ∷ at 7 (Master Sync (other 2)) ∷ [])
+    ≡ Some (record { port = other 1; line = 9; time = 900 })
+taken_over = refl
+
+-- a Sync that comes again 200 later, with its Follow_Up between
+repeated : least_lag (at 6 (Repeat Sync (record { 0 = 5 })) ∷ at 5 (First FollowUp (record { 0 = 5 })) ∷ at 4 (First Sync (record { 0 = 5 })) ∷ [])
+    ≡ Some 200
+repeated = refl

@@ -1,6 +1,6 @@
 -- What the numbers of a recording are worth, by what is noted of its datagrams. Lists have the newest in front.
 use Rattle.std.specs.Prelude.{◌≡◌, ℕ, ◌+◌, ◌%◌, ◌==◌, nat_lt, pos, ◌+ℤ◌, Bool, true, false, not, if◌then◌else◌}
-use Rattle.std.specs.Prelude.{List, [], ◌∷◌, count_by, filter_map, is_some, Option, Some, None, option_and_then}
+use Rattle.std.specs.Prelude.{List, [], ◌∷◌, count_by, filter_map, is_some, Option, Some, None, option_map, option_and_then}
 use Rattle.std.specs.Option.{option_map_or, option_or}
 use Rattle.std.specs.Ordering.{int_eq}
 use Rattle.event_codec.specs.declared.refusal.DecodeRefusal.{DecodeRefusal}
@@ -13,7 +13,7 @@ use Rattle.recording_quality.specs.declared.quality.Statistics.{Statistics}
 use Rattle.recording_quality.specs.declared.quality.Times.{Times}
 use Rattle.recording_quality.specs.declared.series.Point.{Point}
 use Rattle.recording_quality.specs.Noted.{Noted, Reported}
-use Rattle.recording_quality.specs.Series.{IsSeries}
+use Rattle.recording_quality.specs.Series.{IsSeries, IsSpread}
 use Rattle.recording_quality.specs.Trend.{IsTrend}
 use Rattle.recording_quality.specs.Wide.{at_most}
 
@@ -33,6 +33,24 @@ path_by Response n r = Some (record { line = n.line; time = n.time; value = r.re
 
 abbrev pub path_of : Noted → Option Point
 path_of n = option_and_then (λ r. path_by r.by n r) n.reported
+
+-- what the messages of a report were corrected by, in 2^-16 ns: Sync and Follow_Up together, of one that a Sync completed
+abbrev pub sync_correction_by : Half → Noted → Reported → Option Point
+sync_correction_by Sync n r = option_map
+    (λ x. record { line = n.line; time = n.time; value = x.sync_correction +ℤ x.follow_correction }) r.exchange
+sync_correction_by Response n r = None
+
+abbrev pub sync_correction_of : Noted → Option Point
+sync_correction_of n = option_and_then (λ r. sync_correction_by r.by n r) n.reported
+
+-- the Delay_Resp, of one that it completed
+abbrev pub delay_correction_by : Half → Noted → Reported → Option Point
+delay_correction_by Sync n r = None
+delay_correction_by Response n r = option_map
+    (λ x. record { line = n.line; time = n.time; value = x.response_correction }) r.exchange
+
+abbrev pub delay_correction_of : Noted → Option Point
+delay_correction_of n = option_and_then (λ r. delay_correction_by r.by n r) n.reported
 
 -- a Sync that arrived when it left, corrected: t2 less the corrected t1 is 0, so the offset is the path delay below 0
 abbrev pub is_sync_at_once : Half → Reported → Bool
@@ -57,6 +75,8 @@ pub record AreStatistics (all : List Noted) (s : Statistics) : Type 0 where
   pub offsets : IsSeries (filter_map offset_of all) s.offsets
   pub trend : IsTrend (filter_map offset_of all) s.trend
   pub paths : IsSeries (filter_map path_of all) s.paths
+  pub sync_corrections : IsSpread (filter_map sync_correction_of all) s.sync_corrections
+  pub delay_corrections : IsSpread (filter_map delay_correction_of all) s.delay_corrections
   pub requests_at_once : s.requests_at_once ≡ count_reported is_request_at_once all
   pub syncs_at_once : s.syncs_at_once ≡ count_reported is_sync_at_once all
   pub last : s.last ≡ last_reported all

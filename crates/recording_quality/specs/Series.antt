@@ -3,6 +3,7 @@ use Rattle.std.specs.Prelude.{◌≡◌, ℕ, ◌+◌, ◌*◌, ◌==◌, ℤ, p
 use Rattle.std.specs.Prelude.{List, [], ◌∷◌, length, count_by, Option, Some, None}
 use Rattle.recording_quality.specs.declared.series.Point.{Point}
 use Rattle.recording_quality.specs.declared.series.Series.{Series}
+use Rattle.recording_quality.specs.declared.series.Spread.{Spread}
 use Rattle.recording_quality.specs.Wide.{wide, wide_sum, at_most}
 
 -- a value above 0, or else 0
@@ -45,5 +46,10 @@ pub record IsSeries (points : List Point) (s : Series) : Type 0 where
   pub squares : wide s.squares ≡ wide_sum (λ p. square p.value) points
   pub negatives : s.negatives ≡ at_most (count_by (λ p. int_lt p.value (pos 0)) points)
   pub zeros : s.zeros ≡ at_most (count_by (λ p. unsigned_abs p.value == 0) points)
+  pub least : s.least ≡ least points
+  pub greatest : s.greatest ≡ greatest points
+
+-- these are the least and the greatest
+pub record IsSpread (points : List Point) (s : Spread) : Type 0 where
   pub least : s.least ≡ least points
   pub greatest : s.greatest ≡ greatest points

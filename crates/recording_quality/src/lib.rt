@@ -2,12 +2,16 @@
 //! and its datagrams say of it.
 #![tactic(auto)]
 
+mod others;
 mod quality;
 mod series;
 mod trend;
 mod wide;
 
+pub use others::{
+    Meeting, MessageKind, Met, Newcomer, Numbered, Others, Repeats, Sender, Senders, Turn,
+};
 pub use quality::{Quality, Statistics, Times};
-pub use series::{Point, Series};
+pub use series::{Point, Series, Spread};
 pub use trend::Trend;
 pub use wide::Wide;

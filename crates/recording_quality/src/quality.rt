@@ -1,19 +1,20 @@
-ghost use Rattle.std.specs.Prelude.{◌≡◌, pos, ◌+ℤ◌, List, [], ◌∷◌, Option, Some, None};
+ghost use Rattle.std.specs.Prelude.{◌≡◌, pos, ◌+ℤ◌, List, [], ◌∷◌, Option, Some, None, option_map};
 ghost use Rattle.std.specs.Ordering.{int_eq};
 ghost use Rattle.recording_quality.specs.Noted.{Noted};
 ghost use Rattle.recording_quality.specs.Quality.{is_finer, is_cut, is_fall, AreStatistics, AreTimes, IsQuality};
 
-use crate::series::{Point, Series, count_if};
+use crate::series::{Point, Series, Spread, count_if};
 use crate::trend::Trend;
 use capture_lines::Half;
 use event_codec::DecodeRefusal;
 use ptp_units::ScaledTime;
-use slave_port::Report;
+use slave_port::{Exchange, Report};
 
 /// A microsecond, in units of 2^-16 ns.
 const MICROSECOND: u128 = 65_536_000;
 
-/// What is told of the reports of a recording. Values are in 2^-17 ns, as reports have them, and times in 2^-16 ns. Each count stays
+/// What is told of the reports of a recording. Offsets and path delays are in 2^-17 ns, as reports have them, and times in
+/// 2^-16 ns. Each count stays
 /// at 2^64 - 1.
 #[derive(Clone, Copy, Debug, PartialEq, Eq)]
 pub struct Statistics {
@@ -23,6 +24,10 @@ pub struct Statistics {
     pub trend: Trend,
     /// The path delays of the reports that a Delay_Resp completed.
     pub paths: Series,
+    /// What Sync and Follow_Up were corrected by together, of the reports that a Sync completed, in 2^-16 ns.
+    pub sync_corrections: Spread,
+    /// What the Delay_Resp was corrected by, of the reports that it completed, in 2^-16 ns.
+    pub delay_corrections: Spread,
     /// How many reports that a Delay_Resp completed have offset and path delay equal: the corrected arrival of the request is when it
     /// left.
     pub requests_at_once: u64,
@@ -99,6 +104,30 @@ fn path_at(line: u64, time: ScaledTime, report: &Report) -> Point
     }
 }
 
+/// What Sync and Follow_Up of an exchange were corrected by, whose report a line of this time completed.
+fn sync_correction_at(line: u64, time: ScaledTime, exchange: Option<Exchange>) -> Option<Point>
+    ensures { result ≡ option_map (λ x. record { line = line; time = time; value = x.sync_correction +ℤ x.follow_correction }) exchange }
+{
+    let exchange = exchange?;
+    Some(Point {
+        line,
+        time: time.value(),
+        value: i128::from(exchange.sync_correction) + i128::from(exchange.follow_correction),
+    })
+}
+
+/// What the Delay_Resp of an exchange was corrected by, whose report a line of this time completed.
+fn delay_correction_at(line: u64, time: ScaledTime, exchange: Option<Exchange>) -> Option<Point>
+    ensures { result ≡ option_map (λ x. record { line = line; time = time; value = x.response_correction }) exchange }
+{
+    let exchange = exchange?;
+    Some(Point {
+        line,
+        time: time.value(),
+        value: i128::from(exchange.response_correction),
+    })
+}
+
 /// Whether the Sync of a report arrived, corrected, when it left.
 fn is_sync_at_once(report: &Report) -> bool
     ensures { result ≡ int_eq (report.now.offset2 +ℤ report.now.path2) (pos 0) }
@@ -125,6 +154,8 @@ impl Statistics {
             offsets: Series::new(),
             trend: Trend::new(),
             paths: Series::new(),
+            sync_corrections: Spread::new(),
+            delay_corrections: Spread::new(),
             requests_at_once: 0,
             syncs_at_once: 0,
             last: None,
@@ -132,14 +163,21 @@ impl Statistics {
     }
 
     /// Takes the report that the datagram of this line and time completed.
-    fn take(&mut self, line: u64, time: ScaledTime, by: Half, report: &Report)
+    fn take(
+        &mut self,
+        line: u64,
+        time: ScaledTime,
+        by: Half,
+        report: &Report,
+        exchange: Option<Exchange>,
+    )
         ensures { (refusal : Option DecodeRefusal) (earlier : List Noted)
             → AreStatistics (record { line = line; time = time; refusal = refusal; reported = None } ∷ earlier) self.old
             → AreStatistics (record {
               line = line;
               time = time;
               refusal = refusal;
-              reported = Some (record { by = by; report = report.now });
+              reported = Some (record { by = by; report = report.now; exchange = exchange });
             } ∷ earlier) self.new }
     {
         self.last = Some(time);
@@ -148,10 +186,14 @@ impl Statistics {
                 let offset = offset_at(line, time, report);
                 self.offsets.take(offset);
                 self.trend.take(offset);
+                self.sync_corrections
+                    .take_some(sync_correction_at(line, time, exchange));
                 self.syncs_at_once = count_if(self.syncs_at_once, is_sync_at_once(report));
             }
             Half::Response => {
                 self.paths.take(path_at(line, time, report));
+                self.delay_corrections
+                    .take_some(delay_correction_at(line, time, exchange));
                 self.requests_at_once = count_if(self.requests_at_once, is_request_at_once(report));
             }
         }
@@ -205,16 +247,23 @@ impl Quality {
     }
 
     /// Takes the report that the last datagram completed, which is of this line and time.
-    pub fn report(&mut self, line: u64, time: ScaledTime, by: Half, report: &Report)
+    pub fn report(
+        &mut self,
+        line: u64,
+        time: ScaledTime,
+        by: Half,
+        report: &Report,
+        exchange: Option<Exchange>,
+    )
         ensures { (refusal : Option DecodeRefusal) (earlier : List Noted)
             → IsQuality (record { line = line; time = time; refusal = refusal; reported = None } ∷ earlier) self.old
             → IsQuality (record {
               line = line;
               time = time;
               refusal = refusal;
-              reported = Some (record { by = by; report = report.now });
+              reported = Some (record { by = by; report = report.now; exchange = exchange });
             } ∷ earlier) self.new }
     {
-        self.statistics.take(line, time, by, report);
+        self.statistics.take(line, time, by, report, exchange);
     }
 }

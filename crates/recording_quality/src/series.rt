@@ -1,5 +1,6 @@
 ghost use Rattle.std.specs.Prelude.{◌≡◌, List, [], ◌∷◌};
-ghost use Rattle.recording_quality.specs.Series.{IsSeries, above, below, lesser, greater};
+ghost use Rattle.std.specs.List.{cons_option};
+ghost use Rattle.recording_quality.specs.Series.{IsSeries, IsSpread, above, below, lesser, greater};
 ghost use Rattle.recording_quality.specs.Inner.Counting.{with_one_if};
 
 use crate::wide::Wide;
@@ -30,6 +31,15 @@ pub struct Series {
     pub negatives: u64,
     /// How many are 0.
     pub zeros: u64,
+    /// The least, the first of those that are equal.
+    pub least: Option<Point>,
+    /// The greatest, the first of those that are equal.
+    pub greatest: Option<Point>,
+}
+
+/// The least and the greatest of values that were measured.
+#[derive(Clone, Copy, Debug, PartialEq, Eq)]
+pub struct Spread {
     /// The least, the first of those that are equal.
     pub least: Option<Point>,
     /// The greatest, the first of those that are equal.
@@ -78,6 +88,35 @@ pub(crate) fn count_if(count: u64, is_so: bool) -> u64
         count.saturating_add(1)
     } else {
         count
+    }
+}
+
+impl Spread {
+    /// Of no values.
+    pub fn new() -> Spread
+        ensures { IsSpread [] result }
+    {
+        let (least, greatest) = (None, None);
+        Spread { least, greatest }
+    }
+
+    /// Takes one more value.
+    pub fn take(&mut self, point: Point)
+        ensures { (points : List Point) → IsSpread points self.old → IsSpread (point ∷ points) self.new }
+    {
+        *self = Spread {
+            least: lesser(point, self.least),
+            greatest: greater(point, self.greatest),
+        };
+    }
+
+    /// Takes one more value, if there is one.
+    pub(crate) fn take_some(&mut self, point: Option<Point>)
+        ensures { (points : List Point) → IsSpread points self.old → IsSpread (cons_option point points) self.new }
+    {
+        if let Some(point) = point {
+            self.take(point);
+        }
     }
 }
 

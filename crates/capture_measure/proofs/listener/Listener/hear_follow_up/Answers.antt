@@ -1,13 +1,12 @@
-use Rattle.std.proofs.Common.{◌≡◌, ◌∙◌, ◌∷◌, true, false, Option, Some, Ok, refl, sym, ap, subst}
+use Rattle.std.proofs.Common.{◌≡◌, ◌∙◌, ◌∷◌, true, false, Option, Some, Ok, sym, ap, subst}
 use Rattle.event_codec.specs.Packet.{Contents, contents}
 use Rattle.sync_watch.specs.Told.{Arrival, FollowUp}
 use Rattle.sync_watch.specs.Judged.{is_repeated}
 use Rattle.slave_port.specs.History.{Call, General}
 use Rattle.capture_model.specs.declared.watched.Watched.{Watched}
-use Rattle.capture_model.specs.Listening.{Listening, setup_in, table_capacity, is_of, arrival_of}
+use Rattle.capture_model.specs.Listening.{Listening, table_capacity, is_of, arrival_of}
 use Rattle.capture_model.specs.Listening.{hears_ready}
 use Rattle.capture_measure.specs.Inner.Listener.{IsListener, became_by, became_called}
-use Rattle.capture_measure.proofs.Listeners.{IsListener-told}
 use Rattle.capture_measure.proofs.Judged.{follow_up-other, follow_up-judged, says-newer, says-repeated}
 use Rattle.capture_measure.proofs.listener.Listener.hear_follow_up.Goals as goal
 

@@ -1,13 +1,12 @@
-use Rattle.std.proofs.Common.{◌≡◌, ◌∙◌, true, false, Some, Ok, refl, sym, ap, subst}
+use Rattle.std.proofs.Common.{◌≡◌, ◌∙◌, true, false, Some, Ok, sym, ap, subst}
 use Rattle.event_codec.specs.Packet.{Contents, contents}
 use Rattle.sync_watch.specs.Told.{Arrival}
 use Rattle.sync_watch.specs.Judged.{judged_refused}
 use Rattle.slave_port.specs.History.{Call, Event}
-use Rattle.capture_model.specs.Listening.{Listening, setup_in, table_capacity, is_stale, arrival_of, told}
+use Rattle.capture_model.specs.Listening.{Listening, table_capacity, is_stale, arrival_of, told}
 use Rattle.capture_model.specs.Listening.{with_count, answer_in}
 use Rattle.capture_measure.specs.declared.listener.Reply.{Reply}
 use Rattle.capture_measure.specs.Inner.Listener.{IsListener, became_by, reply_in}
-use Rattle.capture_measure.proofs.Listeners.{IsListener-told}
 use Rattle.capture_measure.proofs.Judged.{newer-other, refused-told, refused-reply, refused-anew, IsNoBeginning}
 use Rattle.capture_measure.proofs.Judged.{newer-begins-not, refused-begins, refused-begins-not}
 use Rattle.capture_measure.proofs.listener.Listener.hear_newer.Goals as goal

@@ -1,4 +1,4 @@
-use Rattle.std.proofs.Common.{◌≡◌, ◌∙◌, ◌∷◌, true, false, Option, Some, Ok, refl, sym, ap, subst}
+use Rattle.std.proofs.Common.{◌≡◌, ◌∙◌, ◌∷◌, true, false, Option, Some, Ok, sym, ap, subst}
 use Rattle.event_codec.specs.Packet.{Contents, contents}
 use Rattle.pairing.specs.Marked.{entry}
 use Rattle.sync_watch.specs.Told.{known}
@@ -6,10 +6,9 @@ use Rattle.event_codec.specs.Port.{is_same_port}
 use Rattle.std.specs.Prelude.{◌&&◌, is_some}
 use Rattle.slave_port.specs.History.{Call, General}
 use Rattle.capture_model.specs.declared.watched.Watched.{Watched}
-use Rattle.capture_model.specs.Listening.{Listening, setup_in, table_capacity, is_of}
+use Rattle.capture_model.specs.Listening.{Listening, table_capacity, is_of}
 use Rattle.capture_model.specs.Listening.{hears_ready}
 use Rattle.capture_measure.specs.Inner.Listener.{IsListener, became_by, became_called}
-use Rattle.capture_measure.proofs.Listeners.{IsListener-told}
 use Rattle.capture_measure.proofs.Judged.{response-other, response-judged, says-newer, says-repeated}
 use Rattle.capture_measure.proofs.listener.Listener.hear_response.Goals as goal
 

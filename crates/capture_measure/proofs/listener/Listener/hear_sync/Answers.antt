@@ -1,11 +1,10 @@
-use Rattle.std.proofs.Common.{◌≡◌, ◌∙◌, true, false, Some, Ok, refl, sym, ap, subst}
+use Rattle.std.proofs.Common.{◌≡◌, ◌∙◌, true, false, Some, Ok, sym, ap, subst}
 use Rattle.event_codec.specs.Packet.{Contents, contents}
 use Rattle.sync_watch.specs.declared.judgement.Judgement.TheVariants.{Newer, Repeated, BeganAnew}
 use Rattle.slave_port.specs.History.{Call, Event}
 use Rattle.capture_model.specs.declared.watched.Watched.{Watched}
-use Rattle.capture_model.specs.Listening.{setup_in, is_of}
+use Rattle.capture_model.specs.Listening.{is_of}
 use Rattle.capture_measure.specs.Inner.Listener.{IsListener, became_by}
-use Rattle.capture_measure.proofs.Listeners.{IsListener-told}
 use Rattle.capture_measure.proofs.Judged.{sync-begins, sync-begins-not, sync-other, sync-other-reply, sync-judged, sync-judged-reply, with_sync-judged, sync-anew}
 use Rattle.capture_measure.proofs.listener.Listener.hear_sync.Goals as goal
 

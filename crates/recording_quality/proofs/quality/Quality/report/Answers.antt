@@ -8,7 +8,7 @@ use Rattle.recording_quality.proofs.quality.Quality.report.Goals as goal
 pub returns : goal.returns
 returns c = λ refusal earlier so.
     let before : Noted = record { line = c.args.line; time = c.args.time; refusal = refusal; reported = None } in
-    let after : Noted = record before { reported = Some (record { by = c.args.by; report = c.args.report.now }) } in
+    let after : Noted = record before { reported = Some (record { by = c.args.by; report = c.args.report.now; exchange = c.args.exchange }) } in
     record {
       statistics = c.take.ensures refusal earlier so.statistics;
       times = reported_times before after.reported earlier c.args.self.now.times so.times;

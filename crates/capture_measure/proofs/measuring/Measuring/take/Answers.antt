@@ -21,7 +21,7 @@ use Rattle.capture_measure.proofs.Taken.{same_fault, goes_field, memory_field, l
 use Rattle.capture_measure.proofs.Told.{watched-stays}
 use Rattle.capture_measure.proofs.Watches.{whom_known, whom_stays}
 use Rattle.capture_measure.specs.Inner.Watching.{whom_of}
-use Rattle.capture_measure.proofs.measuring.MeasuringLineTask.take.Goals as goal
+use Rattle.capture_measure.proofs.measuring.Measuring.take.Goals as goal
 
 pub returns-in_err-self-clause-taken : goal.returns-in_err-self-clause-taken
 returns-in_err-self-clause-taken g c = λ r at.
