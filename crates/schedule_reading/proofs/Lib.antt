@@ -1,3 +1,4 @@
 pub mod Entries
+pub mod Taking
 pub mod OneFault
 pub mod OneForm

@@ -48,16 +48,29 @@ abbrev pub judged_in : Recorded → TranscriptLine → Option Judged
 judged_in state (recorded.Node node) = None
 judged_in state (recorded.Event number line) = option_map (judged_of state line) (report_in line.out)
 
+-- an entry follows, and this is its report
+abbrev pub TakesAt : TranscriptLine → (state later : Recorded) → Option Judged → Type 0
+TakesAt entry state later judged = Follows entry state later × (judged ≡ judged_in state entry)
+
 -- a line is an entry that follows, and this is its report
 abbrev pub Takes : List ℕ → (state later : Recorded) → Option Judged → Type 0
 Takes line state later judged = (entry : TranscriptLine) × (recorded_in line ≡ Ok entry)
-    × Follows entry state later × (judged ≡ judged_in state entry)
+    × TakesAt entry state later judged
 
 -- after these events this doesn't stand where it should: a node after an event, or an event with another number than
 -- its place
 abbrev pub IsOutOfPlace : Lines → TranscriptLine → Type 0
 IsOutOfPlace lines (recorded.Node node) = lines ≢ []
 IsOutOfPlace lines (recorded.Event number line) = number ≢ length lines
+
+-- Why an entry isn't taken: it is out of place, or it is the first event and the nodes are no network. Where memory is
+-- refused, nothing is known of the entry.
+abbrev pub StopsAt : TaskFault → Recorded → TranscriptLine → Type 0
+StopsAt Field state entry = IsOutOfPlace state.lines entry
+StopsAt (World why) state entry =
+    (first : TraceLine) × (entry ≡ recorded.Event 0 first) × (state.lines ≡ []) × (first_clash state.nodes ≡ Some why)
+StopsAt Memory state entry = ⊤
+StopsAt fault state entry = ⊥
 
 -- The fault of a line after these nodes and events, where the line itself was read. Where memory is refused, nothing is
 -- known of the line.

@@ -1,10 +1,11 @@
 //! A transcript, read and judged line by line.
-ghost use Rattle.std.specs.Prelude.{◌≡◌, ◌≢◌, ◌+◌, [], length, reverse, MatchOption, MatchResult, None};
+ghost use Rattle.std.specs.Prelude.{◌≡◌, ◌≢◌, ◌⊎◌, ◌+◌, [], length, reverse, MatchOption, MatchResult, None, Ok};
 ghost use Rattle.network_model.specs.Clash.{first_clash};
 ghost use Rattle.trace_model.specs.Verdict.{verdict};
 ghost use Rattle.schedule_lines.specs.declared.reading.transcript.TranscriptLine.TheVariants as recorded;
-ghost use Rattle.schedule_reading.specs.Transcript.{FaultsInTranscript, HasNoChecker, Takes};
-ghost use Rattle.schedule_reading.specs.Inner.Transcript.{Judges, StopsAt, TakesAt};
+ghost use Rattle.schedule_reading.specs.Entry.{recorded_in, IsOwnFault};
+ghost use Rattle.schedule_reading.specs.Transcript.{FaultsInTranscript, HasNoChecker, StopsAt, Takes, TakesAt};
+ghost use Rattle.schedule_reading.specs.Inner.Transcript.{Judges};
 
 use crate::fault::TaskFault;
 use crate::reader::LineReader;
@@ -75,7 +76,30 @@ impl Transcript {
             (λ judged. Takes line.now self.old self.new judged)
             (λ fault. (self.new ≡ self.old) × FaultsInTranscript fault self.old.nodes self.old.lines line.now) }
     {
-        match &self.reader.read_recorded(line)? {
+        let entry = self.read(line)?;
+        self.take_entry(&entry)
+    }
+
+    /// What a line is, which isn't taken: a node, or an event with what was recorded of it. `Json` for a line that is no
+    /// JSON, `Field` for one that is neither, and `Memory`.
+    pub fn read(&mut self, line: &[u8]) -> Result<TranscriptLine, TaskFault>
+        ensures same { self.new ≡ self.old }
+        ensures read { MatchResult result
+            (λ entry. recorded_in line.now ≡ Ok entry)
+            (λ fault. (fault ≡ TaskFault.Memory) ⊎ IsOwnFault recorded_in fault line.now) }
+    {
+        self.reader.read_recorded(line)
+    }
+
+    /// Takes what one more line is, as [`take`](Transcript::take) does: for those who use more of it than its report.
+    /// `Field` for a node after an event, or an event whose number isn't its place among the events, from 0; `World`
+    /// where the nodes are no network; and `Memory`. The transcript is then as it was.
+    pub fn take_entry(&mut self, entry: &TranscriptLine) -> Result<Option<Judged>, TaskFault>
+        ensures { MatchResult result
+            (λ judged. TakesAt entry.now self.old self.new judged)
+            (λ fault. (self.new ≡ self.old) × StopsAt fault self.old entry.now) }
+    {
+        match entry {
             TranscriptLine::Node(node) => {
                 self.push(*node)?;
                 Ok(None)
