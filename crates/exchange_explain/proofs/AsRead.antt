@@ -58,7 +58,7 @@ recorded_on : (number : ℕ) (front behind : List (List ℕ)) (s : Recorded) (la
     → TakesLines input_rules number front (Transcript s) later text → AsTranscript number front behind s later
 recorded_on number [] behind s later text some (same, nothing) =
     record { state = s; is = same; taken = (refl, refl); alone = λ none. absurd (some none) }
-recorded_on number (line ∷ front) behind s later text some (Transcript next, first, others, fine, (judged, (entry, is, follows, report), nothing), rest, whole) =
+recorded_on number (line ∷ front) behind s later text some (Transcript next, first, others, fine, (judged, (entry, is, (follows, report)), nothing), rest, whole) =
     let on = recorded_on (number + 1) front behind next later others (begun_on entry s next some follows) rest in record {
       state = on.state;
       is = on.is;
@@ -72,7 +72,7 @@ pub as_transcript : (number : ℕ) (front behind : List (List ℕ)) (s : Recorde
     → is_schedule (front ++ behind) ≡ false → TakesLines input_rules number front (Transcript s) later text → AsTranscript number front behind s later
 as_transcript number [] behind s later text none never (same, nothing) =
     record { state = s; is = same; taken = (refl, refl); alone = λ _. never }
-as_transcript number (line ∷ front) behind s later text none never (Transcript next, first, others, fine, (judged, (recorded.Node node, is, follows, report), nothing), rest, whole) =
+as_transcript number (line ∷ front) behind s later text none never (Transcript next, first, others, fine, (judged, (recorded.Node node, is, (follows, report)), nothing), rest, whole) =
     let entry = scheduled_node (without_cr line) node is in
     let still = sym (ap (λ (e : Result Line TaskFault). is_schedule_from e (is_schedule (front ++ behind))) entry) ∙ never in
     let on = as_transcript (number + 1) front behind next later others (ap (λ (r : Recorded). r.lines) follows.1) still rest in record {
@@ -81,7 +81,7 @@ as_transcript number (line ∷ front) behind s later text none never (Transcript
       taken = (next, [], [], fine, (recorded.Node node, is, follows, refl), on.taken, refl);
       alone = on.alone;
     }
-as_transcript number (line ∷ front) behind s later text none never (Transcript next, first, others, fine, (judged, (recorded.Event place event, is, follows, report), nothing), rest, whole) =
+as_transcript number (line ∷ front) behind s later text none never (Transcript next, first, others, fine, (judged, (recorded.Event place event, is, (follows, report)), nothing), rest, whole) =
     let on = recorded_on (number + 1) front behind next later others (has_begun s next place event follows) rest in record {
       state = on.state;
       is = on.is;
@@ -136,7 +136,7 @@ pub as_schedule : (number : ℕ) (front behind : List (List ℕ)) (s : Recorded)
     → AsSchedule number front behind (new_state s.nodes) later
 as_schedule number [] behind s later text none ever (same, nothing) =
     record { state = new_state s.nodes; taken = (refl, refl); is = inl (s, same, none, refl, ever) }
-as_schedule number (line ∷ front) behind s later text none ever (Transcript next, first, others, fine, (judged, (recorded.Node node, is, follows, report), nothing), rest, whole) =
+as_schedule number (line ∷ front) behind s later text none ever (Transcript next, first, others, fine, (judged, (recorded.Node node, is, (follows, report)), nothing), rest, whole) =
     let entry = scheduled_node (without_cr line) node is in
     let still = sym (ap (λ (e : Result Line TaskFault). is_schedule_from e (is_schedule (front ++ behind))) entry) ∙ ever in
     let on = as_schedule (number + 1) front behind next later others (ap (λ (r : Recorded). r.lines) follows.1) still rest in record {
@@ -152,7 +152,7 @@ as_schedule number (line ∷ front) behind s later text none ever (Transcript ne
       );
       is = on.is;
     }
-as_schedule number (line ∷ front) behind s later text none ever (Transcript next, first, others, fine, (judged, (recorded.Event place event, is, follows, report), nothing), rest, whole) =
+as_schedule number (line ∷ front) behind s later text none ever (Transcript next, first, others, fine, (judged, (recorded.Event place event, is, (follows, report)), nothing), rest, whole) =
     absurd (not_recorded (without_cr line) place event (is_schedule (front ++ behind)) is ever)
 as_schedule number (line ∷ front) behind s later text none ever (Schedule next, first, others, fine, (judged, (event, begins, happens, none'), nothing), rest, whole) =
     let on = happened_on (number + 1) front behind next later others (ap (λ (u : State). first_clash u.network) happens.2 ∙ happens.0) rest in record {

@@ -2,6 +2,9 @@ pub mod Codes
 pub mod Events
 pub mod Faults
 pub mod Untold
+pub mod Joined
+pub mod Times
+pub mod Noting
 pub mod Seen
 pub mod Reports
 pub mod OneRead

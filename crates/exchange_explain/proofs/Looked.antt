@@ -32,12 +32,12 @@ use Rattle.exchange_explain.proofs.AsRead.{input_rules}
 -- ---- how many lines were read
 
 counted : (line : List ℕ) (input later : Input) (judged : Option Judged) → Takes line input later judged → lines_in later ≡ lines_in input + 1
-counted line (Transcript s) (Transcript later) judged (recorded.Node node, is, (none, follows), report) =
+counted line (Transcript s) (Transcript later) judged (recorded.Node node, is, ((none, follows), report)) =
     let nodes : length later.nodes ≡ length s.nodes + 1 = ap (λ (r : Recorded). length r.nodes) follows ∙ simp length-append in
     let lines : length later.lines ≡ 0 = ap (λ (r : Recorded). length r.lines) follows in
     let empty : length s.lines ≡ 0 = ap (λ (l : Lines). length l) none in
     omega (arith, nodes, lines, empty)
-counted line (Transcript s) (Transcript later) judged (recorded.Event number event, is, (place, network, follows), report) =
+counted line (Transcript s) (Transcript later) judged (recorded.Event number event, is, ((place, network, follows), report)) =
     let nodes : length later.nodes ≡ length s.nodes = ap (λ (r : Recorded). length r.nodes) follows in
     let lines : length later.lines ≡ suc (length s.lines) = ap (λ (r : Recorded). length r.lines) follows in
     omega (arith, nodes, lines)

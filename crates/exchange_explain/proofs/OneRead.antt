@@ -36,14 +36,14 @@ one_event line event other h k = cc (h, k)
 
 pub one_taken : (line : List ℕ) (input one other : Input) (judged judged' : Option Judged) → Takes line input one judged → Takes line input other judged'
     → (other ≡ one) × (judged' ≡ judged)
-one_taken line (Transcript state) (Transcript one) (Transcript other) judged judged' (entry, is, follows, report) (entry', is', follows', report') =
+one_taken line (Transcript state) (Transcript one) (Transcript other) judged judged' (entry, is, (follows, report)) (entry', is', (follows', report')) =
     let same : entry' ≡ entry = cc (is, is') in (
       ap Transcript (one_recorded state one other entry follows (subst (λ (e : TranscriptLine). Follows e state other) same follows')),
       report' ∙ ap (judged_in state) same ∙ sym report,
     )
-one_taken line (Transcript state) (Transcript one) (Schedule other) judged judged' (entry, is, follows, report) (event, begins, happens, none) =
+one_taken line (Transcript state) (Transcript one) (Schedule other) judged judged' (entry, is, (follows, report)) (event, begins, happens, none) =
     absurd (one_form line event entry begins.1 is)
-one_taken line (Transcript state) (Schedule one) (Transcript other) judged judged' (event, begins, happens, none) (entry, is, follows, report) =
+one_taken line (Transcript state) (Schedule one) (Transcript other) judged judged' (event, begins, happens, none) (entry, is, (follows, report)) =
     absurd (one_form line event entry begins.1 is)
 one_taken line (Transcript state) (Schedule one) (Schedule other) judged judged' (event, begins, happens, none) (event', begins', happens', none') =
     let same = one_event line event event' begins.1 begins'.1 in (
@@ -91,7 +91,7 @@ no_event_fault line event state later fault is happens own faults =
 
 pub no_input_fault : (line : List ℕ) (input later : Input) (judged : Option Judged) (fault : TaskFault) → IsInText fault → Takes line input later judged
     → Faults fault input line → ⊥
-no_input_fault line (Transcript state) (Transcript later) judged fault own (entry, is, follows, report) faults =
+no_input_fault line (Transcript state) (Transcript later) judged fault own (entry, is, (follows, report)) faults =
     go (of_transcript fault state line own faults)
   where
     go : FaultsBegun fault state line → ⊥

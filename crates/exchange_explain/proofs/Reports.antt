@@ -24,8 +24,8 @@ use Rattle.exchange_explain.specs.Inner.Explaining.{IsExplaining, IsSeenAlike, H
 pub has_event : (line : List ℕ) (input later : Input) (judged : Option Judged) → Takes line input later judged
     → HasEventFor later judged
 has_event line input later None takes = tt
-has_event line (Transcript state) (Transcript later) (Some judged) (recorded.Node node, is, follows, none) = absurd cc
-has_event line (Transcript state) (Transcript later) (Some judged) (recorded.Event number event, is, (place, network, follows), some) =
+has_event line (Transcript state) (Transcript later) (Some judged) (recorded.Node node, is, (follows, none)) = absurd cc
+has_event line (Transcript state) (Transcript later) (Some judged) (recorded.Event number event, is, ((place, network, follows), some)) =
     let lines : later.lines ≡ event ∷ state.lines = ap (λ (r : Recorded). r.lines) follows in
     λ none. absurd (cc (lines, none))
 has_event line (Transcript state) (Schedule later) (Some judged) (event, begins, happens, none) = absurd cc

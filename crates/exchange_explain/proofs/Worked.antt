@@ -69,7 +69,7 @@ no_json_judged = record {
     [],
     [],
     refl,
-    (None, (recorded.Node clock, clock_recorded, (refl, refl), refl), refl, refl),
+    (None, (recorded.Node clock, clock_recorded, ((refl, refl), refl)), refl, refl),
     (refl, refl),
     refl,
   );
@@ -90,7 +90,7 @@ no_json_explained = record {
     [],
     [],
     refl,
-    (refl, (None, (recorded.Node clock, clock_recorded, (refl, refl), refl), refl, refl)),
+    (refl, (None, (recorded.Node clock, clock_recorded, ((refl, refl), refl)), refl, refl)),
     (
       record { first = false; input = Transcript clock_alone; reports = []; fault = Some (2, Json) },
       [],
@@ -138,7 +138,7 @@ clock_ticks_judged = record {
     [],
     [],
     refl,
-    (None, (recorded.Node clock, clock_recorded, (refl, refl), refl), refl, refl),
+    (None, (recorded.Node clock, clock_recorded, ((refl, refl), refl)), refl, refl),
     (refl, refl),
     refl,
   );

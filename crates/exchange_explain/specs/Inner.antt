@@ -2,3 +2,5 @@
 -- it, so nobody has to believe it.
 pub mod Schedule
 pub mod Explaining
+pub mod Noting
+pub mod Times

@@ -1,31 +1,108 @@
 -- What the report of a line is judged to be, as JSON.
-use Rattle.std.specs.Prelude.{ℕ, List, ◌++◌, codes, Option, Some, None}
+use Rattle.std.specs.Prelude.{ℕ, ◌^◌, nat_lt, ℤ, pos, negsuc, ◌-ℤ◌, Bool, false, ◌&&◌, not, List, ◌++◌, codes}
+use Rattle.std.specs.Prelude.{if◌then◌else◌, Option, Some, None}
 use Rattle.std.specs.List.{join_by}
 use Rattle.std.specs.Fmt.{decimal, signed_decimal}
+use Rattle.std.specs.Ordering.{int_eq}
+use Rattle.ptp_units.specs.Moment.{stamp_of, fraction_of}
+use Rattle.ptp_units.specs.Nanoseconds.{nanoseconds_text}
+use Rattle.slave_port.specs.declared.heard.Report.{Report}
 use Rattle.trace_model.specs.declared.judgement.Results.{Results}
 use Rattle.trace_model.specs.declared.verdict.Why.{Why}
 use Rattle.trace_model.specs.Refusal.{code_of}
 use Rattle.schedule_reading.specs.declared.transcript.Judged.{Judged}
+use Rattle.exchange_explain.specs.declared.details.Details.{Details}
 
--- the results by the readings, or null
-abbrev pub by_readings_text : Option Results → List ℕ
-by_readings_text None = codes "null"
-by_readings_text (Some results) =
+-- two results, or null
+abbrev pub results_text : Option Results → List ℕ
+results_text None = codes "null"
+results_text (Some results) =
     codes "{\"offset2\":\"" ++ signed_decimal results.offset2
     ++ codes "\",\"path2\":\"" ++ signed_decimal results.path2 ++ codes "\"}"
+
+-- a number, where it has 128 bits with its sign
+abbrev pub of_128_bits : ℤ → Option ℤ
+of_128_bits (pos n) = if nat_lt n (2 ^ 127) then Some (pos n) else None
+of_128_bits (negsuc n) = if nat_lt n (2 ^ 127) then Some (negsuc n) else None
+
+-- what one number has more than another, where that has 128 bits
+abbrev pub difference : ℤ → ℤ → Option ℤ
+difference one other = of_128_bits (one -ℤ other)
+
+-- two differences, where both are there
+abbrev pub both_differences : (offset2 path2 : Option ℤ) → Option Results
+both_differences (Some offset2) (Some path2) = Some (record { offset2 = offset2; path2 = path2 })
+both_differences _ _ = None
+
+-- what the two results of a report have more than these
+abbrev pub errors_against : Report → Option Results → Option Results
+errors_against report None = None
+errors_against report (Some results) =
+    both_differences (difference report.offset2 results.offset2) (difference report.path2 results.path2)
+
+-- two errors in nanoseconds, exactly, or null
+abbrev pub errors_text : Option Results → List ℕ
+errors_text None = codes "null"
+errors_text (Some errors) =
+    codes "{\"offset\":\"" ++ nanoseconds_text errors.offset2
+    ++ codes "\",\"path\":\"" ++ nanoseconds_text errors.path2 ++ codes "\"}"
+
+-- whether the results of a report aren't those by the readings, so that 706 stands
+abbrev pub is_wrong : Report → (by_readings : Option Results) → Bool
+is_wrong report None = false
+is_wrong report (Some results) =
+    not (int_eq report.offset2 results.offset2 && int_eq report.path2 results.path2)
+
+-- the errors against the results by the messages and by the readings, where 706 stands, or null
+abbrev pub error_text : (stands : Bool) → (by_messages by_readings : Option Results) → List ℕ
+error_text stands by_messages by_readings = if stands then
+    (codes "{\"by_messages\":" ++ errors_text by_messages ++ codes ",\"by_readings\":" ++ errors_text by_readings
+    ++ codes "}") else codes "null"
 
 -- the numbers of reasons, with commas between them
 abbrev pub codes_text : List Why → List ℕ
 codes_text whys = join_by (λ why. decimal (code_of why)) (codes ",") whys
 
--- what a report is judged to be, in one line
-abbrev pub judged_text : Judged → List ℕ
-judged_text judged =
-    codes "{\"by_readings\":" ++ by_readings_text judged.judgement.by_readings
-    ++ codes ",\"event\":" ++ decimal judged.event
+-- the tag of a Follow_Up, or null
+abbrev pub follow_text : Option ℕ → List ℕ
+follow_text None = codes "null"
+follow_text (Some tag) = decimal tag
+
+-- a moment `[s,n,f]`, in seconds, nanoseconds and 2^-16 ns, or null
+abbrev pub time_text : Option ℕ → List ℕ
+time_text None = codes "null"
+time_text (Some time) =
+    codes "[" ++ decimal (stamp_of time).seconds ++ codes "," ++ decimal (stamp_of time).nanos
+    ++ codes "," ++ decimal (fraction_of time) ++ codes "]"
+
+-- the two results that a report should have, and how wrong its own are
+abbrev pub owed_text : Judged → Details → List ℕ
+owed_text judged details =
+    codes "{\"by_messages\":" ++ results_text details.by_messages
+    ++ codes ",\"by_readings\":" ++ results_text judged.judgement.by_readings
+    ++ codes ",\"error\":" ++ error_text (is_wrong judged.report judged.judgement.by_readings)
+    (errors_against judged.report details.by_messages) (errors_against judged.report judged.judgement.by_readings)
+
+-- where a report stands, and its two results
+abbrev pub reported_text : Judged → List ℕ
+reported_text judged =
+    codes ",\"event\":" ++ decimal judged.event
     ++ codes ",\"line\":" ++ decimal judged.line
     ++ codes ",\"node\":\"" ++ judged.node
     ++ codes "\",\"offset2\":\"" ++ signed_decimal judged.report.offset2
-    ++ codes "\",\"path2\":\"" ++ signed_decimal judged.report.path2
-    ++ codes "\",\"reasons\":[" ++ codes_text judged.judgement.reasons
-    ++ codes "]}\n"
+    ++ codes "\",\"path2\":\"" ++ signed_decimal judged.report.path2 ++ codes "\""
+
+-- the reasons against a report, its tags, and when it was
+abbrev pub reasons_text : Judged → Details → List ℕ
+reasons_text judged details =
+    codes ",\"reasons\":[" ++ codes_text judged.judgement.reasons
+    ++ codes "],\"tags\":[" ++ decimal judged.report.sync_tag
+    ++ codes "," ++ follow_text judged.report.follow_tag
+    ++ codes "," ++ decimal judged.report.request_tag
+    ++ codes "," ++ decimal judged.report.response_tag
+    ++ codes "],\"time\":" ++ time_text details.time
+    ++ codes "}\n"
+
+-- what a report is judged to be, and what is told of it beside that, in one line
+abbrev pub judged_text : Judged → Details → List ℕ
+judged_text judged details = owed_text judged details ++ (reported_text judged ++ reasons_text judged details)

@@ -18,6 +18,7 @@ use Rattle.exchange_explain.specs.declared.input.Found.{Found}
 use Rattle.exchange_explain.specs.declared.input.Input.{Input}
 use Rattle.exchange_explain.specs.declared.input.Input.TheVariants.{Transcript, Schedule}
 use Rattle.exchange_explain.specs.Input.{nothing, Takes, Faults, IsFound, FaultsAtEnd}
+use Rattle.exchange_explain.specs.Details.{details_of}
 use Rattle.exchange_explain.specs.Judged.{judged_text}
 
 -- whether only the first report that is refused is told, and the input so far
@@ -42,7 +43,8 @@ is_told first number input = if first then is_first_refused number input else tr
 -- what is written of a line after which the input is this: what its report is judged to be, where it has one that is told
 abbrev pub told_text : Bool → Input → Option Judged → List ℕ
 told_text first later None = []
-told_text first later (Some judged) = if is_told first judged.event later then judged_text judged else []
+told_text first later (Some judged) =
+    if is_told first judged.event later then judged_text judged (details_of later judged.report) else []
 
 -- the fault of a line: that of the line itself, or that what is written of it couldn't go out
 abbrev pub StopsJudging : Bool → TaskFault → Input → List ℕ → Type 0

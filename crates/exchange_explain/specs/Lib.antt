@@ -1,5 +1,6 @@
 pub mod Input
 pub mod Judged
+pub mod Details
 pub mod Judgements
 pub mod Explained
 pub mod Inner

@@ -18,12 +18,12 @@ ghost use Rattle.exchange_explain.specs.Inner.Explaining.{IsExplaining, IsKeptAl
 
 use crate::flaws::{Flaws, push_foreign};
 use crate::found::push_found;
-use crate::input::{Found, Input};
+use crate::input::{Found, Input, Taken};
 use exchange_story::{Before, Reported, Story, push_clash};
 use line_flaws::Foreign;
 use network_model::WorldRefusal;
 use schedule_lines::TranscriptLine;
-use schedule_reading::{Judged, TaskFault, Transcript, read_recorded};
+use schedule_reading::{Judged, TaskFault};
 use std::alloc::{AllocError, Global};
 use std::io::{Read, Write};
 use text_lines::{
@@ -143,21 +143,22 @@ impl Explaining {
             (λ fault. fault ≡ TaskFault.Memory) }
     {
         match self.input.take(self.alloc, line) {
-            Ok(judged) => Ok(self.tell_taken(line, judged)?),
+            Ok(taken) => Ok(self.tell_taken(taken)?),
             Err(TaskFault::Memory) => Err(TaskFault::Memory),
             Err(fault) => self.tell_fault(fault, line),
         }
     }
 
     /// Keeps what was recorded of a line that the input took, and tells its report.
-    fn tell_taken(&mut self, line: &[u8], judged: Option<Judged>) -> Result<(), AllocError>
+    fn tell_taken(&mut self, taken: Taken) -> Result<(), AllocError>
         ensures alike { IsSeenAlike self.old self.new }
         ensures told { (reports : List (List Why)) → self.old.story ≡ counts_of reports
-            → HasEventFor self.old.input judged → string_bytes self.old.text ≡ []
-            → OnOk result ((self.new.story ≡ counts_of (with_report judged reports))
-            × TellsLine self.old.first self.old.input judged (string_bytes self.new.text)) }
+            → HasEventFor self.old.input taken.judged → string_bytes self.old.text ≡ []
+            → OnOk result ((self.new.story ≡ counts_of (with_report taken.judged reports))
+            × TellsLine self.old.first self.old.input taken.judged (string_bytes self.new.text)) }
     {
-        self.keep(line)?;
+        let Taken { entry, judged } = taken;
+        self.keep(entry)?;
         match judged {
             Some(judged) => self.tell_report(&reported(judged)),
             None => Ok(()),
@@ -165,20 +166,19 @@ impl Explaining {
     }
 
     /// Keeps what was recorded of a line that a transcript took.
-    fn keep(&mut self, line: &[u8]) -> Result<(), AllocError>
+    fn keep(&mut self, entry: Option<TranscriptLine>) -> Result<(), AllocError>
         ensures { IsKeptAlike self.old self.new }
     {
         let Input::Transcript(transcript) = &self.input else {
             return Ok(());
         };
-        match read_recorded(self.alloc, line) {
-            Ok(TranscriptLine::Node(node)) => self.story.push_node(node),
-            Ok(TranscriptLine::Event { line, .. }) => match transcript.checker() {
+        match entry {
+            Some(TranscriptLine::Node(node)) => self.story.push_node(node),
+            Some(TranscriptLine::Event { line, .. }) => match transcript.checker() {
                 Some(checker) => self.story.push_event(line, checker),
                 None => Ok(()),
             },
-            Err(TaskFault::Memory) => Err(AllocError),
-            Err(_) => Ok(()),
+            None => Ok(()),
         }
     }
 
@@ -191,11 +191,25 @@ impl Explaining {
             × TellsIf (is_told self.old.first reported.now.event self.old.input) reported.now
             (string_bytes self.new.text)) }
     {
-        self.story.count(&reported.judgement.reasons);
+        self.count(reported)?;
         if !self.is_told(reported.event) {
             return Ok(());
         }
         self.push_report(reported)
+    }
+
+    /// Counts a report.
+    fn count(&mut self, reported: &Reported) -> Result<(), AllocError>
+        ensures alike { IsSeenAlike self.old self.new }
+        ensures text { self.new.text ≡ self.old.text }
+        ensures counts { (reports : List (List Why)) → self.old.story ≡ counts_of reports
+            → OnOk result (self.new.story ≡ counts_of (reported.now.judgement.reasons ∷ reports)) }
+    {
+        let checker = match &self.input {
+            Input::Transcript(transcript) => transcript.checker(),
+            Input::Schedule(_) => None,
+        };
+        self.story.count(reported, checker)
     }
 
     /// Whether the report of the event of this number is told.
@@ -364,7 +378,7 @@ pub fn explain<R: Read, W: Write>(
 {
     let mut task = Explaining {
         alloc,
-        input: Input::Transcript(Transcript::new(alloc)),
+        input: Input::new(alloc),
         flaws: None,
         first,
         story: Story::new(alloc),

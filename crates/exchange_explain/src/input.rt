@@ -1,15 +1,18 @@
 //! What the lines of an input are: a transcript or a schedule.
-ghost use Rattle.std.specs.Prelude.{◌≡◌, ◌≢◌, ◌⊎◌, ◌+◌, [], MatchOption, MatchResult};
+ghost use Rattle.std.specs.Prelude.{◌≡◌, ◌≢◌, ◌⊎◌, ◌+◌, [], MatchOption, MatchResult, None};
 ghost use Rattle.network_model.specs.declared.event.Event.{Event};
 ghost use Rattle.world_model.specs.State.{new_state};
 ghost use Rattle.schedule_reading.specs.Schedule.{FaultsIn};
+ghost use Rattle.schedule_reading.specs.Transcript as transcripts;
+ghost use Rattle.exchange_explain.specs.declared.input.Input.TheVariants as inputs;
 ghost use Rattle.exchange_explain.specs.Judgements.{is_first_refused};
-ghost use Rattle.exchange_explain.specs.Input.{BeginsSchedule, Happens, Takes, Faults, IsFound, FaultsAtEnd, lines_in};
+ghost use Rattle.exchange_explain.specs.Input.{nothing, BeginsSchedule, Happens, Takes, Faults, IsFound, FaultsAtEnd, lines_in};
+ghost use Rattle.exchange_explain.specs.Inner.Noting.{Enters};
 
 use crate::schedule::Scheduled;
 use exchange_check::Verdict;
 use network_model::Event;
-use schedule_lines::Line;
+use schedule_lines::{Line, TranscriptLine};
 use schedule_reading::{Judged, TaskFault, Transcript, read_entry};
 use std::alloc::Global;
 
@@ -31,21 +34,50 @@ pub(crate) enum Input {
     Schedule(Scheduled),
 }
 
+/// A line that was taken.
+#[derive(Drop)]
+pub(crate) struct Taken {
+    /// What a line of a transcript is; none of a schedule.
+    pub(crate) entry: Option<TranscriptLine>,
+    /// The report of the line with what it is judged to be; none where it has none.
+    pub(crate) judged: Option<Judged>,
+}
+
+impl Taken {
+    /// A line of a schedule, which has no report.
+    fn nothing() -> Taken
+        ensures { (result.entry ≡ None) × (result.judged ≡ None) }
+    {
+        Taken {
+            entry: None,
+            judged: None,
+        }
+    }
+}
+
 impl Input {
-    /// One more line. Answers the report of the line with what it is judged to be; none where the line has no report.
-    pub(crate) fn take(&mut self, alloc: Global, line: &[u8]) -> Result<Option<Judged>, TaskFault>
+    /// No line was read.
+    pub(crate) fn new(alloc: Global) -> Input
+        ensures { result ≡ nothing }
+    {
+        Input::Transcript(Transcript::new(alloc))
+    }
+
+    /// One more line. Answers what it is, and the report of the line with what it is judged to be; none where the line has
+    /// no report.
+    pub(crate) fn take(&mut self, alloc: Global, line: &[u8]) -> Result<Taken, TaskFault>
         ensures { MatchResult result
-            (λ judged. Takes line.now self.old self.new judged)
+            (λ taken. Takes line.now self.old self.new taken.judged × Enters taken.entry self.old self.new)
             (λ fault. (self.new ≡ self.old) × Faults fault self.old line.now) }
     {
         match self {
-            Input::Transcript(transcript) => match transcript.take(line) {
-                Ok(judged) => Ok(judged),
+            Input::Transcript(transcript) => match take_line(transcript, line) {
+                Ok(taken) => Ok(taken),
                 Err(TaskFault::Memory) => Err(TaskFault::Memory),
                 Err(fault) => match begun(alloc, transcript, line) {
                     Ok(Some(scheduled)) => {
                         *self = Input::Schedule(scheduled);
-                        Ok(None)
+                        Ok(Taken::nothing())
                     }
                     Ok(None) => Err(fault),
                     Err(fault) => Err(fault),
@@ -53,7 +85,7 @@ impl Input {
             },
             Input::Schedule(scheduled) => {
                 scheduled.take(alloc, line)?;
-                Ok(None)
+                Ok(Taken::nothing())
             }
         }
     }
@@ -104,6 +136,22 @@ impl Input {
             Input::Schedule(scheduled) => Ok(Found::Schedule(scheduled.len())),
         }
     }
+}
+
+/// One more line of a transcript.
+fn take_line(transcript: &mut Transcript, line: &[u8]) -> Result<Taken, TaskFault>
+    ensures { MatchResult result
+        (λ taken. transcripts.Takes line.now transcript.old transcript.new taken.judged
+        × Enters taken.entry (inputs.Transcript transcript.old) (inputs.Transcript transcript.new))
+        (λ fault. (transcript.new ≡ transcript.old)
+        × transcripts.FaultsInTranscript fault transcript.old.nodes transcript.old.lines line.now) }
+{
+    let entry = transcript.read(line)?;
+    let judged = transcript.take_entry(&entry)?;
+    Ok(Taken {
+        entry: Some(entry),
+        judged,
+    })
 }
 
 /// The schedule that begins with this line, where no event stands before it and it is an event without what came of it.

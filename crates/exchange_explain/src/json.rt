@@ -1,20 +1,25 @@
 //! What a report is judged to be, as JSON.
 ghost use Rattle.std.specs.Prelude.{◌≡◌, ◌++◌, OnOk, Some};
 ghost use Rattle.std.specs.String.{string_bytes};
-ghost use Rattle.exchange_explain.specs.Judged.{by_readings_text, codes_text, judged_text};
+ghost use Rattle.exchange_explain.specs.Judged.{codes_text, difference, errors_against, errors_text, error_text};
+ghost use Rattle.exchange_explain.specs.Judged.{follow_text, is_wrong, judged_text, owed_text, reasons_text};
+ghost use Rattle.exchange_explain.specs.Judged.{reported_text, results_text, time_text};
 
+use crate::details::Details;
 use exchange_check::{Results, Why};
+use network_model::Report;
+use ptp_units::{Nanoseconds, ScaledTime};
 use schedule_reading::Judged;
 use std::alloc::AllocError;
 use std::fmt;
 use std::fmt::{Display, Formatter};
 
-/// The results by the readings, or null.
+/// Two results, or null.
 #[derive(Clone, Copy)]
-struct ByReadings(Option<Results>);
+struct Pair(Option<Results>);
 
-impl Display for ByReadings {
-    ghost output = { λ results. Some (by_readings_text results.0) };
+impl Display for Pair {
+    ghost output = { λ results. Some (results_text results.0) };
 
     fn fmt<W: fmt::Write>(&self, f: &mut Formatter<W>) -> fmt::Result {
         match self.0 {
@@ -25,6 +30,50 @@ impl Display for ByReadings {
             ),
             None => f.write_str("null"),
         }
+    }
+}
+
+/// Two errors in nanoseconds, or null.
+#[derive(Clone, Copy)]
+struct Errors(Option<Results>);
+
+impl Display for Errors {
+    ghost output = { λ errors. Some (errors_text errors.0) };
+
+    fn fmt<W: fmt::Write>(&self, f: &mut Formatter<W>) -> fmt::Result {
+        match self.0 {
+            Some(errors) => write!(
+                f,
+                "{{\"offset\":\"{}\",\"path\":\"{}\"}}",
+                Nanoseconds(errors.offset2),
+                Nanoseconds(errors.path2)
+            ),
+            None => f.write_str("null"),
+        }
+    }
+}
+
+/// The errors of a report against its results by the messages and by the readings, or null where 706 doesn't stand.
+#[derive(Clone, Copy)]
+struct Error {
+    stands: bool,
+    by_messages: Option<Results>,
+    by_readings: Option<Results>,
+}
+
+impl Display for Error {
+    ghost output = { λ error. Some (error_text error.stands error.by_messages error.by_readings) };
+
+    fn fmt<W: fmt::Write>(&self, f: &mut Formatter<W>) -> fmt::Result {
+        if !self.stands {
+            return f.write_str("null");
+        }
+        write!(
+            f,
+            "{{\"by_messages\":{},\"by_readings\":{}}}",
+            Errors(self.by_messages),
+            Errors(self.by_readings)
+        )
     }
 }
 
@@ -45,24 +94,138 @@ impl Display for Codes<'_> {
     }
 }
 
-/// Appends what a report is judged to be, in one line, with the keys in the order of their octets.
-pub(crate) fn push_judged(text: &mut String, judged: &Judged) -> Result<(), AllocError>
-    ensures { OnOk result (string_bytes text.new ≡ string_bytes text.old ++ judged_text judged.now) }
+/// The tag of a Follow_Up, or null.
+#[derive(Clone, Copy)]
+struct FollowTag(Option<u64>);
+
+impl Display for FollowTag {
+    ghost output = { λ tag. Some (follow_text tag.0) };
+
+    fn fmt<W: fmt::Write>(&self, f: &mut Formatter<W>) -> fmt::Result {
+        match self.0 {
+            Some(tag) => write!(f, "{tag}"),
+            None => f.write_str("null"),
+        }
+    }
+}
+
+/// A moment as it stands in a transcript, or null.
+#[derive(Clone, Copy)]
+struct Time(Option<ScaledTime>);
+
+impl Display for Time {
+    ghost output = { λ time. Some (time_text time.0) };
+
+    fn fmt<W: fmt::Write>(&self, f: &mut Formatter<W>) -> fmt::Result {
+        let Some(time) = self.0 else {
+            return f.write_str("null");
+        };
+        let (timestamp, fraction) = time.split();
+        write!(
+            f,
+            "[{},{},{fraction}]",
+            timestamp.seconds(),
+            timestamp.nanos()
+        )
+    }
+}
+
+/// What one number has more than another; none where that has more than 128 bits.
+fn difference(one: i128, other: i128) -> Option<i128>
+    ensures { result ≡ difference one other }
 {
-    let judgement = &judged.judgement;
+    one.checked_sub(other)
+}
+
+/// What the results of a report have more than these; none where that has more than 128 bits.
+fn errors_against(report: &Report, results: Option<Results>) -> Option<Results>
+    ensures { result ≡ errors_against report.now results }
+{
+    let results = results?;
+    let offset2 = difference(report.offset2, results.offset2)?;
+    let path2 = difference(report.path2, results.path2)?;
+    Some(Results { offset2, path2 })
+}
+
+/// Whether the results of a report aren't those by the readings, so that 706 stands.
+fn is_wrong(report: &Report, by_readings: Option<Results>) -> bool
+    ensures { result ≡ is_wrong report.now by_readings }
+{
+    match by_readings {
+        Some(results) => { !(report.offset2 == results.offset2 && report.path2 == results.path2) }
+        None => false,
+    }
+}
+
+/// How wrong the results of a report are.
+fn error_of(judged: &Judged, details: &Details) -> Error
+    ensures stands { result.stands ≡ is_wrong judged.now.report judged.now.judgement.by_readings }
+    ensures by_messages { result.by_messages ≡ errors_against judged.now.report details.now.by_messages }
+    ensures by_readings { result.by_readings ≡ errors_against judged.now.report judged.now.judgement.by_readings }
+{
+    let report = &judged.report;
+    let by_readings = judged.judgement.by_readings;
+    Error {
+        stands: is_wrong(report, by_readings),
+        by_messages: errors_against(report, details.by_messages),
+        by_readings: errors_against(report, by_readings),
+    }
+}
+
+/// Appends the two results that a report should have, and how wrong its own are.
+fn push_owed(text: &mut String, judged: &Judged, details: &Details) -> Result<(), AllocError>
+    ensures { OnOk result (string_bytes text.new ≡ string_bytes text.old ++ owed_text judged.now details.now) }
+{
     write!(
         text,
-        "{{\"by_readings\":{},\"event\":{},\"line\":{},\"node\":\"{}\"",
-        ByReadings(judgement.by_readings),
+        "{{\"by_messages\":{},\"by_readings\":{},\"error\":",
+        Pair(details.by_messages),
+        Pair(judged.judgement.by_readings)
+    )?;
+    write!(text, "{}", error_of(judged, details))
+}
+
+/// Appends where a report stands, and its two results.
+fn push_reported(text: &mut String, judged: &Judged) -> Result<(), AllocError>
+    ensures { OnOk result (string_bytes text.new ≡ string_bytes text.old ++ reported_text judged.now) }
+{
+    write!(
+        text,
+        ",\"event\":{},\"line\":{},\"node\":\"{}\",\"offset2\":\"{}\",\"path2\":\"{}\"",
         judged.event,
         judged.line,
-        judged.node.text()
-    )?;
+        judged.node.text(),
+        judged.report.offset2,
+        judged.report.path2
+    )
+}
+
+/// Appends the reasons against a report, its tags, and when it was.
+fn push_reasons(text: &mut String, judged: &Judged, details: &Details) -> Result<(), AllocError>
+    ensures { OnOk result (string_bytes text.new ≡ string_bytes text.old ++ reasons_text judged.now details.now) }
+{
+    let report = &judged.report;
     write!(
         text,
-        ",\"offset2\":\"{}\",\"path2\":\"{}\",\"reasons\":[{}]}}\n",
-        judged.report.offset2,
-        judged.report.path2,
-        Codes(judgement.reasons.as_slice())
+        ",\"reasons\":[{}],\"tags\":[{},{},{},{}],\"time\":{}}}\n",
+        Codes(judged.judgement.reasons.as_slice()),
+        report.sync_tag,
+        FollowTag(report.follow_tag),
+        report.request_tag,
+        report.response_tag,
+        Time(details.time)
     )
+}
+
+/// Appends what a report is judged to be, in one line, with the keys in the order of their octets.
+pub(crate) fn push_judged(
+    text: &mut String,
+    judged: &Judged,
+    details: &Details,
+) -> Result<(), AllocError>
+    ensures { OnOk result (string_bytes text.new ≡ string_bytes text.old ++ judged_text judged.now details.now) }
+{
+    push_owed(text, judged, details)?;
+    push_reported(text, judged)?;
+    push_reasons(text, judged, details)
 }

@@ -4,10 +4,13 @@ ghost use Rattle.text_lines.specs.Counted.{HasNotFailed};
 ghost use Rattle.text_lines.specs.Lines.{input_limit, lines_limit, GivesWithin};
 ghost use Rattle.text_lines.specs.Task.{FailedAt};
 ghost use Rattle.exchange_explain.specs.Judgements.{Told, is_told, judgement_rules, JudgesAnswer};
+ghost use Rattle.exchange_explain.specs.Inner.Noting.{IsNotedIn};
 
+use crate::details::{details_of, note};
 use crate::input::{Found, Input};
 use crate::json::push_judged;
-use schedule_reading::{TaskFault, Transcript};
+use exchange_check::Evidence;
+use schedule_reading::TaskFault;
 use std::alloc::Global;
 use std::io::{Read, Write};
 use text_lines::{Cause, Counted, LINES_LIMIT, LineTask, Stopped, answer_lines, write_text};
@@ -17,6 +20,8 @@ use text_lines::{Cause, Counted, LINES_LIMIT, LineTask, Stopped, answer_lines, w
 struct Judging {
     alloc: Global,
     input: Input,
+    /// What was noted of the events of a transcript.
+    evidence: Evidence,
     /// Whether only the first report that is refused is told.
     first: bool,
     /// The line of the last report, in the one text that all share.
@@ -32,7 +37,8 @@ impl LineTask for Judging {
 
     ghost rules = { judgement_rules };
 
-    ghost is_at = { λ task told. told ≡ record { first = task.first; input = task.input } };
+    ghost is_at = { λ task told. (told ≡ record { first = task.first; input = task.input })
+        × IsNotedIn task.evidence task.input };
 
     fn lines_limit() -> u64 {
         LINES_LIMIT
@@ -40,14 +46,19 @@ impl LineTask for Judging {
 
     /// Takes one more line, and writes what its report is judged to be, in one write.
     fn take<W: Write>(&mut self, line: &[u8], output: &mut Counted<W>) -> Result<(), TaskFault> {
-        match self.input.take(self.alloc, line)? {
-            Some(judged) if self.is_told(judged.event) => {
-                self.text.clear();
-                push_judged(&mut self.text, &judged)?;
-                write_text(self.text.as_str(), output)
-            }
-            _ => Ok(()),
+        let taken = self.input.take(self.alloc, line)?;
+        note(&mut self.evidence, &self.input, &taken)?;
+        let reported = taken.judged;
+        let Some(judged) = reported else {
+            return Ok(());
+        };
+        if !self.is_told(judged.event) {
+            return Ok(());
         }
+        let details = details_of(&self.evidence, &self.input, &judged.report);
+        self.text.clear();
+        push_judged(&mut self.text, &judged, &details)?;
+        write_text(self.text.as_str(), output)
     }
 
     /// What the input is; nothing is written.
@@ -71,9 +82,10 @@ impl Judging {
 
 /// Judges each report of a transcript, which is read as `ptpx check` reads it; where `first` is asked
 /// for, only the first that is refused is told. For each report one line is written, before the next
-/// line is read: a JSON object with all reasons against the report, in their order, and with what the
-/// results are by the readings. A schedule has no reports, and is read as `ptpx replay` reads it. Answers the
-/// verdict, or how many events the schedule has. The lines before a fault were answered then.
+/// line is read: a JSON object with all reasons against the report, in their order, with what the results are by the
+/// readings and by the messages, how wrong the report is, and when it was. A schedule has no reports, and is read as
+/// `ptpx replay` reads it. Answers the verdict, or how many events the schedule has. The lines before a fault were
+/// answered then.
 ///
 /// The faults are those of reading; `Json` for a line that is no JSON; `Field` for one that is neither
 /// a node nor an event, a node after an event, or a recorded event whose number isn't its place among the
@@ -94,7 +106,8 @@ pub fn write_judgements<R: Read, W: Write>(
 {
     let mut task = Judging {
         alloc,
-        input: Input::Transcript(Transcript::new(alloc)),
+        input: Input::new(alloc),
+        evidence: Evidence::new(alloc),
         first,
         text: String::new(alloc),
     };

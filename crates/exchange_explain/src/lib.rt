@@ -2,6 +2,7 @@
 //! programs, a line a report.
 #![tactic(auto)]
 
+mod details;
 mod explaining;
 mod flaws;
 mod found;
@@ -10,6 +11,7 @@ mod json;
 mod judgements;
 mod schedule;
 
+pub use details::Details;
 pub use explaining::{Explained, explain};
 pub use input::Found;
 pub use judgements::write_judgements;

@@ -13,7 +13,7 @@ use Rattle.trace_model.specs.declared.verdict.Why.TheVariants.{WrongReading, Wro
 use Rattle.trace_model.specs.Refusal.{code_of, words_of}
 use Rattle.exchange_story.specs.Counts.{Counts, against, counted, is_sound, is_octets_alone, stands, counts_of, counts_text, failing_lines, failing_text}
 use Rattle.exchange_story.specs.Counts.{has_octets, noun_text, messages_text, aside_text, read_text, TellsMessages}
-use Rattle.exchange_story.specs.Counts.{TellsCounts, told_reasons}
+use Rattle.exchange_story.specs.Counts.{TellsCounts, told_reasons, is_by_readings, right_text, of_reports_text, completions_text, unreported_text}
 use Rattle.exchange_story.specs.declared.tally.Failing.{Failing}
 use Rattle.exchange_story.specs.declared.tally.Tally.{Tally}
 use Rattle.exchange_story.specs.Inner.Tally.{counts_in, failing_in}
@@ -70,6 +70,7 @@ pub record IsAfter (whys : List Why) (old new : Tally) : Type 0 where
   pub reports : new.reports ≡ counted (old.reports + 1)
   pub sound : new.sound ≡ with_one (is_sound whys) old.sound
   pub octets_alone : new.octets_alone ≡ with_one (is_octets_alone whys) old.octets_alone
+  pub by_readings : new.by_readings ≡ with_one (is_by_readings whys) old.by_readings
   pub failing : (why : Why) → failing_in new.failing why ≡ with_one (stands why whys) (failing_in old.failing why)
 
 failing_of : (tally : Tally) (reports : List (List Why)) → counts_in tally ≡ counts_of reports → (why : Why)
@@ -90,12 +91,15 @@ counts_more old new whys reports after is =
     let sound_are = after.sound ∙ count_more is_sound whys reports old.sound (λ i. (is i).sound) in
     let alone_are = after.octets_alone
     ∙ count_more is_octets_alone whys reports old.octets_alone (λ i. (is i).octets_alone) in
+    let readings_are = after.by_readings
+    ∙ count_more is_by_readings whys reports old.by_readings (λ i. (is i).by_readings) in
     let failing_are = λ (why : Why). after.failing why
     ∙ count_more (stands why) whys reports (failing_in old.failing why) (failing_of old reports is why) in
     λ i. record {
       reports = reports_are i;
       sound = sound_are i;
       octets_alone = alone_are i;
+      by_readings = readings_are i;
       failing = map (λ (why : Why). failing_are why i) told_reasons;
     }
 
@@ -126,11 +130,13 @@ counted_by counts counts' n later is same = is ∙ ap (λ (b : Bool). with_one b
 
 -- no report yet
 pub counts_none : (failing : Failing) → ((why : Why) → failing_in failing why ≡ 0)
-    → counts_in (record { reports = 0; sound = 0; octets_alone = 0; failing = failing }) ≡ counts_of []
+    → counts_in (record { reports = 0; sound = 0; octets_alone = 0; by_messages = 0; by_readings = 0; failing = failing })
+    ≡ counts_of []
 counts_none failing none = λ i. record {
   reports = 0;
   sound = 0;
   octets_alone = 0;
+  by_readings = 0;
   failing = map (λ (why : Why). none why i) told_reasons;
 }
 
@@ -192,41 +198,81 @@ pub read_told : {E : Type 0} (r : Result (Unit {0}) E) (counts : Counts) (messag
 read_told (Ok x) counts messages old new octets some is = is ∙ rw (octets, lt-ltb 0 messages some) refl
 read_told (Err e) counts messages old new octets some is = tt
 
-none_told : (counts : Counts) (messages : ℕ) → counts.reports ≡ 0
-    → codes "there is no report, so nothing was judged\n" ≡ counts_text counts messages
-none_told counts messages none = rw (eq-eqb counts.reports 0 none) refl
+-- how many of the reports
+pub of_reports_told : {E : Type 0} (r : Result (Unit {0}) E) (counts : Counts) (count : ℕ) (noun old new : List ℕ) → noun ≡ noun_text counts.reports
+    → OnOk r (new ≡ old ++ (decimal count ++ (codes " of " ++ (decimal counts.reports ++ (codes " " ++ (noun ++ codes "\n"))))))
+    → OnOk r (new ≡ old ++ of_reports_text count counts)
+of_reports_told (Ok x) counts count noun old new noun_is is =
+    is ∙ (λ i. old ++ (decimal count ++ (codes " of " ++ (decimal counts.reports ++ (codes " " ++ (noun_is i ++ codes "\n"))))))
+    ∙ simp append_assoc
+of_reports_told (Err e) counts count noun old new noun_is is = tt
 
-pub no_report_told : {E : Type 0} (r : Result (Unit {0}) E) (counts : Counts) (messages : ℕ) (old new : List ℕ) → counts.reports ≡ 0
+-- how many are right by the messages, and how many by the readings
+pub right_told : {E : Type 0} (r : Result (Unit {0}) E) (counts : Counts) (by_messages : ℕ) (old first second third fourth : List ℕ)
+    → counts.sound ≢ counts.reports
+    → first ≡ old ++ codes "right by the messages (the device): " → second ≡ first ++ of_reports_text by_messages counts
+    → third ≡ second ++ codes "right by the readings (device and network): "
+    → OnOk r (fourth ≡ third ++ of_reports_text counts.by_readings counts)
+    → OnOk r (fourth ≡ old ++ right_text counts by_messages)
+right_told (Ok x) counts by_messages old first second third fourth some first_is second_is third_is fourth_is =
+    fourth_is ∙ rw (third_is, second_is, first_is, ne_eqb counts.sound counts.reports some) (simp append_assoc)
+right_told (Err e) counts by_messages old first second third fourth some first_is second_is third_is fourth_is = tt
+
+-- or nothing, where each report is sound
+pub right_untold : (counts : Counts) (by_messages : ℕ) (old : List ℕ) → counts.sound ≡ counts.reports → old ≡ old ++ right_text counts by_messages
+right_untold counts by_messages old all = rw (eq-eqb counts.sound counts.reports all) (sym (append-nil old))
+
+none_told : (counts : Counts) (by_messages messages : ℕ) → counts.reports ≡ 0
+    → codes "there is no report, so nothing was judged\n" ≡ counts_text counts by_messages messages
+none_told counts by_messages messages none = rw (eq-eqb counts.reports 0 none) refl
+
+pub no_report_told : {E : Type 0} (r : Result (Unit {0}) E) (counts : Counts) (by_messages messages : ℕ) (old new : List ℕ) → counts.reports ≡ 0
     → new ≡ (if is_ok r then old ++ codes "there is no report, so nothing was judged\n" else old)
-    → OnOk r (new ≡ old ++ counts_text counts messages)
-no_report_told (Ok x) counts messages old new none is = is ∙ ap (λ (t : List ℕ). old ++ t) (none_told counts messages none)
-no_report_told (Err e) counts messages old new none is = tt
+    → OnOk r (new ≡ old ++ counts_text counts by_messages messages)
+no_report_told (Ok x) counts by_messages messages old new none is =
+    is ∙ ap (λ (t : List ℕ). old ++ t) (none_told counts by_messages messages none)
+no_report_told (Err e) counts by_messages messages old new none is = tt
 
-pub reports_told : {E : Type 0} (r : Result (Unit {0}) E) (counts : Counts) (messages : ℕ) (noun old first second third : List ℕ)
+pub reports_told : {E : Type 0} (r : Result (Unit {0}) E) (counts : Counts) (by_messages messages : ℕ) (noun old first second third fourth : List ℕ)
     → counts.reports ≢ 0 → noun ≡ noun_text counts.reports
     → first ≡ old ++ (decimal counts.reports ++ (codes " " ++ (noun ++ (codes ": " ++ (decimal counts.sound ++ codes " sound\n")))))
-    → second ≡ first ++ failing_lines (against counts) told_reasons → OnOk r (third ≡ second ++ aside_text counts messages)
-    → OnOk r (third ≡ old ++ counts_text counts messages)
-reports_told (Ok x) counts messages noun old first second third some noun_is first_is second_is third_is =
-    third_is ∙ rw (second_is, first_is, noun_is, ne_eqb counts.reports 0 some) (simp append_assoc)
-reports_told (Err e) counts messages noun old first second third some noun_is first_is second_is third_is = tt
+    → second ≡ first ++ failing_lines (against counts) told_reasons → third ≡ second ++ right_text counts by_messages
+    → OnOk r (fourth ≡ third ++ aside_text counts messages)
+    → OnOk r (fourth ≡ old ++ counts_text counts by_messages messages)
+reports_told (Ok x) counts by_messages messages noun old first second third fourth some noun_is first_is second_is third_is fourth_is =
+    fourth_is ∙ rw (third_is, second_is, first_is, noun_is, ne_eqb counts.reports 0 some) (simp append_assoc)
+reports_told (Err e) counts by_messages messages noun old first second third fourth some noun_is first_is second_is third_is fourth_is = tt
 
--- behind that any lines, where octets stand against a report
-pub counts_told : {E : Type 0} (r : Result (Unit {0}) E) (counts : Counts) (differ : ℕ) (old first new messages : List ℕ)
-    → has_octets counts ≡ true → first ≡ old ++ counts_text counts differ → new ≡ (if is_ok r then first ++ messages else first)
-    → OnOk r ((told : List ℕ) × TellsCounts counts told × (new ≡ old ++ told))
-counts_told (Ok x) counts differ old first new messages octets first_is is = (
-  counts_text counts differ ++ messages,
-  (differ, messages, subst (λ (o : Bool). TellsMessages o messages) (sym octets) tt, refl),
-  is ∙ ap (λ (t : List ℕ). t ++ messages) first_is ∙ append_assoc old (counts_text counts differ) messages,
-)
-counts_told (Err e) counts differ old first new messages octets first_is is = tt
+-- lines on messages: any, where octets stand against a report
+pub messages_told : {E : Type 0} (r : Result (Unit {0}) E) (octets : Bool) (old new messages : List ℕ) → octets ≡ true
+    → new ≡ (if is_ok r then old ++ messages else old)
+    → OnOk r ((told : List ℕ) × TellsMessages octets told × (new ≡ old ++ told))
+messages_told (Ok x) octets old new messages some is = (messages, subst (λ (o : Bool). TellsMessages o messages) (sym some) tt, is)
+messages_told (Err e) octets old new messages some is = tt
 
 -- and none where they don't
-pub counts_alone_told : (counts : Counts) (differ : ℕ) (old new : List ℕ) → has_octets counts ≡ false
-    → new ≡ old ++ counts_text counts differ → (told : List ℕ) × TellsCounts counts told × (new ≡ old ++ told)
-counts_alone_told counts differ old new octets is = (
-  counts_text counts differ,
-  (differ, [], subst (λ (o : Bool). TellsMessages o []) (sym octets) refl, sym (append-nil (counts_text counts differ))),
-  is,
+pub messages_untold : (octets : Bool) (old : List ℕ) → octets ≡ false → (told : List ℕ) × TellsMessages octets told × (old ≡ old ++ told)
+messages_untold octets old none = ([], subst (λ (o : Bool). TellsMessages o []) (sym none) refl, sym (append-nil old))
+
+-- how many completions had no report
+pub unreported_told : {E : Type 0} (r : Result (Unit {0}) E) (count : ℕ) (noun old new : List ℕ) → count ≢ 0 → noun ≡ completions_text count
+    → OnOk r (new ≡ old ++ (decimal count ++ (codes " " ++ (noun
+    ++ codes " had no report, though both halves of one were there; the verdict says nothing of these\n"))))
+    → OnOk r (new ≡ old ++ unreported_text count)
+unreported_told (Ok x) count noun old new some noun_is is =
+    is ∙ (λ i. old ++ (decimal count ++ (codes " " ++ (noun_is i
+    ++ codes " had no report, though both halves of one were there; the verdict says nothing of these\n"))))
+    ∙ rw (ne_eqb count 0 some) (simp append_assoc)
+unreported_told (Err e) count noun old new some noun_is is = tt
+
+-- all of it
+pub counts_told : {E : Type 0} (r : Result (Unit {0}) E) (counts : Counts) (by_messages differ unreported : ℕ) (old first second new messages : List ℕ)
+    → first ≡ old ++ counts_text counts by_messages differ → TellsMessages (has_octets counts) messages → second ≡ first ++ messages
+    → OnOk r (new ≡ second ++ unreported_text unreported)
+    → OnOk r ((told : List ℕ) × TellsCounts counts told × (new ≡ old ++ told))
+counts_told (Ok x) counts by_messages differ unreported old first second new messages first_is tells second_is is = (
+  counts_text counts by_messages differ ++ (messages ++ unreported_text unreported),
+  (by_messages, differ, unreported, messages, tells, refl),
+  is ∙ rw (second_is, first_is) (simp append_assoc),
 )
+counts_told (Err e) counts by_messages differ unreported old first second new messages first_is tells second_is is = tt

@@ -1,6 +1,6 @@
 -- How many reports there are, how many fail which conditions, and what is told of that.
 use Rattle.std.specs.Prelude.{◌≡◌, ℕ, ◌+◌, ◌-◌, ◌^◌, ◌==◌, ◌&&◌, min, nat_lt, Bool, true, false, List, [], ◌∷◌, ◌++◌}
-use Rattle.std.specs.Prelude.{length, map, count_by, slice_index, codes, if◌then◌else◌, ⊤}
+use Rattle.std.specs.Prelude.{length, map, count_by, slice_index, codes, if◌then◌else◌, not, ⊤}
 use Rattle.std.specs.List.{list_any}
 use Rattle.std.specs.Fmt.{decimal}
 use Rattle.trace_model.specs.declared.verdict.Why.{Why}
@@ -13,12 +13,13 @@ abbrev pub told_reasons : List Why
 told_reasons =
     NoSuchLine ∷ BrokenJourney ∷ OtherNumber ∷ OtherMaster ∷ WrongReading ∷ TooBig ∷ WrongValue ∷ Bytes ∷ []
 
--- how many reports there are, how many of them are sound, against how many octets stand alone, and against how many each
--- reason stands, in that order
+-- how many reports there are, how many of them are sound, against how many octets stand alone, how many have the results by
+-- the readings, and against how many each reason stands, in that order
 pub record Counts : Type 0 where
   pub reports : ℕ
   pub sound : ℕ
   pub octets_alone : ℕ
+  pub by_readings : ℕ
   pub failing : List ℕ
 
 -- a count, which stays at 2^64 - 1
@@ -38,12 +39,18 @@ stands why whys = list_any (λ other. code_of other == code_of why) whys
 abbrev pub is_octets_alone : List Why → Bool
 is_octets_alone whys = (length whys == 1) && stands Bytes whys
 
+-- whether a report has the two results by the readings: there are such results, since neither 701 nor 704 stands against it,
+-- and it has these, since 706 doesn't
+abbrev pub is_by_readings : List Why → Bool
+is_by_readings whys = not (stands NoSuchLine whys) && not (stands BrokenJourney whys) && not (stands WrongValue whys)
+
 -- the counts of reports, by the reasons against each
 abbrev pub counts_of : List (List Why) → Counts
 counts_of reports = record {
   reports = counted (length reports);
   sound = counted (count_by is_sound reports);
   octets_alone = counted (count_by is_octets_alone reports);
+  by_readings = counted (count_by is_by_readings reports);
   failing = map (λ why. counted (count_by (stands why) reports)) told_reasons;
 }
 
@@ -83,6 +90,17 @@ abbrev pub failing_lines : (Why → ℕ) → List Why → List ℕ
 failing_lines failing [] = []
 failing_lines failing (why ∷ others) = failing_text why (failing why) ++ failing_lines failing others
 
+-- how many of the reports, and the end of the line
+abbrev pub of_reports_text : ℕ → Counts → List ℕ
+of_reports_text count counts =
+    decimal count ++ codes " of " ++ decimal counts.reports ++ codes " " ++ noun_text counts.reports ++ codes "\n"
+
+-- where a report isn't sound, how many have the results of what the slave was told, and how many those of the readings
+abbrev pub right_text : Counts → (by_messages : ℕ) → List ℕ
+right_text counts by_messages = if counts.sound == counts.reports then [] else
+    (codes "right by the messages (the device): " ++ of_reports_text by_messages counts
+    ++ codes "right by the readings (device and network): " ++ of_reports_text counts.by_readings counts)
+
 -- the word for so many messages
 abbrev pub messages_text : ℕ → List ℕ
 messages_text messages = if messages == 1 then codes "message" else codes "messages"
@@ -102,19 +120,32 @@ aside_text counts messages = if has_octets counts then
     ++ decimal counts.reports ++ codes " " ++ noun_text counts.reports ++ codes " would be sound\n"))
     else []
 
--- what is told of reports, where a field that is read differs in so many messages
-abbrev pub counts_text : Counts → (messages : ℕ) → List ℕ
-counts_text counts messages =
+-- what is told of reports, where so many have the results by the messages, and where a field that is read differs in so many
+-- messages
+abbrev pub counts_text : Counts → (by_messages messages : ℕ) → List ℕ
+counts_text counts by_messages messages =
     if counts.reports == 0 then codes "there is no report, so nothing was judged\n"
-    else (reports_text counts ++ (failing_lines (against counts) told_reasons ++ aside_text counts messages))
+    else (reports_text counts ++ (failing_lines (against counts) told_reasons
+    ++ (right_text counts by_messages ++ aside_text counts messages)))
 
 -- lines on the messages that have other octets, by whether octets stand against a report: none where they don't
 abbrev pub TellsMessages : Bool → List ℕ → Type 0
 TellsMessages true text = ⊤
 TellsMessages false text = text ≡ []
 
--- what is told of counts, with in how many messages a field that is read is said to differ
+-- the word for so many completions
+abbrev pub completions_text : ℕ → List ℕ
+completions_text count = if count == 1 then codes "completion" else codes "completions"
+
+-- the line that says how many completions had no report though both halves of one were there; none where none had none
+abbrev pub unreported_text : ℕ → List ℕ
+unreported_text count = if count == 0 then [] else
+    (decimal count ++ codes " " ++ completions_text count
+    ++ codes " had no report, though both halves of one were there; the verdict says nothing of these\n")
+
+-- what is told of counts, with how many reports are said to have the results by the messages, in how many messages a field
+-- that is read is said to differ, and how many completions are said to have had no report
 abbrev pub TellsCounts : Counts → List ℕ → Type 0
 TellsCounts counts text =
-    (differ : ℕ) × (messages : List ℕ) × TellsMessages (has_octets counts) messages
-    × (text ≡ counts_text counts differ ++ messages)
+    (by_messages : ℕ) × (differ : ℕ) × (unreported : ℕ) × (messages : List ℕ) × TellsMessages (has_octets counts) messages
+    × (text ≡ counts_text counts by_messages differ ++ (messages ++ unreported_text unreported))

@@ -6,6 +6,7 @@ ghost use Rattle.exchange_story.specs.Report.{tells_otherwise, TellsReasons, Tel
 
 use crate::exchange::push_exchange;
 use crate::lines::push_lines;
+use crate::past::Past;
 use crate::record::Record;
 use crate::report::{Reported, push_begin, push_reason, push_results, tells_otherwise};
 use exchange_check::{Checker, Exchange, Results, Why};
@@ -22,6 +23,8 @@ pub(crate) struct Case<'a> {
     pub(crate) exchange: &'a Option<Exchange>,
     /// Its results by the messages.
     pub(crate) by_messages: Option<Results>,
+    /// What reports of the slave were like, up to this one.
+    pub(crate) past: Option<&'a Past>,
 }
 
 impl Case<'_> {
@@ -109,8 +112,9 @@ impl Case<'_> {
             Why::WrongReading => self.push_readings(text, exchange),
             Why::TooBig => self.push_too_long(text, exchange),
             Why::Bytes => self.push_octets(text, exchange),
-            // The two rows of results stand below, and the others need no lines of the report.
-            Why::WrongValue | Why::NoSuchLine | Why::BrokenJourney => Ok(()),
+            // The two rows of results stand below.
+            Why::WrongValue => self.push_values(text),
+            Why::NoSuchLine | Why::BrokenJourney => Ok(()),
         }
     }
 }

@@ -2,6 +2,7 @@
 #![tactic(auto)]
 
 mod case;
+mod completing;
 mod differing;
 mod exchange;
 mod field;
@@ -12,6 +13,7 @@ mod moments;
 mod naming;
 mod numbering;
 mod octets;
+mod past;
 mod readings;
 mod record;
 mod refusal;
@@ -20,6 +22,7 @@ mod story;
 mod tally;
 mod telling;
 mod wrong_field;
+mod wrong_value;
 
 pub use refusal::{Before, push_clash, push_refused};
 pub use report::Reported;

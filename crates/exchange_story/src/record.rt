@@ -1,5 +1,6 @@
 //! What was recorded of the events of a transcript, for what is asked of it when a report is refused.
 
+use crate::completing::{Half, Halves};
 use crate::differing::Differing;
 use crate::octets::difference_at;
 use exchange_check::Checker;
@@ -37,6 +38,7 @@ struct Site {
     request: Option<u64>,
     master: Option<u64>,
     number: Seq,
+    halves: Halves,
 }
 
 /// The events by which a message left a clock.
@@ -72,6 +74,8 @@ pub(crate) struct Record {
     leaves: BTreeMap<u64, Leaves>,
     /// How many messages have other octets than are written.
     differing: Differing,
+    /// How many completions had no report though both halves of one were there, at most 2^64 - 1.
+    unreported: u64,
 }
 
 impl Site {
@@ -87,6 +91,7 @@ impl Site {
             request: None,
             master: None,
             number,
+            halves: Halves::none(),
         }
     }
 
@@ -95,7 +100,11 @@ impl Site {
         match event {
             Event::Sync { .. } => self.sync = Some(number),
             Event::Request { .. } => self.request = Some(number),
-            Event::SetMaster { .. } => self.master = Some(number),
+            Event::SetMaster { .. } => {
+                self.master = Some(number);
+                self.halves = Halves::none();
+            }
+            Event::Tick { .. } => self.halves.tick(),
             Event::StepClock { .. } => self.clock_set = Some(number),
             _ => {}
         }
@@ -115,6 +124,7 @@ impl Record {
             events: Vec::new(alloc),
             leaves: BTreeMap::new(alloc),
             differing: Differing::new(),
+            unreported: 0,
         }
     }
 
@@ -162,9 +172,23 @@ impl Record {
         self.sites.get(place)
     }
 
+    /// The place of a node, from 0.
+    pub(crate) fn index_of(&self, name: &Name) -> Option<u64> {
+        Some(self.network.as_ref()?.index_of(name)? as u64)
+    }
+
+    /// The same, to be changed.
+    fn site_mut(&mut self, name: &Name) -> Option<&mut Site> {
+        let place = self.network.as_ref()?.index_of(name)?;
+        self.sites.get_mut(place)
+    }
+
     fn push_recorded(&mut self, number: u64, line: TraceLine) -> Result<(), AllocError> {
         let event = line.event;
         let counts = self.counts(&line);
+        if counts {
+            self.note_completion(&line);
+        }
         let site = self.site(&event.node()).copied();
         self.events.push(Recorded {
             line,
@@ -185,16 +209,51 @@ impl Record {
         if let Event::Stamped { node } = event {
             self.note_stamp(number, node);
         }
-        if let Some(network) = &self.network
-            && let Some(place) = network.index_of(&event.node())
-            && let Some(site) = self.sites.get_mut(place)
-        {
+        if let Some(site) = self.site_mut(&event.node()) {
             site.note(number, event);
         }
         match event.named_transit() {
             Some(transit) => self.note_leave(number, transit),
             None => Ok(()),
         }
+    }
+
+    /// What a line completes at its slave, and whether it has no report then though both halves of one are there.
+    fn note_completion(&mut self, line: &TraceLine) {
+        let reports = match line.out {
+            TraceOut::Completed => false,
+            TraceOut::Report(_) => true,
+            _ => return,
+        };
+        let Some(half) = self.half_of(&line.event) else {
+            return;
+        };
+        let Some(site) = self.site_mut(&line.event.node()) else {
+            return;
+        };
+        if site.halves.complete(half) && !reports {
+            self.unreported = self.unreported.saturating_add(1);
+        }
+    }
+
+    /// Which half of a report a message gives that completes by an event.
+    fn half_of(&self, event: &Event) -> Option<Half> {
+        if event.is_arrival() {
+            return Some(Half::Sync);
+        }
+        let sender = &self.at(event.heard_copy()?)?.line.event;
+        if sender.is_follow() {
+            return Some(Half::Sync);
+        }
+        if sender.is_arrival() {
+            return Some(Half::Response);
+        }
+        None
+    }
+
+    /// How many completions had no report though both halves of one were there.
+    pub(crate) fn unreported(&self) -> u64 {
+        self.unreported
     }
 
     /// A slave learned when its last Delay_Req departed.

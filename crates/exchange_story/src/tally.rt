@@ -3,7 +3,8 @@ ghost use Rattle.std.specs.Prelude.{◌≡◌, ◌+◌, ◌==◌, [], ◌∷◌,
 ghost use Rattle.std.specs.String.{string_bytes};
 ghost use Rattle.trace_model.specs.declared.verdict.Why.{Why};
 ghost use Rattle.exchange_story.specs.Counts.{aside_text, counted, counts_of, counts_text, failing_lines, failing_text, messages_text, read_text};
-ghost use Rattle.exchange_story.specs.Counts.{has_octets, is_octets_alone, is_sound, noun_text, stands, told_reasons};
+ghost use Rattle.exchange_story.specs.Counts.{has_octets, is_by_readings, is_octets_alone, is_sound, noun_text, of_reports_text};
+ghost use Rattle.exchange_story.specs.Counts.{right_text, stands, told_reasons};
 ghost use Rattle.exchange_story.specs.Inner.Tally.{counts_in, failing_in};
 
 use exchange_check::{Reasons, Why};
@@ -92,6 +93,10 @@ pub(crate) struct Tally {
     sound: u64,
     /// How many reports octets alone stand against.
     octets_alone: u64,
+    /// How many have the results by the messages.
+    by_messages: u64,
+    /// How many have the results by the readings.
+    by_readings: u64,
     failing: Failing,
 }
 
@@ -104,12 +109,14 @@ impl Tally {
             reports: 0,
             sound: 0,
             octets_alone: 0,
+            by_messages: 0,
+            by_readings: 0,
             failing: Failing::none(),
         }
     }
 
-    /// One more report, which these reasons stand against.
-    pub(crate) fn count(&mut self, reasons: &Reasons)
+    /// One more report, which these reasons stand against, and which has the results by the messages or hasn't.
+    pub(crate) fn count(&mut self, reasons: &Reasons, by_messages: bool)
         ensures { (reports : List (List Why)) → counts_in self.old ≡ counts_of reports
             → counts_in self.new ≡ counts_of (reasons.now ∷ reports) }
     {
@@ -117,6 +124,8 @@ impl Tally {
         self.reports = self.reports.saturating_add(1);
         self.sound = more(self.sound, is_sound(whys));
         self.octets_alone = more(self.octets_alone, is_octets_alone(whys));
+        self.by_messages = more(self.by_messages, by_messages);
+        self.by_readings = more(self.by_readings, is_by_readings(whys));
         self.failing = self.failing.after(whys);
     }
 
@@ -131,7 +140,7 @@ impl Tally {
     /// that is read.
     pub(crate) fn push(&self, text: &mut String, messages: u64) -> Result<(), AllocError>
         ensures { OnOk result (string_bytes text.new ≡ string_bytes text.old
-            ++ counts_text (counts_in self.now) messages) }
+            ++ counts_text (counts_in self.now) self.now.by_messages messages) }
     {
         if self.reports == 0 {
             return text.push_str("there is no report, so nothing was judged\n");
@@ -144,6 +153,7 @@ impl Tally {
             self.sound
         )?;
         self.push_failing(text)?;
+        self.push_right(text)?;
         self.push_aside(text, messages)
     }
 
@@ -156,6 +166,28 @@ impl Tally {
             push_reason(text, why, self.failing.of(why))?;
         }
         Ok(())
+    }
+
+    /// Appends how many reports have the results of what the slave was told, and how many those of the readings, where a report
+    /// isn't sound.
+    fn push_right(&self, text: &mut String) -> Result<(), AllocError>
+        ensures { OnOk result (string_bytes text.new ≡ string_bytes text.old
+            ++ right_text (counts_in self.now) self.now.by_messages) }
+    {
+        if self.sound == self.reports {
+            return Ok(());
+        }
+        text.push_str("right by the messages (the device): ")?;
+        self.push_of_reports(text, self.by_messages)?;
+        text.push_str("right by the readings (device and network): ")?;
+        self.push_of_reports(text, self.by_readings)
+    }
+
+    /// Appends how many of the reports, and the end of the line.
+    fn push_of_reports(&self, text: &mut String, count: u64) -> Result<(), AllocError>
+        ensures { OnOk result (string_bytes text.new ≡ string_bytes text.old ++ of_reports_text count (counts_in self.now)) }
+    {
+        write!(text, "{count} of {} {}\n", self.reports, noun(self.reports))
     }
 
     /// Appends how many reports would be sound were octets left aside, where these stand against one; where so many
@@ -192,6 +224,15 @@ fn is_octets_alone(whys: &[Why]) -> bool
     ensures { result ≡ is_octets_alone whys.now }
 {
     whys.len() == 1 && stands(Why::Bytes, whys)
+}
+
+/// Whether a report has the results by the readings.
+fn is_by_readings(whys: &[Why]) -> bool
+    ensures { result ≡ is_by_readings whys.now }
+{
+    !stands(Why::NoSuchLine, whys)
+        && !stands(Why::BrokenJourney, whys)
+        && !stands(Why::WrongValue, whys)
 }
 
 /// Whether this reason is one of those against a report.

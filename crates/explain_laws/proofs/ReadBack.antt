@@ -1,17 +1,14 @@
 -- The JSON of a judged report, read again.
-use Rattle.std.proofs.Common.{◌≡◌, ◌∙◌, ℕ, ℤ, ◌<◌, ◌^◌, ◌==◌, true, false, ◌&&◌, nat_lt, List, [], ◌∷◌, ◌++◌, codes, Option, Some, None, IfSome}
+use Rattle.std.proofs.Common.{◌≡◌, ◌∙◌, ℕ, ℤ, pos, negsuc, ◌-ℤ◌, ◌<◌, ◌^◌, ◌==◌, Bool, true, false, ◌&&◌, nat_lt, List, [], ◌∷◌, ◌++◌, codes, Option, Some, None, IfSome}
 use Rattle.std.proofs.Common.{refl, ap, sym, arith, append_assoc}
-use Rattle.std.specs.Prelude.{option_map}
+use Rattle.std.specs.Prelude.{if◌then◌else◌, option_map}
 use Rattle.std.specs.Fmt.{decimal, signed_decimal}
 use Rattle.std.specs.List.{list_all, flat_map}
-use Rattle.std.specs.Str.{IsAscii}
 use Rattle.std.proofs.lemmas.Bool.{and_parts}
 use Rattle.std.proofs.lemmas.Bool.Decides.{nat_tests}
 use Rattle.std.proofs.lemmas.List.Concat.{flat_map-cons}
-use Rattle.std.proofs.lemmas.List.Folds.{list_all-append}
 use Rattle.std.proofs.lemmas.List.Sums.{list_all-from_AllPass}
 use Rattle.std.proofs.lemmas.Str.{IsUtf8-from_ascii}
-use Rattle.std.proofs.lemmas.Str.Ascii.{IsAscii-nil, IsAscii-cons}
 use Rattle.json.specs.Tree as tree
 use Rattle.json.specs.Tree.{ItemsHaveNumbers}
 use Rattle.json.specs.Print.{escape_byte, escape}
@@ -19,22 +16,31 @@ use Rattle.json.proofs.Printed.Decimals.{IsNumber-decimal}
 use Rattle.serde_json.specs.Data.{string, array}
 use Rattle.serde_json.specs.Read.{read, of_items}
 use Rattle.serde_json.specs.Written.{compact_text, items_outline, items_text}
+use Rattle.ptp_units.specs.Moment.{bound, stamp_of, fraction_of}
+use Rattle.ptp_units.specs.Nanoseconds.{nanoseconds_text}
+use Rattle.slave_port.specs.declared.heard.Report.{Report}
 use Rattle.network_model.specs.Name.{is_name_octet}
 use Rattle.trace_model.specs.declared.judgement.Results.{Results}
 use Rattle.trace_model.specs.declared.verdict.Why.{Why}
 use Rattle.trace_model.specs.declared.verdict.Why.TheVariants.{NoSuchLine, OtherNumber, OtherMaster, BrokenJourney}
 use Rattle.trace_model.specs.declared.verdict.Why.TheVariants.{WrongReading, WrongValue, TooBig, Bytes}
 use Rattle.trace_model.specs.Refusal.{code_of}
-use Rattle.schedule_lines.specs.Written.{whole, difference_data}
+use Rattle.schedule_lines.specs.Ranges.{IsTag}
+use Rattle.schedule_lines.specs.Written.{whole, difference_data, follow_data, tags_data}
 use Rattle.schedule_lines.proofs.Compact.{IsReadable, AreReadableFields, read_object, text_readable, whole_readable}
 use Rattle.schedule_lines.proofs.Compact.{members_readable, members_ascending}
 use Rattle.schedule_lines.proofs.Keys.{Field, members_of}
+use Rattle.schedule_lines.proofs.Printed.{moment_readable}
 use Rattle.schedule_lines.proofs.Values.{value_read}
 use Rattle.schedule_reading.specs.declared.transcript.Judged.{Judged}
 use Rattle.measured_json.specs.ReadBack.{IsOf128Bits, is_printed}
-use Rattle.measured_json.proofs.Figures.{all_of, escape_figures, printed_figures, figures_decimal, figures_signed}
-use Rattle.exchange_explain.specs.Judged.{by_readings_text, codes_text, judged_text}
-use Rattle.explain_laws.specs.ReadBack.{AreOf128Bits, IsWithinRange, by_readings_data, codes_data, judged_data, EachJudgementIsJson}
+use Rattle.measured_json.proofs.Figures.{all_of, escape_figures, printed_figures, figures_signed, figures_nanoseconds}
+use Rattle.measured_json.proofs.ReadBack.{tags_readable, ArePrinted, both, word, number_printed, ascii}
+use Rattle.exchange_explain.specs.declared.details.Details.{Details}
+use Rattle.exchange_explain.specs.Judged.{results_text, of_128_bits, difference, both_differences, errors_against, errors_text}
+use Rattle.exchange_explain.specs.Judged.{is_wrong, error_text, codes_text, follow_text, time_text, owed_text, reported_text}
+use Rattle.explain_laws.specs.ReadBack.{AreOf128Bits, IsWithinRange, results_data, errors_data, error_data, time_data}
+use Rattle.explain_laws.specs.ReadBack.{codes_data, judged_data, EachJudgementIsJson}
 
 -- ---- the compact text of the value is read as the value
 
@@ -70,37 +76,82 @@ codes_readable whys = record {
   shallow = let flat = codes_flat whys in omega arith;
 }
 
-by_readings_readable : (results : Option Results) → IsReadable (by_readings_data results)
-by_readings_readable None = record { same = refl; numbers = tt; shallow = omega arith }
-by_readings_readable (Some results) = record { same = refl; numbers = (tt, (tt, tt)); shallow = omega arith }
+results_readable : (results : Option Results) → IsReadable (results_data results)
+results_readable None = record { same = refl; numbers = tt; shallow = omega arith }
+results_readable (Some results) = record { same = refl; numbers = (tt, (tt, tt)); shallow = omega arith }
 
-abbrev fields : Judged → List Field
-fields judged =
-    (codes "by_readings", Some (by_readings_data judged.judgement.by_readings))
+error_readable : (stands : Bool) (by_messages by_readings : Option Results)
+    → IsReadable (error_data stands by_messages by_readings)
+error_readable false by_messages by_readings = record { same = refl; numbers = tt; shallow = omega arith }
+error_readable true None None = record { same = refl; numbers = (tt, (tt, tt)); shallow = omega arith }
+error_readable true None (Some by_readings) =
+    record { same = refl; numbers = (tt, ((tt, (tt, tt)), tt)); shallow = omega arith }
+error_readable true (Some by_messages) None =
+    record { same = refl; numbers = ((tt, (tt, tt)), (tt, tt)); shallow = omega arith }
+error_readable true (Some by_messages) (Some by_readings) =
+    record { same = refl; numbers = ((tt, (tt, tt)), ((tt, (tt, tt)), tt)); shallow = omega arith }
+
+time_readable : (time : Option ℕ) → IfSome time (λ time. time < bound) → IsReadable (time_data time)
+time_readable None h = record { same = refl; numbers = tt; shallow = omega arith }
+time_readable (Some time) h = moment_readable time h
+
+abbrev error_of : Judged → Details → (Bool × (Option Results × Option Results))
+error_of judged details = (
+  is_wrong judged.report judged.judgement.by_readings,
+  (errors_against judged.report details.by_messages, errors_against judged.report judged.judgement.by_readings),
+)
+
+abbrev fields : Judged → Details → List Field
+fields judged details =
+    (codes "by_messages", Some (results_data details.by_messages))
+    ∷ (codes "by_readings", Some (results_data judged.judgement.by_readings))
+    ∷ (codes "error", Some (error_data (error_of judged details).0 (error_of judged details).1.0 (error_of judged details).1.1))
     ∷ (codes "event", Some (whole judged.event))
     ∷ (codes "line", Some (whole judged.line))
     ∷ (codes "node", Some (string judged.node))
     ∷ (codes "offset2", Some (difference_data judged.report.offset2))
     ∷ (codes "path2", Some (difference_data judged.report.path2))
     ∷ (codes "reasons", Some (array (codes_data judged.judgement.reasons)))
+    ∷ (codes "tags", Some (tags_data judged.report))
+    ∷ (codes "time", Some (time_data details.time))
     ∷ []
 
-fields_readable : (judged : Judged) → IsWithinRange judged → AreReadableFields (fields judged)
-fields_readable judged h = (
-  by_readings_readable judged.judgement.by_readings,
+fields_readable : (judged : Judged) (details : Details) → IsWithinRange judged details
+    → AreReadableFields (fields judged details)
+fields_readable judged details h = (
+  results_readable details.by_messages,
   (
-    whole_readable judged.event h.event,
+    results_readable judged.judgement.by_readings,
     (
-      whole_readable judged.line h.line,
-      (text_readable _, (text_readable _, (text_readable _, (codes_readable judged.judgement.reasons, tt)))),
+      error_readable _ _ _,
+      (
+        whole_readable judged.event h.event,
+        (
+          whole_readable judged.line h.line,
+          (
+            text_readable _,
+            (
+              text_readable _,
+              (
+                text_readable _,
+                (
+                  codes_readable judged.judgement.reasons,
+                  (tags_readable judged.report h.tags, (time_readable details.time h.time, tt)),
+                ),
+              ),
+            ),
+          ),
+        ),
+      ),
     ),
   ),
 )
 
-read_back : (judged : Judged) → IsWithinRange judged → read (compact_text (judged_data judged)) ≡ Some (judged_data judged)
-read_back judged h =
-    read_object (members_of (fields judged)) (members_readable (fields judged) (fields_readable judged h))
-    (members_ascending (fields judged))
+read_back : (judged : Judged) (details : Details) → IsWithinRange judged details
+    → read (compact_text (judged_data judged details)) ≡ Some (judged_data judged details)
+read_back judged details h =
+    read_object (members_of (fields judged details))
+    (members_readable (fields judged details) (fields_readable judged details h)) (members_ascending (fields judged details))
 
 -- ---- which is what is written
 
@@ -153,81 +204,207 @@ both_same : (offset2 path2 : List ℕ)
     → both_pieces offset2 path2 ≡ codes "{\"offset2\":\"" ++ offset2 ++ codes "\",\"path2\":\"" ++ path2 ++ codes "\"}"
 both_same offset2 path2 = simp append_assoc
 
-by_readings_are : (results : Option Results) → IfSome results AreOf128Bits
-    → compact_text (by_readings_data results) ≡ by_readings_text results
+results_are : (results : Option Results) → IfSome results AreOf128Bits → compact_text (results_data results) ≡ results_text results
 unfolding escape_byte
-by_readings_are None h = refl
-by_readings_are (Some results) h =
+results_are None h = refl
+results_are (Some results) h =
     let offset2 = escape_figures (signed_decimal results.offset2) (figures_signed results.offset2 h.0) in
     let path2 = escape_figures (signed_decimal results.path2) (figures_signed results.path2 h.1) in
     (λ i. both_pieces (offset2 i) (path2 i)) ∙ both_same (signed_decimal results.offset2) (signed_decimal results.path2)
 
--- the pieces of the text as a value's, by the texts of its members
-abbrev pieces : (results event line node offset2 path2 reasons : List ℕ) → List ℕ
-pieces results event line node offset2 path2 reasons =
-    codes "{\"by_readings\":" ++ (results
-    ++ (codes ",\"event\":" ++ (event
+-- ---- errors, which have 128 bits
+
+fits_by : (fits : Bool) (z : ℤ) → (fits ≡ true → IsOf128Bits z) → IfSome (if fits then Some z else None) IsOf128Bits
+fits_by false z h = tt
+fits_by true z h = h refl
+
+difference_fits : (z : ℤ) → IfSome (of_128_bits z) IsOf128Bits
+difference_fits (pos n) = fits_by (nat_lt n (2 ^ 127)) (pos n) (λ test. grind (arith, nat_tests, test))
+difference_fits (negsuc n) = fits_by (nat_lt n (2 ^ 127)) (negsuc n) (λ test. grind (arith, nat_tests, test))
+
+both_fit : (offset2 path2 : Option ℤ) → IfSome offset2 IsOf128Bits → IfSome path2 IsOf128Bits
+    → IfSome (both_differences offset2 path2) AreOf128Bits
+both_fit None path2 o p = tt
+both_fit (Some offset2) None o p = tt
+both_fit (Some offset2) (Some path2) o p = (o, p)
+
+errors_fit : (report : Report) (results : Option Results) → IfSome (errors_against report results) AreOf128Bits
+errors_fit report None = tt
+errors_fit report (Some results) =
+    both_fit (difference report.offset2 results.offset2) (difference report.path2 results.path2)
+    (difference_fits (report.offset2 -ℤ results.offset2)) (difference_fits (report.path2 -ℤ results.path2))
+
+abbrev errors_pieces : (offset path : List ℕ) → List ℕ
+errors_pieces offset path =
+    codes "{\"offset\":" ++ ((34 ∷ (offset ++ 34 ∷ [])) ++ (codes ",\"path\":" ++ ((34 ∷ (path ++ 34 ∷ [])) ++ codes "}")))
+
+errors_same : (offset path : List ℕ)
+    → errors_pieces offset path ≡ codes "{\"offset\":\"" ++ offset ++ codes "\",\"path\":\"" ++ path ++ codes "\"}"
+errors_same offset path = simp append_assoc
+
+errors_are : (errors : Option Results) → IfSome errors AreOf128Bits → compact_text (errors_data errors) ≡ errors_text errors
+unfolding escape_byte
+errors_are None h = refl
+errors_are (Some errors) h =
+    let offset = escape_figures (nanoseconds_text errors.offset2) (figures_nanoseconds errors.offset2 h.0) in
+    let path = escape_figures (nanoseconds_text errors.path2) (figures_nanoseconds errors.path2 h.1) in
+    (λ i. errors_pieces (offset i) (path i)) ∙ errors_same (nanoseconds_text errors.offset2) (nanoseconds_text errors.path2)
+
+abbrev error_pieces : (by_messages by_readings : List ℕ) → List ℕ
+error_pieces by_messages by_readings =
+    codes "{\"by_messages\":" ++ (by_messages ++ (codes ",\"by_readings\":" ++ (by_readings ++ codes "}")))
+
+error_same : (by_messages by_readings : List ℕ) → error_pieces by_messages by_readings
+    ≡ codes "{\"by_messages\":" ++ by_messages ++ codes ",\"by_readings\":" ++ by_readings ++ codes "}"
+error_same by_messages by_readings = simp append_assoc
+
+error_is : (stands : Bool) (by_messages by_readings : Option Results) → IfSome by_messages AreOf128Bits
+    → IfSome by_readings AreOf128Bits → compact_text (error_data stands by_messages by_readings) ≡ error_text stands by_messages by_readings
+unfolding escape_byte
+error_is false by_messages by_readings m r = refl
+error_is true by_messages by_readings m r =
+    (λ i. error_pieces (errors_are by_messages m i) (errors_are by_readings r i))
+    ∙ error_same (errors_text by_messages) (errors_text by_readings)
+
+-- ---- tags and the time
+
+follow_is : (tag : Option ℕ) → compact_text (follow_data tag) ≡ follow_text tag
+follow_is None = refl
+follow_is (Some tag) = refl
+
+abbrev time_pieces : (seconds nanos fraction : List ℕ) → List ℕ
+time_pieces seconds nanos fraction = 91 ∷ (seconds ++ (44 ∷ (nanos ++ (44 ∷ (fraction ++ 93 ∷ [])))))
+
+time_same : (seconds nanos fraction : List ℕ) → time_pieces seconds nanos fraction
+    ≡ codes "[" ++ seconds ++ codes "," ++ nanos ++ codes "," ++ fraction ++ codes "]"
+time_same seconds nanos fraction = simp append_assoc
+
+time_is : (time : Option ℕ) → compact_text (time_data time) ≡ time_text time
+time_is None = refl
+time_is (Some time) =
+    time_same (decimal (stamp_of time).seconds) (decimal (stamp_of time).nanos) (decimal (fraction_of time))
+
+-- ---- the pieces of the text as a value's, by the texts of its members, and as they are written
+abbrev owed_pieces : (by_messages by_readings error rest : List ℕ) → List ℕ
+owed_pieces by_messages by_readings error rest =
+    codes "{\"by_messages\":" ++ (by_messages
+    ++ (codes ",\"by_readings\":" ++ (by_readings
+    ++ (codes ",\"error\":" ++ (error ++ rest)))))
+
+abbrev owed_front : (by_messages by_readings error : List ℕ) → List ℕ
+owed_front by_messages by_readings error =
+    codes "{\"by_messages\":" ++ by_messages ++ codes ",\"by_readings\":" ++ by_readings ++ codes ",\"error\":" ++ error
+
+same_owed : (by_messages by_readings error rest : List ℕ)
+    → owed_pieces by_messages by_readings error rest ≡ owed_front by_messages by_readings error ++ rest
+same_owed by_messages by_readings error rest = simp append_assoc
+
+abbrev reported_pieces : (event line node offset2 path2 rest : List ℕ) → List ℕ
+reported_pieces event line node offset2 path2 rest =
+    codes ",\"event\":" ++ (event
     ++ (codes ",\"line\":" ++ (line
     ++ (codes ",\"node\":" ++ ((34 ∷ (node ++ 34 ∷ []))
     ++ (codes ",\"offset2\":" ++ ((34 ∷ (offset2 ++ 34 ∷ []))
-    ++ (codes ",\"path2\":" ++ ((34 ∷ (path2 ++ 34 ∷ []))
-    ++ (codes ",\"reasons\":" ++ (reasons ++ codes "}")))))))))))))
+    ++ (codes ",\"path2\":" ++ ((34 ∷ (path2 ++ 34 ∷ [])) ++ rest)))))))))
 
--- the same as they are written, but for what ends it
-abbrev front : (results event line node offset2 path2 reasons : List ℕ) → List ℕ
-front results event line node offset2 path2 reasons =
-    codes "{\"by_readings\":" ++ results
-    ++ codes ",\"event\":" ++ event
+abbrev reported_front : (event line node offset2 path2 : List ℕ) → List ℕ
+reported_front event line node offset2 path2 =
+    codes ",\"event\":" ++ event
     ++ codes ",\"line\":" ++ line
     ++ codes ",\"node\":\"" ++ node
     ++ codes "\",\"offset2\":\"" ++ offset2
-    ++ codes "\",\"path2\":\"" ++ path2
-    ++ codes "\",\"reasons\":[" ++ reasons
+    ++ codes "\",\"path2\":\"" ++ path2 ++ codes "\""
 
-same_pieces : (results event line node offset2 path2 reasons : List ℕ)
-    → pieces results event line node offset2 path2 (91 ∷ (reasons ++ 93 ∷ []))
-    ≡ front results event line node offset2 path2 reasons ++ codes "]}"
-same_pieces results event line node offset2 path2 reasons = simp append_assoc
+same_reported : (event line node offset2 path2 rest : List ℕ)
+    → reported_pieces event line node offset2 path2 rest ≡ reported_front event line node offset2 path2 ++ rest
+same_reported event line node offset2 path2 rest = simp append_assoc
 
-abbrev front_of : Judged → List ℕ
-front_of judged = front (by_readings_text judged.judgement.by_readings) (decimal judged.event) (decimal judged.line) judged.node
-    (signed_decimal judged.report.offset2) (signed_decimal judged.report.path2) (codes_text judged.judgement.reasons)
+abbrev reasons_pieces : (reasons sync follow request response time : List ℕ) → List ℕ
+reasons_pieces reasons sync follow request response time =
+    codes ",\"reasons\":" ++ (reasons
+    ++ (codes ",\"tags\":" ++ ((91 ∷ (sync ++ (44 ∷ (follow ++ (44 ∷ (request ++ (44 ∷ (response ++ 93 ∷ []))))))))
+    ++ (codes ",\"time\":" ++ (time ++ codes "}")))))
 
-compact_is : (judged : Judged) → IsWithinRange judged → compact_text (judged_data judged) ≡ front_of judged ++ codes "]}"
+abbrev reasons_front : (reasons sync follow request response time : List ℕ) → List ℕ
+reasons_front reasons sync follow request response time =
+    codes ",\"reasons\":[" ++ reasons
+    ++ codes "],\"tags\":[" ++ sync
+    ++ codes "," ++ follow
+    ++ codes "," ++ request
+    ++ codes "," ++ response
+    ++ codes "],\"time\":" ++ time
+
+same_reasons : (reasons sync follow request response time : List ℕ)
+    → reasons_pieces (91 ∷ (reasons ++ 93 ∷ [])) sync follow request response time
+    ≡ reasons_front reasons sync follow request response time ++ codes "}"
+same_reasons reasons sync follow request response time = simp append_assoc
+
+abbrev reasons_of : Judged → Details → List ℕ
+reasons_of judged details = reasons_front (codes_text judged.judgement.reasons) (decimal judged.report.sync_tag)
+    (follow_text judged.report.follow_tag) (decimal judged.report.request_tag) (decimal judged.report.response_tag)
+    (time_text details.time)
+
+abbrev error_text_of : Judged → Details → List ℕ
+error_text_of judged details = error_text (is_wrong judged.report judged.judgement.by_readings)
+    (errors_against judged.report details.by_messages) (errors_against judged.report judged.judgement.by_readings)
+
+abbrev line_of : Judged → Details → List ℕ
+line_of judged details = owed_text judged details ++ (reported_text judged ++ (reasons_of judged details ++ codes "}"))
+
+compact_is : (judged : Judged) (details : Details) → IsWithinRange judged details
+    → compact_text (judged_data judged details) ≡ line_of judged details
 unfolding escape_byte
-compact_is judged h =
-    let results = by_readings_are judged.judgement.by_readings h.by_readings in
+compact_is judged details h =
+    let by_messages = results_are details.by_messages h.by_messages in
+    let by_readings = results_are judged.judgement.by_readings h.by_readings in
+    let error = error_is (is_wrong judged.report judged.judgement.by_readings) (errors_against judged.report details.by_messages)
+    (errors_against judged.report judged.judgement.by_readings) (errors_fit judged.report details.by_messages)
+    (errors_fit judged.report judged.judgement.by_readings) in
     let node = escape_name judged.node (list_all-from_AllPass is_name_octet judged.node h.node.octets) in
     let offset2 = escape_figures (signed_decimal judged.report.offset2) (figures_signed judged.report.offset2 h.offset2) in
     let path2 = escape_figures (signed_decimal judged.report.path2) (figures_signed judged.report.path2 h.path2) in
-    (λ i. pieces (results i) (decimal judged.event) (decimal judged.line) (node i) (offset2 i) (path2 i)
-    (codes_are judged.judgement.reasons i))
-    ∙ same_pieces (by_readings_text judged.judgement.by_readings) (decimal judged.event) (decimal judged.line) judged.node
-    (signed_decimal judged.report.offset2) (signed_decimal judged.report.path2) (codes_text judged.judgement.reasons)
+    let reasons : List ℕ = reasons_of judged details ++ codes "}" in
+    (λ i. owed_pieces (by_messages i) (by_readings i) (error i)
+    (reported_pieces (decimal judged.event) (decimal judged.line) (node i) (offset2 i) (path2 i)
+    (reasons_pieces (codes_are judged.judgement.reasons i) (decimal judged.report.sync_tag) (follow_is judged.report.follow_tag i)
+    (decimal judged.report.request_tag) (decimal judged.report.response_tag) (time_is details.time i))))
+    ∙ ap (λ (r : List ℕ). owed_pieces (results_text details.by_messages) (results_text judged.judgement.by_readings)
+    (error_text_of judged details)
+    (reported_pieces (decimal judged.event) (decimal judged.line) judged.node (signed_decimal judged.report.offset2)
+    (signed_decimal judged.report.path2) r))
+    (same_reasons (codes_text judged.judgement.reasons) (decimal judged.report.sync_tag) (follow_text judged.report.follow_tag)
+    (decimal judged.report.request_tag) (decimal judged.report.response_tag) (time_text details.time))
+    ∙ ap (owed_pieces (results_text details.by_messages) (results_text judged.judgement.by_readings) (error_text_of judged details))
+    (same_reported (decimal judged.event) (decimal judged.line) judged.node (signed_decimal judged.report.offset2)
+    (signed_decimal judged.report.path2) reasons)
+    ∙ same_owed (results_text details.by_messages) (results_text judged.judgement.by_readings) (error_text_of judged details)
+    (reported_text judged ++ reasons)
 
 -- ---- in octets that are printed
-record ArePrinted (text : List ℕ) : Type 0 where
-  all : list_all is_printed text ≡ true
-
-both : {xs ys : List ℕ} → ArePrinted xs → ArePrinted ys → ArePrinted (xs ++ ys)
-both {xs} {ys} first second = record {
-  all = list_all-append is_printed xs ys ∙ (λ i. first.all i && second.all i);
-}
-
-word : (text : List ℕ) → list_all is_printed text ≡ true → ArePrinted text
-word text printed = record { all = printed }
-
-number_printed : (n : ℕ) → n < 2 ^ 64 → ArePrinted (decimal n)
-number_printed n small = word (decimal n) (printed_figures (decimal n) (figures_decimal n (omega (arith, small))))
-
 signed_printed : (z : ℤ) → IsOf128Bits z → ArePrinted (signed_decimal z)
 signed_printed z small = word (signed_decimal z) (printed_figures (signed_decimal z) (figures_signed z small))
 
-by_readings_printed : (results : Option Results) → IfSome results AreOf128Bits → ArePrinted (by_readings_text results)
-by_readings_printed None h = word (by_readings_text None) refl
-by_readings_printed (Some results) h =
+nanoseconds_printed : (z : ℤ) → IsOf128Bits z → ArePrinted (nanoseconds_text z)
+nanoseconds_printed z small = word (nanoseconds_text z) (printed_figures (nanoseconds_text z) (figures_nanoseconds z small))
+
+results_printed : (results : Option Results) → IfSome results AreOf128Bits → ArePrinted (results_text results)
+results_printed None h = word (results_text None) refl
+results_printed (Some results) h =
     both (both (both (both (word (codes "{\"offset2\":\"") refl) (signed_printed results.offset2 h.0))
     (word (codes "\",\"path2\":\"") refl)) (signed_printed results.path2 h.1)) (word (codes "\"}") refl)
+
+errors_printed : (errors : Option Results) → IfSome errors AreOf128Bits → ArePrinted (errors_text errors)
+errors_printed None h = word (errors_text None) refl
+errors_printed (Some errors) h =
+    both (both (both (both (word (codes "{\"offset\":\"") refl) (nanoseconds_printed errors.offset2 h.0))
+    (word (codes "\",\"path\":\"") refl)) (nanoseconds_printed errors.path2 h.1)) (word (codes "\"}") refl)
+
+error_printed : (stands : Bool) (by_messages by_readings : Option Results) → IfSome by_messages AreOf128Bits
+    → IfSome by_readings AreOf128Bits → ArePrinted (error_text stands by_messages by_readings)
+error_printed false by_messages by_readings m r = word (codes "null") refl
+error_printed true by_messages by_readings m r =
+    both (both (both (both (word (codes "{\"by_messages\":") refl) (errors_printed by_messages m))
+    (word (codes ",\"by_readings\":") refl)) (errors_printed by_readings r)) (word (codes "}") refl)
 
 more_printed : (whys : List Why) → ArePrinted (flat_map (λ why. codes "," ++ decimal (code_of why)) whys)
 more_printed [] = word [] refl
@@ -239,42 +416,58 @@ codes_printed : (whys : List Why) → ArePrinted (codes_text whys)
 codes_printed [] = word [] refl
 codes_printed (why ∷ others) = both (number_printed (code_of why) (code_small why)) (more_printed others)
 
-front_printed : (results event line node offset2 path2 reasons : List ℕ)
-    → ArePrinted results → ArePrinted event → ArePrinted line → ArePrinted node → ArePrinted offset2 → ArePrinted path2 → ArePrinted reasons
-    → ArePrinted (front results event line node offset2 path2 reasons)
-front_printed results event line node offset2 path2 reasons r e l n o p c =
-    both (both (both (both (both (both (both (both (both (both (both (both (both (word (codes "{\"by_readings\":") refl) r) (word (codes ",\"event\":") refl)) e) (word (codes ",\"line\":") refl)) l) (word (codes ",\"node\":\"") refl)) n) (word (codes "\",\"offset2\":\"") refl)) o) (word (codes "\",\"path2\":\"") refl)) p) (word (codes "\",\"reasons\":[") refl)) c
+follow_printed : (tag : Option ℕ) → IfSome tag IsTag → ArePrinted (follow_text tag)
+follow_printed None h = word (follow_text None) refl
+follow_printed (Some tag) h = number_printed tag h
 
-line_printed : (judged : Judged) → IsWithinRange judged → ArePrinted (front_of judged ++ codes "]}")
-line_printed judged h = both
-    (front_printed (by_readings_text judged.judgement.by_readings) (decimal judged.event) (decimal judged.line) judged.node
-    (signed_decimal judged.report.offset2) (signed_decimal judged.report.path2) (codes_text judged.judgement.reasons)
-    (by_readings_printed judged.judgement.by_readings h.by_readings) (number_printed judged.event h.event) (number_printed judged.line h.line)
+time_printed : (time : Option ℕ) → IfSome time (λ time. time < bound) → ArePrinted (time_text time)
+time_printed None h = word (time_text None) refl
+time_printed (Some time) h =
+    both (both (both (both (both (both (word (codes "[") refl) (number_printed (stamp_of time).seconds (omega (arith, h))))
+    (word (codes ",") refl)) (number_printed (stamp_of time).nanos (omega arith)))
+    (word (codes ",") refl)) (number_printed (fraction_of time) (omega arith))) (word (codes "]") refl)
+
+owed_printed : (by_messages by_readings error : List ℕ) → ArePrinted by_messages → ArePrinted by_readings → ArePrinted error
+    → ArePrinted (owed_front by_messages by_readings error)
+owed_printed by_messages by_readings error m r e =
+    both (both (both (both (both (word (codes "{\"by_messages\":") refl) m) (word (codes ",\"by_readings\":") refl)) r) (word (codes ",\"error\":") refl)) e
+
+reported_printed : (event line node offset2 path2 : List ℕ)
+    → ArePrinted event → ArePrinted line → ArePrinted node → ArePrinted offset2 → ArePrinted path2
+    → ArePrinted (reported_front event line node offset2 path2)
+reported_printed event line node offset2 path2 e l n o p =
+    both (both (both (both (both (both (both (both (both (both (word (codes ",\"event\":") refl) e) (word (codes ",\"line\":") refl)) l) (word (codes ",\"node\":\"") refl)) n) (word (codes "\",\"offset2\":\"") refl)) o) (word (codes "\",\"path2\":\"") refl)) p) (word (codes "\"") refl)
+
+reasons_printed : (reasons sync follow request response time : List ℕ)
+    → ArePrinted reasons → ArePrinted sync → ArePrinted follow → ArePrinted request → ArePrinted response → ArePrinted time
+    → ArePrinted (reasons_front reasons sync follow request response time)
+reasons_printed reasons sync follow request response time c s f q r t =
+    both (both (both (both (both (both (both (both (both (both (both (word (codes ",\"reasons\":[") refl) c) (word (codes "],\"tags\":[") refl)) s) (word (codes ",") refl)) f) (word (codes ",") refl)) q) (word (codes ",") refl)) r) (word (codes "],\"time\":") refl)) t
+
+line_printed : (judged : Judged) (details : Details) → IsWithinRange judged details → ArePrinted (line_of judged details)
+line_printed judged details h =
+    both (owed_printed _ _ _ (results_printed details.by_messages h.by_messages)
+    (results_printed judged.judgement.by_readings h.by_readings)
+    (error_printed (is_wrong judged.report judged.judgement.by_readings) _ _ (errors_fit judged.report details.by_messages)
+    (errors_fit judged.report judged.judgement.by_readings)))
+    (both (reported_printed _ _ _ _ _ (number_printed judged.event h.event) (number_printed judged.line h.line)
     (word _ (all_of is_name_octet is_printed name_printed judged.node (list_all-from_AllPass is_name_octet judged.node h.node.octets)))
-    (signed_printed judged.report.offset2 h.offset2) (signed_printed judged.report.path2 h.path2)
-    (codes_printed judged.judgement.reasons)) (word (codes "]}") refl)
+    (signed_printed judged.report.offset2 h.offset2) (signed_printed judged.report.path2 h.path2))
+    (both (reasons_printed _ _ _ _ _ _ (codes_printed judged.judgement.reasons) (number_printed judged.report.sync_tag h.tags.sync)
+    (follow_printed judged.report.follow_tag h.tags.follow) (number_printed judged.report.request_tag h.tags.request)
+    (number_printed judged.report.response_tag h.tags.response) (time_printed details.time h.time)) (word (codes "}") refl)))
 
-low : (x : ℕ) → is_printed x ≡ true → x < 128
-low x printed =
-    let parts : (nat_lt 31 x ≡ true) × (nat_lt x 127 ≡ true) = and_parts (nat_lt 31 x) (nat_lt x 127) printed in
-    grind (arith, nat_tests, parts.1)
-
-ascii : (text : List ℕ) → list_all is_printed text ≡ true → IsAscii text
-ascii [] h = IsAscii-nil
-ascii (x ∷ xs) h =
-    let parts = and_parts (is_printed x) (list_all is_printed xs) h in
-    IsAscii-cons x xs (low x parts.0) (ascii xs parts.1)
-
-written_is : (judged : Judged) → judged_text judged ≡ (front_of judged ++ codes "]}") ++ codes "\n"
-written_is judged = sym (append_assoc (front_of judged) (codes "]}") (codes "\n"))
+ended : (o r q e n : List ℕ) → o ++ (r ++ (q ++ (e ++ n))) ≡ (o ++ (r ++ (q ++ e))) ++ n
+ended o r q e n = sym (append_assoc o (r ++ (q ++ e)) n
+    ∙ ap (λ (s : List ℕ). o ++ s) (append_assoc r (q ++ e) n ∙ ap (λ (s : List ℕ). r ++ s) (append_assoc q e n)))
 
 pub each_is_json : EachJudgementIsJson
-each_is_json judged h =
-    let line : List ℕ = front_of judged ++ codes "]}" in
-    let printed = (line_printed judged h).all in (
+each_is_json judged details h =
+    let line : List ℕ = line_of judged details in
+    let printed = (line_printed judged details h).all in (
       line,
-      written_is judged,
+      ended (owed_text judged details) (reported_text judged) (reasons_of judged details) (codes "}") (codes "\n"),
       printed,
-      value_read line (judged_data judged) (IsUtf8-from_ascii line (ascii line printed))
-          (ap read (sym (compact_is judged h)) ∙ read_back judged h),
+      value_read line (judged_data judged details) (IsUtf8-from_ascii line (ascii line printed))
+          (ap read (sym (compact_is judged details h)) ∙ read_back judged details h),
     )

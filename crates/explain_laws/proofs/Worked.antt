@@ -1,7 +1,8 @@
 -- A worked judgement: its JSON, and that it is within its range; and two worked inputs.
-use Rattle.std.proofs.Common.{◌≡◌, inl, List, ℕ, [], ◌∷◌, codes, false, pos, Option, Some, None, Result, Ok, Err, refl, arith}
+use Rattle.std.proofs.Common.{◌≡◌, inl, List, ℕ, [], ◌∷◌, codes, false, pos, negsuc, Option, Some, None, Result, Ok, Err, refl, arith}
 use Rattle.std.specs.Fmt.{digits}
 use Rattle.std.specs.Str.{is_utf8, chars}
+use Rattle.ptp_units.specs.Nanoseconds.{decimals}
 use Rattle.serde_json.proofs.OnLiterals.{serde_json_on_literals}
 use Rattle.network_model.specs.declared.event.Event.TheVariants as events
 use Rattle.network_model.specs.declared.refusal.WorldRefusal.TheVariants.{WrongKind}
@@ -16,6 +17,7 @@ use Rattle.schedule_reading.specs.declared.fault.TaskFault.TheVariants.{Json, Wo
 use Rattle.trace_model.specs.declared.verdict.Why.TheVariants.{WrongValue, Bytes}
 use Rattle.schedule_lines.proofs.Names.{IsName-from_test}
 use Rattle.schedule_reading.specs.declared.transcript.Judged.{Judged}
+use Rattle.exchange_explain.specs.declared.details.Details.{Details}
 use Rattle.exchange_explain.specs.Judged.{judged_text}
 use Rattle.exchange_explain.specs.declared.explaining.Explained.TheVariants.{Flawed}
 use Rattle.exchange_explain.specs.declared.input.Found.{Found}
@@ -53,12 +55,19 @@ judged = record {
   };
 }
 
-text_is : judged_text judged
-    ≡ codes "{\"by_readings\":{\"offset2\":\"131072000\",\"path2\":\"131072000\"},\"event\":13,\"line\":17,\"node\":\"S\",\"offset2\":\"131072001\",\"path2\":\"131072000\",\"reasons\":[706,708]}\n"
-unfolding digits
+-- the Follow_Up tells t1 50,000 ns later; the Delay_Req left at 2.000001 s and 3/65536 ns
+abbrev details : Details
+details = record {
+  by_messages = Some (record { offset2 = negsuc 3145727999; path2 = negsuc 3145727999 });
+  time = Some 131072065536003;
+}
+
+text_is : judged_text judged details
+    ≡ codes "{\"by_messages\":{\"offset2\":\"-3145728000\",\"path2\":\"-3145728000\"},\"by_readings\":{\"offset2\":\"131072000\",\"path2\":\"131072000\"},\"error\":{\"by_messages\":{\"offset\":\"25000.00000762939453125\",\"path\":\"25000\"},\"by_readings\":{\"offset\":\"0.00000762939453125\",\"path\":\"0\"}},\"event\":13,\"line\":17,\"node\":\"S\",\"offset2\":\"131072001\",\"path2\":\"131072000\",\"reasons\":[706,708],\"tags\":[2,6,8,11],\"time\":[2,1000,3]}\n"
+unfolding digits decimals
 text_is = refl
 
-is_within : IsWithinRange judged
+is_within : IsWithinRange judged details
 is_within = record {
   event = omega arith;
   line = omega arith;
@@ -66,6 +75,9 @@ is_within = record {
   offset2 = omega arith;
   path2 = omega arith;
   by_readings = (omega arith, omega arith);
+  by_messages = (omega arith, omega arith);
+  tags = record { sync = omega arith; follow = omega arith; request = omega arith; response = omega arith };
+  time = omega arith;
 }
 
 -- ---- two inputs of a clock and one more line: `check_text` and `replay` have the fault of `write_judgements` and of

@@ -1,36 +1,62 @@
 -- What the JSON of a judged report is read as. `laws::judgements_are_json` promises it.
-use Rattle.std.specs.Prelude.{◌≡◌, ◌<◌, ◌^◌, ℕ, true, List, [], ◌∷◌, ◌++◌, codes, Option, Some, None, IfSome}
+use Rattle.std.specs.Prelude.{◌≡◌, ◌<◌, ◌^◌, ℕ, Bool, true, List, [], ◌∷◌, ◌++◌, codes, if◌then◌else◌, Option, Some, None}
+use Rattle.std.specs.Prelude.{IfSome}
 use Rattle.std.specs.List.{list_all}
 use Rattle.serde_json.specs.Data.{Data, null, string, array, object, Items, item, no_items, member, no_members}
+use Rattle.ptp_units.specs.Moment.{bound}
+use Rattle.ptp_units.specs.Nanoseconds.{nanoseconds_text}
 use Rattle.network_model.specs.Name.{IsName}
 use Rattle.trace_model.specs.declared.judgement.Results.{Results}
 use Rattle.trace_model.specs.declared.verdict.Why.{Why}
 use Rattle.trace_model.specs.Refusal.{code_of}
 use Rattle.schedule_lines.specs.Json.{value_in}
-use Rattle.schedule_lines.specs.Written.{whole, difference_data}
+use Rattle.schedule_lines.specs.Ranges.{HasTags}
+use Rattle.schedule_lines.specs.Written.{whole, moment_data, difference_data, tags_data}
 use Rattle.schedule_reading.specs.declared.transcript.Judged.{Judged}
 use Rattle.measured_json.specs.ReadBack.{IsOf128Bits, is_printed}
-use Rattle.exchange_explain.specs.Judged.{judged_text}
+use Rattle.exchange_explain.specs.declared.details.Details.{Details}
+use Rattle.exchange_explain.specs.Judged.{errors_against, is_wrong, judged_text}
 
 -- results of 128 bits
 abbrev pub AreOf128Bits : Results → Type 0
 AreOf128Bits results = IsOf128Bits results.offset2 × IsOf128Bits results.path2
 
--- a judgement's numbers have 64 bits, its results 128, and its slave has a name that a node may have
-pub record IsWithinRange (judged : Judged) : Type 0 where
+-- a judgement's numbers have 64 bits, its results 128, its slave has a name that a node may have, and its time is a moment
+pub record IsWithinRange (judged : Judged) (details : Details) : Type 0 where
   pub event : judged.event < 2 ^ 64
   pub line : judged.line < 2 ^ 64
   pub node : IsName judged.node
   pub offset2 : IsOf128Bits judged.report.offset2
   pub path2 : IsOf128Bits judged.report.path2
   pub by_readings : IfSome judged.judgement.by_readings AreOf128Bits
+  pub by_messages : IfSome details.by_messages AreOf128Bits
+  pub tags : HasTags judged.report
+  pub time : IfSome details.time (λ time. time < bound)
 
--- the results by the readings as a value, or null
-abbrev pub by_readings_data : Option Results → Data
-by_readings_data None = null
-by_readings_data (Some results) =
+-- two results as a value, or null
+abbrev pub results_data : Option Results → Data
+results_data None = null
+results_data (Some results) =
     object (member (codes "offset2") (difference_data results.offset2)
     (member (codes "path2") (difference_data results.path2) no_members))
+
+-- two errors in nanoseconds as a value, or null
+abbrev pub errors_data : Option Results → Data
+errors_data None = null
+errors_data (Some errors) =
+    object (member (codes "offset") (string (nanoseconds_text errors.offset2))
+    (member (codes "path") (string (nanoseconds_text errors.path2)) no_members))
+
+-- the errors against the results by the messages and by the readings, where 706 stands, or null
+abbrev pub error_data : (stands : Bool) → (by_messages by_readings : Option Results) → Data
+error_data stands by_messages by_readings = if stands then
+    object (member (codes "by_messages") (errors_data by_messages)
+    (member (codes "by_readings") (errors_data by_readings) no_members)) else null
+
+-- a moment as a value, or null
+abbrev pub time_data : Option ℕ → Data
+time_data None = null
+time_data (Some time) = moment_data time
 
 -- the numbers of reasons as values
 abbrev pub codes_data : List Why → Items
@@ -38,19 +64,24 @@ codes_data [] = no_items
 codes_data (why ∷ others) = item (whole (code_of why)) (codes_data others)
 
 -- what a report is judged to be as a value: an object of these members
-abbrev pub judged_data : Judged → Data
-judged_data judged = object
-    (member (codes "by_readings") (by_readings_data judged.judgement.by_readings)
+abbrev pub judged_data : Judged → Details → Data
+judged_data judged details = object
+    (member (codes "by_messages") (results_data details.by_messages)
+    (member (codes "by_readings") (results_data judged.judgement.by_readings)
+    (member (codes "error") (error_data (is_wrong judged.report judged.judgement.by_readings)
+    (errors_against judged.report details.by_messages) (errors_against judged.report judged.judgement.by_readings))
     (member (codes "event") (whole judged.event)
     (member (codes "line") (whole judged.line)
     (member (codes "node") (string judged.node)
     (member (codes "offset2") (difference_data judged.report.offset2)
     (member (codes "path2") (difference_data judged.report.path2)
-    (member (codes "reasons") (array (codes_data judged.judgement.reasons)) no_members)))))))
+    (member (codes "reasons") (array (codes_data judged.judgement.reasons))
+    (member (codes "tags") (tags_data judged.report)
+    (member (codes "time") (time_data details.time) no_members)))))))))))
 
 -- the JSON of a judged report is one line, which is read as that value
 abbrev pub EachJudgementIsJson : Type 0
 EachJudgementIsJson =
-    (judged : Judged) → IsWithinRange judged
-    → (line : List ℕ) × (judged_text judged ≡ line ++ codes "\n") × (list_all is_printed line ≡ true)
-    × (value_in line ≡ Some (judged_data judged))
+    (judged : Judged) (details : Details) → IsWithinRange judged details
+    → (line : List ℕ) × (judged_text judged details ≡ line ++ codes "\n") × (list_all is_printed line ≡ true)
+    × (value_in line ≡ Some (judged_data judged details))

@@ -24,5 +24,6 @@ counts_in tally = record {
   reports = tally.reports;
   sound = tally.sound;
   octets_alone = tally.octets_alone;
+  by_readings = tally.by_readings;
   failing = map (failing_in tally.failing) told_reasons;
 }

@@ -1,6 +1,6 @@
 use Rattle.std.proofs.Common.{◌≡◌, ◌∷◌, List, subst}
 use Rattle.trace_model.specs.declared.verdict.Why.{Why}
-use Rattle.exchange_story.specs.Counts.{counts_of, is_octets_alone, is_sound}
+use Rattle.exchange_story.specs.Counts.{counts_of, is_by_readings, is_octets_alone, is_sound}
 use Rattle.exchange_story.specs.Inner.Tally.{counts_in}
 use Rattle.exchange_story.specs.declared.tally.Tally.{Tally}
 use Rattle.exchange_story.proofs.Counted.{IsAfter, counted_by, counts_more}
@@ -12,6 +12,8 @@ returns c =
       reports = c.saturating_add-self.result;
       sound = c.more-self.result;
       octets_alone = c.more-self-2.result;
+      by_messages = c.more-self-3.result;
+      by_readings = c.more-self-4.result;
       failing = c.after-self.result;
     } in
     let after : IsAfter c.as_slice-whys.result.now c.args.self.now new = record {
@@ -20,6 +22,8 @@ returns c =
           c.more-self.ensures c.is_sound.ensures;
       octets_alone = counted_by c.is_octets_alone.result (is_octets_alone c.as_slice-whys.result.now) c.args.self.now.octets_alone
           c.more-self-2.result c.more-self-2.ensures c.is_octets_alone.ensures;
+      by_readings = counted_by c.is_by_readings.result (is_by_readings c.as_slice-whys.result.now) c.args.self.now.by_readings
+          c.more-self-4.result c.more-self-4.ensures c.is_by_readings.ensures;
       failing = c.after-self.ensures;
     } in
     λ reports is.

@@ -1,6 +1,6 @@
 use Rattle.std.proofs.Common.{append_assoc}
 use Rattle.std.proofs.Output.{has_written_of_eq}
-use Rattle.exchange_explain.proofs.json.ByReadingsDisplay.fmt.Goals as goal
+use Rattle.exchange_explain.proofs.json.PairDisplay.fmt.Goals as goal
 
 pub returns-in-Some-clause-writes : goal.returns-in-Some-clause-writes
 returns-in-Some-clause-writes g c = λ plain ok.

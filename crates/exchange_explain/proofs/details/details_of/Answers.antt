@@ -1,0 +1,7 @@
+use Rattle.exchange_explain.proofs.Noting.{details_told}
+use Rattle.exchange_explain.proofs.details.details_of.Goals as goal
+
+pub returns-in-Some : goal.returns-in-Some
+returns-in-Some c = λ notes.
+    details_told c.args.evidence.now c.args.input.now c.in-Transcript.transcript c.args.report.now c.in-Some.checker.now
+    c.by_messages.result c.last_time.result c.in-Transcript.is notes c.in-Some.ensures c.by_messages.ensures c.last_time.ensures

@@ -1,0 +1,7 @@
+use Rattle.exchange_explain.proofs.Noting.{line_entered}
+use Rattle.exchange_explain.proofs.input.take_line.Goals as goal
+
+pub returns : goal.returns
+returns c =
+    line_entered c.args.line.now c.in_ok-entry.entry c.in_ok-judged.judged c.args.transcript.now c.read.new.self
+    c.take_entry.new.self c.in_ok-entry.ensures.read c.read.ensures.same c.in_ok-judged.ensures

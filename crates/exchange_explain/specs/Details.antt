@@ -1,0 +1,40 @@
+-- What is told of the report of a line beside its judgement: its results by the messages, and when it was.
+use Rattle.std.specs.Prelude.{ℕ, [], ◌∷◌, nat_lt, if◌then◌else◌, Option, None, option_map, option_and_then}
+use Rattle.slave_port.specs.declared.heard.Report.{Report}
+use Rattle.network_model.specs.Kinds.{draws_sync, is_request}
+use Rattle.network_model.specs.Network.{Network}
+use Rattle.trace_model.specs.Line.{Lines}
+use Rattle.trace_model.specs.Record.{LinePlace, line_number, line_place, reading, site}
+use Rattle.trace_model.specs.Sound.{Exchange, exchange_of, unbroken}
+use Rattle.exchange_check.specs.Evidence.{last_by_messages}
+use Rattle.exchange_explain.specs.declared.details.Details.{Details}
+use Rattle.exchange_explain.specs.declared.input.Input.{Input}
+use Rattle.exchange_explain.specs.declared.input.Input.TheVariants.{Transcript, Schedule}
+
+-- what the slave read at the last of the two event messages of an exchange: as the Sync came, or as the Delay_Req left
+abbrev pub last_reading : Exchange → ℕ
+last_reading x = if nat_lt (line_number x.request) (line_number x.sync_arrival) then reading x.sync_arrival
+    else reading x.request
+
+-- the same of a report at a line, where 701 and 704 hold
+abbrev pub time_of : Network → LinePlace → Report → Option ℕ
+time_of network e report =
+    option_and_then (λ x.
+    option_and_then (λ sync.
+    option_map (λ request. last_reading x)
+    (unbroken network e is_request x.request_arrival))
+    (unbroken network e draws_sync x.sync_arrival))
+    (exchange_of network (site e) e report)
+
+-- the same of a report of the last of these lines
+abbrev pub last_time : Network → Lines → Report → Option ℕ
+last_time network [] report = None
+last_time network (line ∷ earlier) report = time_of network (line_place line earlier) report
+
+-- what is told of a report of the last line of an input beside its judgement; nothing of a schedule
+abbrev pub details_of : Input → Report → Details
+details_of (Transcript state) report = record {
+  by_messages = last_by_messages state.nodes state.lines report;
+  time = last_time state.nodes state.lines report;
+}
+details_of (Schedule state) report = record { by_messages = None; time = None }
