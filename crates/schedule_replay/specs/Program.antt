@@ -1,8 +1,8 @@
 -- What the program answers: its exit status, by what the arguments ask for.
-use Rattle.std.specs.Prelude.{◌≡◌, ◌⊎◌, ℕ, Bool, true, false, List, Option, Result, Ok, Err, MatchResult, ⊤, if◌then◌else◌}
+use Rattle.std.specs.Prelude.{◌≡◌, ◌⊎◌, ℕ, Bool, true, false, ◌&&◌, List, Option, Result, Ok, Err, MatchResult, ⊤, if◌then◌else◌}
 use Rattle.std.specs.Io.KnownBytes.{Appends}
 use Rattle.text_lines.specs.declared.counted.Counted.{Counted}
-use Rattle.text_lines.specs.Counted.{device_of, HasFailed, HasNotFailed}
+use Rattle.text_lines.specs.Counted.{device_of, is_unread, HasFailed, HasNotFailed}
 use Rattle.transcript_text.specs.Fault.{FailedWith}
 use Rattle.transcript_text.specs.declared.fault.Fault.{Fault}
 use Rattle.trace_model.specs.declared.verdict.Verdict.{Verdict}
@@ -19,7 +19,9 @@ use Rattle.exchange_explain.specs.declared.input.Found.TheVariants.{Transcript, 
 use Rattle.schedule_reading.specs.declared.fault.TaskFault.{TaskFault}
 use Rattle.exchange_explain.specs.Explained.{ExplainsAnswer, ExplainFailedWith}
 use Rattle.exchange_explain.specs.Judgements.{JudgesAnswer, judgement_rules}
+use Rattle.schedule_reading.specs.Fault.{is_write}
 use Rattle.text_lines.specs.declared.fault.Cause.{Cause}
+use Rattle.text_lines.specs.declared.fault.Cause.TheVariants.{Reading, Task}
 use Rattle.text_lines.specs.declared.fault.Stopped.{Stopped}
 use Rattle.capture_file.specs.declared.fault.CaptureStop.{CaptureStop}
 use Rattle.capture_file.specs.Task as capture
@@ -126,16 +128,25 @@ found_status (Transcript (Accepted count)) = 0
 found_status (Transcript (Refused number why)) = 1
 found_status (Schedule events) = 0
 
--- the exit status of `explain --json`, by its answer
-abbrev pub judging_status : Result Found (Stopped (Cause TaskFault)) → ℕ
-judging_status (Ok found) = found_status found
-judging_status (Err stop) = 3
+-- whether the writer failed at this
+abbrev pub is_of_output : Cause TaskFault → Bool
+is_of_output (Reading fault) = false
+is_of_output (Task fault) = is_write fault
 
--- the exit status of `explain`, by its answer
-abbrev pub explaining_status : Result Explained (Stopped (Cause TaskFault)) → ℕ
-explaining_status (Ok (Whole found)) = found_status found
-explaining_status (Ok (Flawed line what)) = 3
-explaining_status (Err stop) = 3
+-- the exit status of `explain` where this stopped it: it is done where a write failed since nobody reads what is written
+abbrev pub stopped_status : {W : Type 0} → Counted W → Cause TaskFault → ℕ
+stopped_status output what = if is_of_output what && is_unread output then 0 else 3
+
+-- the exit status of `explain --json`, by its answer and what became of the writer
+abbrev pub judging_status : {W : Type 0} → Counted W → Result Found (Stopped (Cause TaskFault)) → ℕ
+judging_status output (Ok found) = found_status found
+judging_status output (Err stop) = stopped_status output stop.what
+
+-- the exit status of `explain`, by its answer and what became of the writer
+abbrev pub explaining_status : {W : Type 0} → Counted W → Result Explained (Stopped (Cause TaskFault)) → ℕ
+explaining_status output (Ok (Whole found)) = found_status found
+explaining_status output (Ok (Flawed line what)) = 3
+explaining_status output (Err stop) = stopped_status output stop.what
 
 -- which of the two devices failed at this answer of `explain --json`
 abbrev pub JudgingFailedWith : {R W : Type 0} → Result Found (Stopped (Cause TaskFault))
@@ -148,11 +159,11 @@ JudgingFailedWith answer input input' output output' = MatchResult answer
 abbrev pub RunsForm : {R W : Type 0} → Bool → (R → Option (List ℕ)) → (W → Option (List ℕ)) → ExplainOptions → ℕ
     → (input input' : Counted R) (output output' : Counted W) → Type 0
 RunsForm true remaining contents options status input input' output output' =
-    (answer : Result Found (Stopped (Cause TaskFault))) × (status ≡ judging_status answer)
+    (answer : Result Found (Stopped (Cause TaskFault))) × (status ≡ judging_status output' answer)
     × JudgingFailedWith answer input input' output output'
     × JudgesAnswer options.first remaining contents answer input input' output output'
 RunsForm false remaining contents options status input input' output output' =
-    (answer : Result Explained (Stopped (Cause TaskFault))) × (status ≡ explaining_status answer)
+    (answer : Result Explained (Stopped (Cause TaskFault))) × (status ≡ explaining_status output' answer)
     × ExplainFailedWith answer input input' output output'
     × ExplainsAnswer options.first remaining contents answer input input' output output'
 

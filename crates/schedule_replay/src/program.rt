@@ -1,7 +1,7 @@
 ghost use Rattle.std.specs.Prelude.{◌≡◌, ◌≢◌, ◌⊎◌, map, string_bytes};
 ghost use Rattle.schedule_replay.specs.Program.{EndsBefore, EndsUnread, IsLimited, Runs, RunsExtract, RunsList};
 ghost use Rattle.schedule_replay.specs.Program.{RunsLines, RunsMeasure, RunsExplain, form_of};
-ghost use Rattle.schedule_replay.specs.Program.{check_status, found_status, outcome_status, status_of};
+ghost use Rattle.schedule_replay.specs.Program.{check_status, found_status, is_of_output, outcome_status, status_of, stopped_status};
 ghost use Rattle.command_line.specs.Arguments.{AsksNothing, HasHelpFlag, Names, NamesNothing};
 ghost use Rattle.text_lines.specs.Lines.{input_limit, lines_limit, GivesWithin};
 
@@ -19,16 +19,18 @@ use command_line::commands::measure::MeasureOptions;
 use command_line::{Invocation, Subcommand, parse};
 use exchange_check::Verdict;
 use exchange_explain::{Explained, Found, explain, write_judgements};
+use schedule_reading::TaskFault;
 use std::alloc::Global;
 use std::io::{Read, Write};
-use text_lines::{Counted, LineFault, Numbered, Stopped};
+use text_lines::{Cause, Counted, LineFault, Numbered, Stopped};
 use transcript_text::{Fault, FaultKind, check_text, replay};
 
 /// The whole program over its arguments, of which the first is its own name: runs the subcommand that
 /// they name, and answers the exit status. Status 0: done or accepted, or help was asked for, which
 /// goes to `output`. Status 1: `check` or `explain` refused the transcript. Status 2: the arguments are no command,
 /// and the reason goes to `errors`. Status 3: a fault, whose number and line go to `errors`; at line 0
-/// stand want of memory before the subcommand ran, and a help text that can't be written. What can't
+/// stand want of memory before the subcommand ran, and a help text that can't be written. That nobody reads any
+/// more what `explain` writes, as behind `head`, is no fault: it ends then with status 0. What can't
 /// be written to `errors` is lost. Where that is a terminal, a line after the fault of `show`, `replay` or
 /// `check` says what its number means, and which subcommand says more.
 pub fn command<R: Read, W: Write, E: Write>(
@@ -111,14 +113,36 @@ fn run_explain<R: Read, W: Write, E: Write>(
     if options.json {
         return match write_judgements(alloc, options.first, input, output) {
             Ok(found) => found_status(found),
-            Err(stop) => report(errors, stop),
+            Err(stop) => finish_stopped(errors, output, stop),
         };
     }
     match explain(alloc, options.first, input, output) {
         Ok(Explained::Whole(found)) => found_status(found),
         Ok(Explained::Flawed { line, what }) => report(errors, Stopped { line, what }),
-        Err(stop) => report(errors, stop),
+        Err(stop) => finish_stopped(errors, output, stop),
     }
+}
+
+/// Whether the writer failed at this.
+fn is_of_output(what: Cause<TaskFault>) -> bool
+    ensures { result ≡ is_of_output what }
+{
+    matches!(what, Cause::Task(TaskFault::Write))
+}
+
+/// Answers the exit status of `explain` where it stopped, and says its fault; that nobody reads any more, as behind
+/// `head`, is none.
+fn finish_stopped<W: Write, E: Write>(
+    errors: &mut E,
+    output: &Counted<W>,
+    stop: Stopped<Cause<TaskFault>>,
+) -> u8
+    ensures { result ≡ stopped_status output.now stop.what }
+{
+    if is_of_output(stop.what) && output.is_unread() {
+        return 0;
+    }
+    report(errors, stop)
 }
 
 /// The exit status of `explain` over a whole input: that of `check` or of `replay`.
@@ -193,6 +217,9 @@ fn run_lines<R: Read, W: Write, E: Write>(
 const LINES_HAVE_NO_INTERFACE: &[u8] =
     b"ptpx: lines have no interface, so --interface changes nothing\n";
 
+/// What is told of an input of no octet.
+const EMPTY: &[u8] = b"ptpx: the input is empty\n";
+
 /// How measurements are asked for.
 fn form_of(options: &MeasureOptions) -> Form
     ensures { result ≡ form_of options.now }
@@ -207,6 +234,19 @@ fn form_of(options: &MeasureOptions) -> Form
         Form::Table
     } else {
         Form::Json
+    }
+}
+
+/// Says of lines that there are none, and that an interface was asked for in vain.
+fn tell_lines<E: Write>(outcome: &Outcome, is_interface_asked: bool, errors: &mut E) {
+    let Outcome::Lines(answer) = outcome else {
+        return;
+    };
+    if matches!(answer, Ok(0)) {
+        let _ = errors.write_all(EMPTY);
+    }
+    if is_interface_asked {
+        let _ = errors.write_all(LINES_HAVE_NO_INTERFACE);
     }
 }
 
@@ -227,11 +267,9 @@ fn run_measure<R: Read, W: Write, E: Write>(
         interface: options.interface,
     };
     let form = form_of(&options);
-    let (outcome, summary) = measure(alloc, &wanted, form, input, output);
+    let (outcome, summary) = measure(alloc, &wanted, form, input, output, errors);
     let status = finish_outcome(errors, outcome);
-    if options.interface.is_some() && matches!(outcome, Outcome::Lines(_)) {
-        let _ = errors.write_all(LINES_HAVE_NO_INTERFACE);
-    }
+    tell_lines(&outcome, options.interface.is_some(), errors);
     summary.tell(errors);
     status
 }

@@ -128,8 +128,8 @@ high by half of that: use stamps by the hardware of the slave's port. Taken at t
 near 0. A capture in UTC of a master in TAI gives an offset of -37 s. A Sync takes the last delay, however old,
 up to two ticks, of which there is one after each 4096 Syncs.
 
-At the end standard error tells the domain, the master and the slave, what speaks against the numbers, how
-many reports there are, and which datagrams gave none, and why.
+Standard error tells the domain, the master and the slave as soon as they are known, and at the end what speaks
+against the numbers, how many reports there are, which datagrams gave none, and why, and statistics.
 
 Faults, each of which ends the run with 'ptpx: fault 806 at line 3' on standard error, or of a capture with
 'ptpx: fault 1006 at octet 6300, after 41 packets: the capture ends within a packet or a block'. Lines count
