@@ -130,6 +130,10 @@ class Choice:
     def heard(self):
         return self.parts()[1] if self.measured else []
 
+    def at_once(self):
+        """What is told as soon as it is known whom to watch."""
+        return list(measured.whom(self.told, 'packet')) if self.measured else []
+
     def sentences(self):
         """What is told at the end, but for the packets."""
         are_several = len(self.looked) > 1 or self.others
@@ -137,7 +141,7 @@ class Choice:
             if are_several:
                 yield f'measured at {place_text(*self.measured)}'
             early, heard = self.parts()
-            yield from summary(self.told, early, heard)
+            yield from summary(self.told.watched(), early, heard)
             for place, datagrams in self.looked.items():
                 if place != self.measured:
                     yield f'{counted(datagrams)} at {place_text(*place)}, which isn\'t measured'
@@ -145,7 +149,8 @@ class Choice:
             for place, datagrams in self.looked.items():
                 if are_several:
                     yield f'at {place_text(*place)}:'
-                yield from summary(told_by(self.wanted, datagrams), datagrams, [])
+                yield from measured.whom(told_by(self.wanted, datagrams), 'packet')
+                yield from summary(None, datagrams, [])
         if self.others:
             yield f'{counted(range(self.others))} at other interfaces, which weren\'t looked at'
 
@@ -154,12 +159,12 @@ def counted(datagrams):
     return '1 datagram' if len(datagrams) == 1 else f'{len(datagrams)} datagrams'
 
 
-def summary(told, early, heard):
+def summary(watched, early, heard):
     """What is told of datagrams that came too early, and of those that were heard."""
-    measurer = measured.Measurer(told.watched(), False)
+    measurer = measured.Measurer(watched, False)
     for it in heard:
         it.heard_by(measurer)
     counts = measurer.counts
     counts.update(f'{it.said.kind} too early' if it.is_message() else it.said for it in early)
     reads = [(it.time * 2**16, it.said) for it in [*early, *heard]]
-    yield from measured.summary(told, counts, reads, measurer.reports, 'packet')
+    yield from measured.summary(counts, reads, measurer.reports, measurer.became, 'packet')

@@ -89,12 +89,13 @@ def fault_text(fault):
 
 
 def told(case, answer, choice):
-    """What is owed on standard error: the fault, what `extract` tells of the packets, and what is told of the interfaces."""
+    """What is owed on standard error: whom it is of, the fault, what `extract` tells of the packets, and what is told of the interfaces."""
     fault = fault_text(answer.fault) if answer.fault else b''
+    at_once, sentences = (''.join(f'ptpx: {it}\n' for it in those).encode() for those in (choice.at_once(), choice.sentences()))
     extracted = ask(case.octets, 'extract', *case.wanted.interface_arguments()).errors
     if not extracted.startswith(fault):
         fail(f'extract tells {extracted[:300]!r}', case.octets)
-    return fault + extracted[len(fault):].removesuffix(WHOLE) + ''.join(f'ptpx: {it}\n' for it in choice.sentences()).encode()
+    return at_once + fault + extracted[len(fault):].removesuffix(WHOLE) + sentences
 
 
 def owed_lines(case, is_csv):
@@ -103,7 +104,8 @@ def owed_lines(case, is_csv):
     owed = choosing.measured.measured(case.octets, given)
     fault = b'ptpx: fault %d at line %d\n' % owed.fault if owed.fault else b''
     note = b'' if case.wanted.interface is None else NO_INTERFACE
-    return Said(3 if owed.fault else 0, owed.output, fault + note + owed.summary)
+    empty = b'' if case.octets else b'ptpx: the input is empty\n'
+    return Said(3 if owed.fault else 0, owed.output, owed.at_once + fault + empty + note + owed.summary)
 
 
 def owed(case, is_csv):
@@ -274,7 +276,9 @@ def try_devices():
     for arguments, text in [(['--csv'], 'ptpx: fault 802 at line 0\n'), ([], at_packet)]:
         with open('/dev/full', 'wb') as full:
             ended = subprocess.run([PROGRAM, 'measure', *arguments], input=bytes(capture.octets), stdout=full, stderr=subprocess.PIPE, timeout=60)
-        if ended.returncode != 3 or not ended.stderr.startswith(text.encode()):
+        # whom it watches is told before the first report
+        told = [it for it in ended.stderr.decode().splitlines(True) if ', told by packet ' not in it]
+        if ended.returncode != 3 or told[:1] != [text]:
             fail(f'measure to a full device: status {ended.returncode}, {ended.stderr[:200]!r}, and {text!r} is owed')
     folder = os.open(TOP, os.O_RDONLY)
     ended = subprocess.run([PROGRAM, 'measure'], stdin=folder, capture_output=True, timeout=60)

@@ -4,6 +4,7 @@ A transcript has one exchange for each way: in it the octets of one message or o
 report has the results by the readings, those by the messages, or others. What is owed is computed here, of these octets and of those that
 stood there, by the layout of IEEE 1588-2019 (13.3, 13.6 to 13.8) and the formulas of 11.2 and 11.3: all that stands above the moments of a
 report and below them, up to the next report, word for word."""
+import collections
 import dataclasses
 import itertools
 import json
@@ -465,6 +466,37 @@ def result_row(name, reported, wanted):
     return f'  {name:7}  reported {reported}  by the readings {wanted}{excess}\n'
 
 
+def error(reported, wanted):
+    """How many nanoseconds two results are too much; none where it isn't known."""
+    if wanted is None:
+        return None
+    return {name: decimals((result - other) * UNIT / 2) for name, result, other in zip(('offset', 'path'), reported, wanted)}
+
+
+def pair(results):
+    return None if results is None else {'offset2': str(results[0]), 'path2': str(results[1])}
+
+
+def judged(exchange):
+    """What is owed of a report as JSON."""
+    wrong, last = exchange.readings != exchange.reported, exchange.events[-1]
+    owed = {
+        'by_messages': pair(exchange.messages),
+        'by_readings': pair(exchange.readings),
+        'error': {'by_messages': error(exchange.reported, exchange.messages),
+                  'by_readings': error(exchange.reported, exchange.readings)} if wrong else None,
+        'event': last['n'],
+        'line': len(NODES) + last['n'] + 1,
+        'node': 'S',
+        **pair(exchange.reported),
+        'reasons': [706, 708] if wrong else [708],
+        'tags': last['tags'],
+        # the Delay_Req left behind the Sync's arrival
+        'time': exchange.events[DELAY_REQ]['reading'],
+    }
+    return json.dumps(owed, separators=(',', ':')) + '\n'
+
+
 def below(exchange):
     """What is owed below the moments of a report: the results, those by the messages where they are others, and which message tells otherwise."""
     rows = ''.join(map(result_row, ('offset2', 'path2'), exchange.reported, exchange.readings))
@@ -475,8 +507,60 @@ def below(exchange):
     return f'{rows}  by the messages  offset2 {offset2}  path2 {path2}{same}\n' + ''.join(which(exchange))
 
 
-# Messages that a report takes for others: the events behind the first 13, and what stands below the moments, of which the results by the
-# messages are worked by hand. It isn't told which message tells otherwise, since each told right.
+# An exchange whose Sync and whose Delay_Req take so much longer, in nanoseconds, so that the results of each are others: of one whose a and b are
+# 2000 ns and 0 ns.
+LONGER = [(0, 0), (1000, 500), (Fraction(700), Fraction(1, 4)), (100, 40), (30, 20)]
+
+
+def with_longer(events, sync, request):
+    """The exchange with a Sync that arrives later, and a Delay_Req that leaves earlier."""
+    events = list(events)
+    for place, by in (3, sync), (DELAY_REQ, -Fraction(request)):
+        for key in 'at', 'reading':
+            seconds, nanoseconds, fraction = events[place][key]
+            moment = (10 ** 9 * seconds + nanoseconds) * 65536 + fraction + units(Fraction(by))
+            whole, fraction = divmod(moment, 65536)
+            events[place] = dict(events[place], **{key: [*divmod(whole, 10 ** 9), fraction]})
+    return events
+
+
+def halves(results):
+    """Twice a and twice b of two results."""
+    offset2, path2 = results
+    return path2 + offset2, path2 - offset2
+
+
+def of_halves(a2, b2):
+    return (a2 - b2) // 2, (a2 + b2) // 2
+
+
+def rounded(results):
+    return tuple(round(Fraction(result, 131072)) * 131072 for result in results)
+
+
+# In which way the results of the exchange of this number are wrong, which it is known to be, and what is said of it: of those by the readings, of
+# all exchanges up to it, and of the events by which their Sync and their Delay_Resp were heard.
+WRONG = [
+    (2, lambda all: rounded(all[2]), 'these are the results by the readings, in whole nanoseconds: both errors are less than 1 ns'),
+    (1, lambda all: (all[1][1], all[1][0]), "these are the results by the readings, with offset2 and path2 in each other's place"),
+    (1, lambda all: (-all[1][0], all[1][1]), 'these are the results by the readings, with the sign of offset2 turned'),
+    (1, lambda all: (all[1][0], -all[1][1]), 'these are the results by the readings, with the sign of path2 turned'),
+    (1, lambda all: (-all[1][0], -all[1][1]), 'these are the results by the readings, with both signs turned'),
+    (3, lambda all: all[2], 'these are the results of the report before, event {report[2]}, line {report_line[2]}, by the readings'),
+    (3, lambda all: of_halves(halves(all[3])[0], halves(all[2])[1]),
+     'these are the results by the readings of another pair: of the Sync of event {sync[3]}, line {sync_line[3]} and of the Delay_Resp of '
+     'event {report[2]}, line {report_line[2]}'),
+    (4, lambda all: of_halves(halves(all[1])[0], halves(all[4])[1]),
+     'these are the results by the readings of another pair: of the Sync of event {sync[1]}, line {sync_line[1]} and of the Delay_Resp of '
+     'event {report[4]}, line {report_line[4]}'),
+    (4, lambda all: of_halves(halves(all[0])[0], halves(all[4])[1]), None),    # of a half that is too old
+    (2, lambda all: (all[2][0] + 1, all[2][1]), None),
+    (1, lambda all: (all[1][0] + 131072, all[1][1]), None),                   # whole nanoseconds, and one too much
+    (1, lambda all: (all[1][0] + 1, all[1][1] + 1), None),
+]
+
+# Messages that a report takes for others: the events behind the first 13, what stands below the moments, of which the results by the
+# messages are worked by hand, and what the slave read at the last of the Sync's arrival and the Delay_Req's departure. It isn't told which message tells otherwise, since each told right.
 PAIRED = [
     # Sync 1, and the Follow_Up of Sync 0: a = 3.000002 s - 1 s, b = 0
     ([{'copy': 11, 'ev': 'hear', 'node': 'S', 'out': 'completed'},
@@ -484,13 +568,13 @@ PAIRED = [
        'out': 'made', 'reading': [3, 0, 0]},
       {'at': [3, 1000, 0], 'copy': 14, 'ev': 'arrive', 'node': 'S', 'out': 'held', 'reading': [3, 2000, 0]},
       {'copy': 6, 'ev': 'hear', 'node': 'S', 'offset2': '131072000', 'out': 'report', 'path2': '131072000', 'tags': [15, 16, 8, 13]}],
-     (131072000, 131072000), (2000002000 * 65536, 2000002000 * 65536)),
+     (131072000, 131072000), (2000002000 * 65536, 2000002000 * 65536), [3, 2000, 0]),
     # Delay_Req 1, and the Delay_Resp to Delay_Req 0: a = 2000 ns, b = 2.000001 s - 3.000001 s
     ([{'at': [3, 0, 0], 'ev': 'request', 'hex': '0112002c0000000000000000000000000000000000aabbfffeccddee00010001017f00000000000000000000', 'node': 'S',
        'out': 'made', 'reading': [3, 1000, 0]},
       {'ev': 'stamped', 'node': 'S', 'out': 'done'},
       {'copy': 11, 'ev': 'hear', 'node': 'S', 'offset2': '131072000', 'out': 'report', 'path2': '131072000', 'tags': [5, 7, 13, 15]}],
-     (131072000, 131072000), (1000002000 * 65536, -999998000 * 65536)),
+     (131072000, 131072000), (1000002000 * 65536, -999998000 * 65536), [3, 1000, 0]),
 ]
 
 
@@ -498,12 +582,79 @@ def exchanges(events, cases):
     return [Exchange(events, by, case) for by, case in enumerate(cases)]
 
 
+def count_of(number, noun):
+    return f'{number} {noun}{"" if number == 1 else "s"}'
+
+
+# The fields that are read, in the order in which they are counted.
+READ_FIELDS = ['messageType', 'domainNumber', 'twoStepFlag', 'correctionField', 'sourcePortIdentity', 'sequenceId', 'originTimestamp',
+               'preciseOriginTimestamp', 'receiveTimestamp', 'requestingPortIdentity']
+
+
+def wrong_fields(found, wanted):
+    """The fields that are read and say something else, and of times and corrections by how many nanoseconds."""
+    said, owed = read_fields(found), read_fields(wanted)
+    if 'originTimestamp' in said:
+        owed.setdefault('originTimestamp', (seconds(stamp(wanted)), stamp(wanted)))
+    return {name: None if said[name][1] is None else abs(said[name][1] - owed[name][1])
+            for name in said if name in owed and said[name][0] != owed[name][0]}
+
+
+def fields_that_differ(messages):
+    """In how many messages which field that is read differs, and by how much at the most; none where none does."""
+    lost = [found for found, _ in messages if unreadable(found)]
+    wrong = [wrong_fields(found, wanted) for found, wanted in messages if not unreadable(found)]
+    count = len(lost) + len(list(filter(None, wrong)))
+    if not count:
+        return ''
+    lines = [f"octets can't be left aside (708): a field that a slave or a master reads differs in {count_of(count, 'message')}\n"]
+    if lost:
+        lines.append(f"  {count_of(len(lost), 'message')} that nobody can read\n")
+    for name in READ_FIELDS:
+        amounts = [fields[name] for fields in wrong if name in fields]
+        if amounts:
+            most = '' if amounts[0] is None else f', by {decimals(Fraction(max(amounts)))} ns at the most'
+            lines.append(f'  {name} in {len(amounts)}{most}\n')
+    return ''.join(lines)
+
+
+def other_octets(messages):
+    """How many messages have other octets, and where those differ that differ in no field that is read."""
+    others = [(found, wanted) for found, wanted in messages if found != wanted]
+    lines = [f'other octets than a port or a clock writes: {len(others)} of {len(messages)} messages\n']
+    begins = collections.Counter()
+    for found, wanted in others:
+        if unreadable(found) or wrong_fields(found, wanted):
+            continue
+        first = [place for place, pair in enumerate(zip(found, wanted)) if pair[0] != pair[1]][0]
+        begins[max(place for place, _ in UNREAD if place <= first)] += 1
+    return ''.join([*lines, *(f'  from {name} on: {begins[place]}\n' for place, name in UNREAD if begins[place])])
+
+
+def end(bent):
+    """What is owed behind the last report."""
+    reports = count_of(len(bent), 'report')
+    wrong = sum(exchange.reported != exchange.readings for exchange in bent)
+    told = sum(exchange.reported == exchange.messages for exchange in bent)
+    against = (f'  706 stands against {wrong}: {REASON[706]}\n' if wrong else '') + f'  708 stands against {len(bent)}: {REASON[708]}\n'
+    messages = [(exchange.octets(place), exchange.octets(place, right=True))
+                for exchange in bent for place in sorted(TOLD) if 'hex' in exchange.events[place]]
+    first = bent[0]
+    # The Sync of each exchange but the first completes a half where that of the Delay_Req before it is there, and has no report.
+    passed = len(bent) - 1
+    unreported = f'{count_of(passed, "completion")} had no report, though both halves of one were there; the verdict says nothing of these\n'
+    verdict = 708 if first.reported == first.readings else 706
+    return (f'{reports}: 0 sound\n{against}right by the messages (the device): {told} of {reports}\n'
+            f'right by the readings (device and network): {len(bent) - wrong} of {reports}\n'
+            + fields_that_differ(messages) + other_octets(messages) + (unreported if passed else '') + f"verdict: refused event {first.events[-1]['n']}: {verdict}\n")
+
+
 def transcript(events):
     return ''.join(json.dumps(event, sort_keys=True, separators=(',', ':')) + '\n' for event in events)
 
 
-def explain(text):
-    return subprocess.run([PROGRAM, 'explain'], input=text.encode(), capture_output=True, timeout=600)
+def explain(text, *options):
+    return subprocess.run([PROGRAM, 'explain', *options], input=text.encode(), capture_output=True, timeout=600)
 
 
 def behind_moments(text):
@@ -516,8 +667,12 @@ class Bent(unittest.TestCase):
     maxDiff = None
 
     def compare(self, begin, bent):
-        """The whole text of each report but for its moments."""
-        ended = explain(transcript([*begin, *(event for exchange in bent for event in exchange.events)]))
+        """The whole text of each report but for its moments, and its JSON."""
+        lines = transcript([*begin, *(event for exchange in bent for event in exchange.events)])
+        ended = explain(lines, '--json')
+        self.assertEqual(ended.returncode, 1)
+        self.assertEqual(ended.stdout.decode().splitlines(True), [judged(exchange) for exchange in bent])
+        ended = explain(lines)
         self.assertEqual(ended.returncode, 1)
         told = re.split(r'(?m)^(?=event )', ended.stdout.decode())[1:]
         self.assertEqual(len(told), len(bent))
@@ -525,6 +680,8 @@ class Bent(unittest.TestCase):
             with self.subTest(case=exchange.case):
                 self.assertEqual(text[:text.index('  t1  ')], above(exchange))
                 self.assertEqual(behind_moments(text), below(exchange))
+        last = told[-1]
+        self.assertEqual(last[re.search('(?m)^[0-9]+ reports?: ', last).start():], end(bent))
 
     def test_names_each_field_and_by_how_much(self):
         self.assertGreaterEqual(len(WAYS), 30)
@@ -540,6 +697,38 @@ class Bent(unittest.TestCase):
         begin, events = renamed([[*NODES, *BEGIN], with_one_step(EXCHANGE)], 'M', 'GM-1')
         self.compare(begin, exchanges(events, ONE_STEP))
 
+    def test_names_the_way_in_which_results_are_wrong(self):
+        right = [Exchange(with_longer(EXCHANGE, *longer), by, case()) for by, longer in enumerate(LONGER)]
+        owed = [exchange.readings for exchange in right]
+        self.assertEqual(len(set(owed)), len(owed))
+        places = {'report': [exchange.events[-1]['n'] for exchange in right], 'sync': [exchange.events[3]['n'] for exchange in right]}
+        lines = {f'{name}_line': [event + len(NODES) + 1 for event in events] for name, events in places.items()}
+        for number, wrong, said in WRONG:
+            with self.subTest(number=number, said=said):
+                events = [event for exchange in right[:number + 1] for event in exchange.events]
+                offset2, path2 = wrong(owed)
+                events[-1] = dict(events[-1], offset2=str(offset2), path2=str(path2))
+                text = explain(transcript([*NODES, *BEGIN, *events])).stdout.decode()
+                place = f"event {places['report'][number]}, line {lines['report_line'][number]}"
+                sentence = '' if said is None else f'    {said.format(**places, **lines)}\n'
+                self.assertIn(f'{place}, slave S: refused, 706: {REASON[706]}\n{sentence}  t1  ', text)
+
+    def test_names_the_results_that_were_reported_before(self):
+        first, second = (Exchange(with_longer(EXCHANGE, *longer), by, case()) for by, longer in enumerate(LONGER[:2]))
+        events = [*first.events, *second.events]
+        for event in first.events[-1], second.events[-1]:
+            events[events.index(event)] = dict(event, offset2='7', path2='9')
+        text = explain(transcript([*NODES, *BEGIN, *events])).stdout.decode()
+        self.assertIn(f': refused, 706: {REASON[706]}\n    these are the results of the report before, {first.place(-1)}, as they were reported there\n',
+                      text)
+
+    def test_names_the_way_in_which_results_are_wrong_by_the_messages(self):
+        # One step late, and the results of that with offset and path in each other's place.
+        late = Exchange(EXCHANGE, 0, case(LATE, EARLY))
+        event = dict(late.events[-1], offset2=str(late.messages[1]), path2=str(late.messages[0]))
+        text = explain(transcript([*NODES, *BEGIN, *late.events[:-1], event])).stdout.decode()
+        self.assertIn(f": refused, 706: {REASON[706]}\n    these are the results by the messages, with offset2 and path2 in each other's place\n", text)
+
     def test_names_the_master_that_answered(self):
         another = dict(NODES[0], id='001122fffe334466', node='N')
         events = [*BEGIN, *EXCHANGE]
@@ -553,9 +742,11 @@ class Bent(unittest.TestCase):
                          "    Delay_Resp 0 (event 11, line 16) tells t4 1 ns earlier than N's clock read\n")
 
     def test_names_no_message_where_messages_are_of_two_exchanges(self):
-        for events, reported, messages in PAIRED:
+        for events, reported, messages, time in PAIRED:
             with self.subTest(events=events):
                 lines = [*WORKED[:len(NODES) + 13], *(dict(event, n=13 + place) for place, event in enumerate(events))]
+                judged = json.loads(explain(transcript(lines), '--json').stdout.splitlines()[-1])
+                self.assertEqual((judged['reasons'], judged['by_messages'], judged['time']), ([702], pair(messages), time))
                 text = explain(transcript(lines)).stdout.decode()
                 self.assertIn(': refused, 702: ', text)
                 rows = ''.join(map(result_row, ('offset2', 'path2'), reported, reported))

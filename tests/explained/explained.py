@@ -65,16 +65,20 @@ event 13, line 17, slave S: refused, 706: the two results aren't those of the re
   path2    reported 131072000  by the readings 131072000
 1 report: 0 sound
   706 stands against 1: the two results aren't those of the readings
+right by the messages (the device): 0 of 1 report
+right by the readings (device and network): 0 of 1 report
 verdict: refused event 13: 706
 """
 
 # The same as JSON, and what is said so of the sound report.
 JUDGED = (
-    '{"by_readings":{"offset2":"131072000","path2":"131072000"},"event":13,"line":17,"node":"S",'
-    '"offset2":"131072001","path2":"131072000","reasons":[706]}\n')
+    '{"by_messages":{"offset2":"131072000","path2":"131072000"},"by_readings":{"offset2":"131072000","path2":"131072000"},'
+    '"error":{"by_messages":{"offset":"0.00000762939453125","path":"0"},"by_readings":{"offset":"0.00000762939453125","path":"0"}},'
+    '"event":13,"line":17,"node":"S","offset2":"131072001","path2":"131072000","reasons":[706],"tags":[5,7,8,13],"time":[2,1000,0]}\n')
 JUDGED_SOUND = (
-    '{"by_readings":{"offset2":"131072000","path2":"131072000"},"event":13,"line":17,"node":"S",'
-    '"offset2":"131072000","path2":"131072000","reasons":[]}\n')
+    '{"by_messages":{"offset2":"131072000","path2":"131072000"},"by_readings":{"offset2":"131072000","path2":"131072000"},'
+    '"error":null,"event":13,"line":17,"node":"S","offset2":"131072000","path2":"131072000","reasons":[],"tags":[5,7,8,13],'
+    '"time":[2,1000,0]}\n')
 SOUND = 'event 13, line 17, slave S: sound\n1 report: 1 sound\nverdict: accepted 1\n'
 
 # The line of the first event, at a node that no name can have.
@@ -389,6 +393,36 @@ OF_ANOTHER_EVENT = [
     '{"copy":16,"ev":"hear","n":17,"node":"S","offset2":"131072000","out":"report","path2":"131072000","tags":[5,7,8,13]}\n',
 ]
 
+# The report as a completion that has none, and the Delay_Resp once more.
+PASSED_OVER = '"offset2":"131072000","out":"report","path2":"131072000","tags":[5,7,8,13]', '"out":"completed"'
+ONCE_MORE = '{"copy":11,"ev":"hear","n":14,"node":"S","out":"completed"}\n'
+
+# One event more, and then the Delay_Resp once more.
+TICK, TICK_AGAIN = ('{"ev":"tick","n":%d,"node":"S","out":"done"}\n' % number for number in (14, 15))
+AFTER_TWO_TICKS = ONCE_MORE.replace('"n":14', '"n":16')
+
+# The ends of transcripts in which completions have no report. A half outlives one tick.
+NONE_JUDGED = 'there is no report, so nothing was judged\n'
+UNREPORTED = [
+    (TRANSCRIPT, [PASSED_OVER],
+     NONE_JUDGED + '1 completion had no report, though both halves of one were there; the verdict says nothing of these\n'
+     'verdict: accepted 0\n'),
+    ([*TRANSCRIPT, ONCE_MORE], [PASSED_OVER],
+     NONE_JUDGED + '2 completions had no report, though both halves of one were there; the verdict says nothing of these\n'
+     'verdict: accepted 0\n'),
+    ([*TRANSCRIPT, ONCE_MORE], [],
+     '1 report: 1 sound\n'
+     '1 completion had no report, though both halves of one were there; the verdict says nothing of these\n'
+     'verdict: accepted 1\n'),
+    ([*TRANSCRIPT, TICK, ONCE_MORE.replace('"n":14', '"n":15')], [],
+     '1 report: 1 sound\n'
+     '1 completion had no report, though both halves of one were there; the verdict says nothing of these\n'
+     'verdict: accepted 1\n'),
+    ([*TRANSCRIPT, TICK, TICK_AGAIN, AFTER_TWO_TICKS], [], '1 report: 1 sound\nverdict: accepted 1\n'),
+    ([*TRANSCRIPT, '{"ev":"setmaster","master":"M","n":14,"node":"S","out":"done"}\n', ONCE_MORE.replace('"n":14', '"n":15')], [],
+     '1 report: 1 sound\nverdict: accepted 1\n'),
+]
+
 # The place of a line, what is replaced in it by what, and what is said of this message then, and of how many differ in which field:
 # fields that a slave or a master reads.
 READ = [
@@ -488,7 +522,7 @@ class Explained(unittest.TestCase):
     def test_tells_the_first_that_is_refused(self):
         text = changed(TRANSCRIPT, (TRANSCRIPT[16], TOO_MUCH + TOLD_TWICE))
         both = '1 report: 0 sound\n  706 stands against 1', '2 reports: 0 sound\n  706 stands against 2'
-        self.assertEqual(explain(text, '--first').output, changed(STORY, both))
+        self.assertEqual(explain(text, '--first').output, changed(STORY, both, ('0 of 1 report', '0 of 2 reports')))
         self.assertIn('\nevent 14, line 18, slave S: refused, 706: ', explain(text).output)
 
     def test_counts_each_reason(self):
@@ -497,7 +531,11 @@ class Explained(unittest.TestCase):
 2 reports: 0 sound
   706 stands against 1: the two results aren't those of the readings
   708 stands against 2: """, output)
-        self.assertIn('\nwere octets left aside (708), 1 of 2 reports would be sound\n', output)
+        self.assertIn("""
+right by the messages (the device): 1 of 2 reports
+right by the readings (device and network): 1 of 2 reports
+were octets left aside (708), 1 of 2 reports would be sound
+""", output)
 
     def test_tells_of_a_sound_report(self):
         for options, said in [('', SOUND), ('--json', JUDGED_SOUND), ('--json --first', '')]:
@@ -523,6 +561,13 @@ no report was judged from line 4 on
             with self.subTest(said=said):
                 ended = explain(''.join(lines))
                 self.assertEqual(ended.output, said)
+                self.assertEqual(ended.status, 0)
+
+    def test_counts_completions_that_have_no_report(self):
+        for lines, changes, said in UNREPORTED:
+            with self.subTest(changes=changes):
+                ended = explain(changed(lines, *changes))
+                self.ends(ended.output, said)
                 self.assertEqual(ended.status, 0)
 
     def test_tells_of_input_of_other_kinds(self):

@@ -2,6 +2,7 @@
 
 It has all messages in memory, finds out first which are followed, and then goes through these."""
 import decimal
+import fractions
 import json
 import pathlib
 import re
@@ -40,6 +41,7 @@ class Wanted(typing.NamedTuple):
     slave: bytes | None = None
 
     def arguments(self):
+        """The words that ask for it."""
         named = [('from', self.start and self.start.decode()), ('to', self.end and self.end.decode()), ('domain', self.domain),
                  ('master', port_text(self.master)), ('slave', port_text(self.slave))]
         return [word for name, value in named if value is not None for word in (f'--{name}', str(value))]
@@ -85,6 +87,35 @@ class Message(typing.NamedTuple):
         return self.octets[44:54]
 
 
+def spread(units):
+    """The greatest, the least and the mean of numbers of units, this rounded to a unit, half to even: `round` of a fraction does."""
+    if not units:
+        return {'greatest': None, 'least': None, 'mean': None}
+    mean = round(fractions.Fraction(sum(units), len(units)))
+    return {'greatest': nanoseconds(max(units)), 'least': nanoseconds(min(units)), 'mean': nanoseconds(mean)}
+
+
+def sums(crossings):
+    """The three lines of the sums over crossings."""
+    lines, means = [], []
+    for kind in ('sync', 'delay_req'):
+        those = [it for it in crossings if it['kind'] == kind]
+        told = {name: spread([it[name] for it in those]) for name in ('taken', 'corrected', 'rest')}
+        steps = [abs(later['rest'] - it['rest']) for it, later in zip(those, those[1:])]
+        told['rest'] = told['rest'] | {'step': nanoseconds(max(steps)) if steps else None}
+        lines.append(told | {'count': len(those), 'kind': kind})
+        means.append(fractions.Fraction(sum(it['rest'] for it in those), len(those)) if those else None)
+    both = {'asymmetry': None, 'mean_rest': None}
+    if None not in means:
+        both = {'asymmetry': nanoseconds(round(means[0] - means[1])), 'mean_rest': nanoseconds(round((means[0] + means[1]) / 2))}
+    return ''.join(json.dumps(it, sort_keys=True, separators=(',', ':')) + '\n' for it in [*lines, both])
+
+
+def is_beyond(crossings, limit):
+    """Whether a rest is greater than so many nanoseconds, either way."""
+    return limit is not None and any(abs(it['rest']) > fractions.Fraction(limit) * UNITS for it in crossings)
+
+
 class Followed(typing.NamedTuple):
     """What is owed: the status, the lines, what standard error says at its end, line by line, the fault (its number and its line, or its octet) and
     the tap that is a third one."""
@@ -94,7 +125,9 @@ class Followed(typing.NamedTuple):
     fault: tuple | None = None
     third: bytes | None = None
 
-    def text(self, csv=False):
+    def text(self, csv=False, is_sum=False):
+        if is_sum:
+            return b'' if self.third else sums(self.crossings).encode()
         form = row if csv else json_line
         return ((HEAD if csv else '') + ''.join(map(form, self.crossings))).encode()
 
@@ -297,6 +330,32 @@ def counted(count, word, rest_of_one, rest_of_more):
     return [f'1 {word} was {rest_of_one}' if count == 1 else f'{count} {word}s were {rest_of_more}'] if count else []
 
 
+def rounded(nanoseconds):
+    """Nanoseconds to a thousandth, half away from 0."""
+    parts = int(abs(nanoseconds) * 1000 + fractions.Fraction(1, 2))
+    return f'{"-" if nanoseconds < 0 and parts else ""}{parts // 1000}.{parts % 1000:03}'
+
+
+def figures(crossings, start, end):
+    """What standard error tells of crossings, line by line. Means and the asymmetry are those of the sums, to 2^-16 ns."""
+    lines, exact = [], []
+    for kind, word, first, second in (('sync', 'Sync', start, end), ('delay_req', 'Delay_Req', end, start)):
+        those = [it for it in crossings if it['kind'] == kind]
+        number = f'no {word}' if not those else f'1 {word}' if len(those) == 1 else f'{len(those)} {word}s'
+        lines.append(f'{number} crossed from {first} to {second}' + ('; in ns, rounded:' if those else ''))
+        for name in ('taken', 'corrected', 'rest') if those else ():
+            units = [fractions.Fraction(it[name]) for it in those]
+            mean = fractions.Fraction(round(sum(units) / len(units)))
+            lines.append(f'  {name}: least {rounded(min(units) / UNITS)}, mean {rounded(mean / UNITS)}, greatest {rounded(max(units) / UNITS)}')
+        if those:
+            exact.append(fractions.Fraction(sum(it['rest'] for it in those), len(those)))
+    if len(exact) == 2:
+        asymmetry = fractions.Fraction(round(exact[0] - exact[1]), UNITS)
+        lines.append(f'asymmetry {rounded(asymmetry)} ns: where both taps read one clock, offsets of a slave behind them are by half of it, '
+                     f'{rounded(asymmetry / 2)} ns, too great, and one that is steered by them is late by as much; where the clock of {end} is ahead by d, 2d is in it')
+    return lines
+
+
 def said(watch, follower):
     """What standard error says at its end, without the name of the program in front."""
     names = [it.decode() for it in watch.taps if it is not None]
@@ -307,6 +366,7 @@ def said(watch, follower):
     start, end = follower.start.decode(), follower.end.decode()
     slave = f'slave {port_text(follower.slave)}' if follower.slave else f'no Delay_Req at {end} tells the slave'
     lines = [f'from {start} to {end}', f'domain {watch.domain}', f'master {port_text(watch.master)}', slave]
+    lines += figures(follower.crossings, start, end)
     for kind, word, other, first, second in (('sync', 'Sync', 'Follow_Up', start, end), ('delay_req', 'Delay_Req', 'Delay_Resp', end, start)):
         records = follower.records[kind]
         for count, here, there in ((records.lost('first', 'second'), first, second), (records.lost('second', 'first'), second, first)):

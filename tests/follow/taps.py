@@ -99,9 +99,32 @@ TWO_STEP = told(('left', 10**9 + 500, made(SYNC, MASTER, 0, two_step=True)), ('l
 REQUEST = told(('right', 2 * 10**9, made(DELAY_REQ, SLAVE, 7, two_step=False)), ('left', 2 * 10**9 + 1000, made(DELAY_REQ, SLAVE, 7)),
                ('left', 2 * 10**9 + 1500, made(DELAY_RESP, MASTER, 7, requesting=SLAVE)), ('right', 2 * 10**9 + 1800, made(DELAY_RESP, MASTER, 7, 900 * UNITS, requesting=SLAVE)))
 
-def of_master(*rest):
-    """What standard error says at its end where messages are followed: these lines behind those of the taps and the master."""
-    return ['from left to right', 'domain 0', 'master 0200000000000001/1', *rest]
+def crossings_said(word, first, second, count=0, taken='', corrected='', rest=''):
+    """What standard error says of so many crossings of a kind that are alike."""
+    if not count:
+        return [f'no {word} crossed from {first} to {second}']
+    values = [f'  {name}: least {value}, mean {value}, greatest {value}' for name, value in (('taken', taken), ('corrected', corrected), ('rest', rest))]
+    return [f'{count} {word}{"s" * (count > 1)} crossed from {first} to {second}; in ns, rounded:', *values]
+
+
+def of_master(slave, *rest, syncs=(), requests=(), asymmetry=None):
+    """What standard error says at its end where messages are followed: what the crossings of each kind come to, if there are any, the asymmetry and its half, and
+    these lines behind those."""
+    lines = ['from left to right', 'domain 0', 'master 0200000000000001/1', slave]
+    lines += crossings_said('Sync', 'left', 'right', *syncs) + crossings_said('Delay_Req', 'right', 'left', *requests)
+    if asymmetry:
+        lines.append(f'asymmetry {asymmetry[0]} ns: where both taps read one clock, offsets of a slave behind them are by half of it, {asymmetry[1]} ns, too great, and one '
+                     'that is steered by them is late by as much; where the clock of right is ahead by d, 2d is in it')
+    return [*lines, *rest]
+
+
+ONE = {'syncs': (1, '3000.000', '1999.000', '1001.000')}
+BOTH = ONE | {'requests': (1, '1000.000', '900.000', '100.000'), 'asymmetry': ('901.000', '450.500')}
+
+
+def alike(count):
+    """So many Syncs of 50 ns."""
+    return {'syncs': (count, '50.000', '0.000', '50.000')}
 
 
 NO_SLAVE = 'no Delay_Req at right tells the slave'
@@ -139,15 +162,15 @@ WORKED = {
     'nothing': (b'', [], ['nothing was met at a tap']),
     'one tap': (b'left 1.0 \n', [], ['nothing was met at another tap than left']),
     'two taps without a Sync': (b'left 1.0 \nright 1.0 \n', [], NOT_FOLLOWED),
-    'a one-step Sync': (ONE_STEP, ['sync 0 3000 1999 1001 [1, 2, None, None]'], of_master(NO_SLAVE)),
+    'a one-step Sync': (ONE_STEP, ['sync 0 3000 1999 1001 [1, 2, None, None]'], of_master(NO_SLAVE, **ONE)),
     'a one-step Sync in front of a bad line': (ONE_STEP + BAD, [], NOT_FOLLOWED),
-    'a two-step Sync': (TWO_STEP, ['sync 0 3000 8.25 2991.75 [1, 3, 2, 4]'], of_master(NO_SLAVE)),
-    'a Sync and a Delay_Req': (ONE_STEP + REQUEST, ['sync 0 3000 1999 1001 [1, 2, None, None]', 'delay_req 7 1000 900 100 [3, 4, 5, 6]'], of_master(OF_SLAVE)),
+    'a two-step Sync': (TWO_STEP, ['sync 0 3000 8.25 2991.75 [1, 3, 2, 4]'], of_master(NO_SLAVE, syncs=(1, '3000.000', '8.250', '2991.750'))),
+    'a Sync and a Delay_Req': (ONE_STEP + REQUEST, ['sync 0 3000 1999 1001 [1, 2, None, None]', 'delay_req 7 1000 900 100 [3, 4, 5, 6]'], of_master(OF_SLAVE, **BOTH)),
     'a Sync and a Delay_Req in front of a bad line': (
-        ONE_STEP + REQUEST + BAD, ['sync 0 3000 1999 1001 [1, 2, None, None]', 'delay_req 7 1000 900 100 [3, 4, 5, 6]'], of_master(OF_SLAVE)),
+        ONE_STEP + REQUEST + BAD, ['sync 0 3000 1999 1001 [1, 2, None, None]', 'delay_req 7 1000 900 100 [3, 4, 5, 6]'], of_master(OF_SLAVE, **BOTH)),
     'a Sync that is two-step at the second tap alone': (
         told(('left', 0, made(SYNC, MASTER, 3, stamp=9)), ('right', 50, made(SYNC, MASTER, 3, two_step=True)), ('right', 60, made(FOLLOW_UP, MASTER, 3, 3 * UNITS, stamp=9))),
-        ['sync 3 50 3 47 [1, 2, None, 3]'], of_master(NO_SLAVE)),
+        ['sync 3 50 3 47 [1, 2, None, 3]'], of_master(NO_SLAVE, syncs=(1, '50.000', '3.000', '47.000'))),
     'a Sync that is two-step at the first tap alone': (
         told(('left', 0, made(SYNC, MASTER, 3, two_step=True)), ('left', 10, made(FOLLOW_UP, MASTER, 3)), ('right', 50, made(SYNC, MASTER, 3))), [], of_master(NO_SLAVE)),
     'another timestamp': (told(('left', 0, made(SYNC, MASTER, 3, stamp=1)), ('right', 50, made(SYNC, MASTER, 3, stamp=2))), [], of_master(NO_SLAVE)),
@@ -157,18 +180,18 @@ WORKED = {
         [], of_master(NO_SLAVE)),
     'a number that comes again': (
         told(*[row for time in (0, 100) for row in (('left', time, made(SYNC, MASTER, 3)), ('right', time + 50, made(SYNC, MASTER, 3)))]),
-        ['sync 3 50 0 50 [1, 2, None, None]', 'sync 3 50 0 50 [3, 4, None, None]'], of_master(NO_SLAVE)),
+        ['sync 3 50 0 50 [1, 2, None, None]', 'sync 3 50 0 50 [3, 4, None, None]'], of_master(NO_SLAVE, **alike(2))),
     'a Sync that came again when it had crossed': (
-        syncs(('left', 3), ('right', 3), ('right', 3)), ['sync 3 50 0 50 [1, 2, None, None]'], of_master(NO_SLAVE, '1 Sync was met at right and not at left')),
+        syncs(('left', 3), ('right', 3), ('right', 3)), ['sync 3 50 0 50 [1, 2, None, None]'], of_master(NO_SLAVE, '1 Sync was met at right and not at left', **alike(1))),
     'Syncs that were lost': (
         syncs(('left', 1), ('right', 1), ('left', 2), ('right', 3), ('left', 4)), ['sync 1 50 0 50 [1, 2, None, None]'],
-        of_master(NO_SLAVE, '2 Syncs were met at left and not at right', '1 Sync was met at right and not at left')),
+        of_master(NO_SLAVE, '2 Syncs were met at left and not at right', '1 Sync was met at right and not at left', **alike(1))),
     'Delay_Reqs that were lost, with Delay_Resps or without': (
         ONE_STEP + told(*[('right', 0, made(DELAY_REQ, SLAVE, number)) for number in (1, 2)], ('left', 0, made(DELAY_REQ, SLAVE, 3)),
                         ('left', 0, made(DELAY_RESP, MASTER, 2, requesting=SLAVE)), ('right', 0, made(DELAY_RESP, MASTER, 2, requesting=SLAVE)),
                         ('right', 0, made(DELAY_RESP, MASTER, 3, requesting=SLAVE)), ('right', 0, made(DELAY_RESP, MASTER, 4, requesting=SLAVE))),
         ['sync 0 3000 1999 1001 [1, 2, None, None]'],
-        of_master(OF_SLAVE, '2 Delay_Reqs were met at right and not at left', '1 Delay_Req was met at left and not at right')),
+        of_master(OF_SLAVE, '2 Delay_Reqs were met at right and not at left', '1 Delay_Req was met at left and not at right', **ONE)),
     'a Sync without its last Follow_Up': (
         TWO_STEP.removesuffix(LAST_OF_TWO_STEP), [], of_master(NO_SLAVE, '1 Sync was met at both taps, and a Follow_Up of it is missing')),
     'Syncs and Delay_Reqs without the others': (
@@ -177,18 +200,18 @@ WORKED = {
              ('right', 9, made(DELAY_RESP, MASTER, 2, requesting=SLAVE))), [],
         of_master(OF_SLAVE, '3 Syncs were met at both taps, and a Follow_Up of each is missing', '2 Delay_Reqs were met at both taps, and a Delay_Resp of each is missing')),
     # the last 256 records count
-    '256 Syncs at one tap and then at the other': (one_by_one(256), crossed(256, lambda number: (number + 1, number + 257)), of_master(NO_SLAVE)),
+    '256 Syncs at one tap and then at the other': (one_by_one(256), crossed(256, lambda number: (number + 1, number + 257)), of_master(NO_SLAVE, **alike(256))),
     '300 Syncs at one tap and then at the other': (
         one_by_one(300), [], of_master(NO_SLAVE, '300 Syncs were met at left and not at right', '300 Syncs were met at right and not at left')),
     # 1,024 messages are kept, and then Syncs are followed without a slave
     '511 Syncs in front of a bad line': (in_turn(511) + BAD, [], NOT_FOLLOWED),
-    '520 Syncs': (in_turn(520), IN_TURN, of_master(NO_SLAVE)),
-    '520 Syncs in front of a bad line': (in_turn(520) + BAD, IN_TURN, of_master(NO_SLAVE)),
-    '520 Syncs and then a Delay_Req': (in_turn(520) + REQUEST, IN_TURN + BY_REQUEST, of_master(OF_SLAVE)),
+    '520 Syncs': (in_turn(520), IN_TURN, of_master(NO_SLAVE, **alike(520))),
+    '520 Syncs in front of a bad line': (in_turn(520) + BAD, IN_TURN, of_master(NO_SLAVE, **alike(520))),
+    '520 Syncs and then a Delay_Req': (in_turn(520) + REQUEST, IN_TURN + BY_REQUEST, of_master(OF_SLAVE, requests=(1, '1000.000', '900.000', '100.000'), asymmetry=('-50.000', '-25.000'), **alike(520))),
     # what was kept is gone where the way is told later
     '1,100 Syncs of which the last come at the other tap, too': (
         syncs(*[('left', number) for number in range(1100)], *[('right', number) for number in range(1090, 1100)], ('left', 1100), ('right', 1100)),
-        ['sync 1100 50 0 50 [1111, 1112, None, None]'], of_master(NO_SLAVE, '10 Syncs were met at right and not at left')),
+        ['sync 1100 50 0 50 [1111, 1112, None, None]'], of_master(NO_SLAVE, '10 Syncs were met at right and not at left', **alike(1))),
 }
 
 
@@ -221,8 +244,9 @@ def see(name, octets, wanted=Wanted(), errors=(), csv=False, is_program=True):
     cases += 1
     answer = run(octets, [*wanted.arguments(), *(['--csv'] if csv else [])])
     said = answer.stderr.decode()
+    text = owed.text(csv)
     expect(f'{name}: status {answer.returncode}, {said}', answer.returncode == owed.status)
-    expect(f'{name}: another output, {answer.stdout[:400]!r} and not {owed.text(csv)[:400]!r}', answer.stdout == owed.text(csv))
+    expect(f'{name}: another output, {answer.stdout[:400]!r} and not {text[:400]!r}', answer.stdout == text)
     expect(f'{name}: {said}', owed.fault is None or owed.fault[0] == 'third' or said.startswith(fault_text(owed.fault)))
     expect(f'{name}: {said}', (owed.status == 2) == ('fault 809 ' in said))
     last = ''.join(f'ptpx: {it}\n' for it in owed.said)
@@ -287,6 +311,67 @@ def see_third(is_program):
     expect('a third tap behind a crossing: what was told before is gone', len(owed.crossings) == 2)
     owed = see('a third tap where both are asked for', rows, INNER, is_program=is_program)
     expect('a third tap where both are asked for: other crossings', len(owed.crossings) == 3)
+
+
+# Of some of these inputs the sums, worked by hand: nanoseconds of the greatest, the least and the mean of each kind, and the step; the asymmetry and the
+# mean rest. `UNIT` is 2^-16 ns, `HALF` half of a ns, and a mean between two units is the even one.
+UNIT, HALF = '0.0000152587890625', '0.5'
+
+
+def sums_of(syncs, requests, asymmetry, mean_rest):
+    """The three lines of numbers: of a kind the count, and of what was corrected, the rest with its step, and what was taken the greatest, the least and the mean."""
+    def text(value):
+        return 'null' if value is None else f'"{value}"'
+
+    def members(greatest, least, mean):
+        return f'"greatest":{text(greatest)},"least":{text(least)},"mean":{text(mean)}'
+
+    def line(kind, count, corrected, rest, step, taken):
+        return (f'{{"corrected":{{{members(*corrected)}}},"count":{count},"kind":"{kind}","rest":{{{members(*rest)},"step":{text(step)}}},'
+                f'"taken":{{{members(*taken)}}}}}\n')
+    return (line('sync', *syncs) + line('delay_req', *requests) + f'{{"asymmetry":{text(asymmetry)},"mean_rest":{text(mean_rest)}}}\n').encode()
+
+
+NONE = (None, None, None)
+NO_CROSSINGS = 0, NONE, NONE, None, NONE
+
+
+def rested(*units, first=0):
+    """One-step Syncs from left to right whose rests are these, in units: none takes any time."""
+    return told(*[(tap, 1000 * number, made(SYNC, MASTER, first + number, -rest if tap == 'right' else 0))
+                  for number, rest in enumerate(units) for tap in ('left', 'right')])
+
+
+SUMMED = {
+    'nothing': (b'', sums_of(NO_CROSSINGS, NO_CROSSINGS, None, None)),
+    'a Sync': (ONE_STEP, sums_of((1, ('1999',) * 3, ('1001',) * 3, None, ('3000',) * 3), NO_CROSSINGS, None, None)),
+    'a Sync and a Delay_Req': (
+        ONE_STEP + REQUEST, sums_of((1, ('1999',) * 3, ('1001',) * 3, None, ('3000',) * 3), (1, ('900',) * 3, ('100',) * 3, None, ('1000',) * 3), '901', '550.5')),
+    'in front of a bad line': (
+        ONE_STEP + REQUEST + BAD, sums_of((1, ('1999',) * 3, ('1001',) * 3, None, ('3000',) * 3), (1, ('900',) * 3, ('100',) * 3, None, ('1000',) * 3), '901', '550.5')),
+    'at a third tap': (ONE_STEP + REQUEST + b'middle 3.0 \n', b''),
+    'the steps of the rest': (
+        rested(0, 65536, -65536, -65536), sums_of((4, ('1', '-1', '0.25'), ('1', '-1', '-0.25'), '2', ('0', '0', '0')), NO_CROSSINGS, None, None)),
+    # 1/2 unit is 0, and so is -1/2; 3/2 and 5/2 are 2; 2/3 is 1
+    'half a unit': (rested(0, 1), sums_of((2, ('0', f'-{UNIT}', '0'), (UNIT, '0', '0'), UNIT, ('0', '0', '0')), NO_CROSSINGS, None, None)),
+    'half a unit below 0': (rested(-1, 0), sums_of((2, (UNIT, '0', '0'), ('0', f'-{UNIT}', '0'), UNIT, ('0', '0', '0')), NO_CROSSINGS, None, None)),
+    'a unit and a half': (
+        rested(1, 2), sums_of((2, (f'-{UNIT}', '-0.000030517578125', '-0.000030517578125'), ('0.000030517578125', UNIT, '0.000030517578125'), UNIT, ('0', '0', '0')),
+                              NO_CROSSINGS, None, None)),
+    'two units and a half': (
+        rested(2, 3), sums_of((2, ('-0.000030517578125', '-0.0000457763671875', '-0.000030517578125'), ('0.0000457763671875', '0.000030517578125', '0.000030517578125'), UNIT,
+                               ('0', '0', '0')), NO_CROSSINGS, None, None)),
+    'two thirds of a unit': (
+        rested(0, 1, 1), sums_of((3, ('0', f'-{UNIT}', f'-{UNIT}'), (UNIT, '0', UNIT), UNIT, ('0', '0', '0')), NO_CROSSINGS, None, None)),
+    # means of 1/2 and of 100 ns: asymmetry and mean rest are of these, not of what is rounded
+    'an asymmetry of exact means': (
+        rested(0, 1) + REQUEST, sums_of((2, ('0', f'-{UNIT}', '0'), (UNIT, '0', '0'), UNIT, ('0', '0', '0')), (1, ('900',) * 3, ('100',) * 3, None, ('1000',) * 3), '-100', '50')),
+}
+
+def see_sums():
+    """The sums of the reader, by which it tells means and the asymmetry."""
+    for name, (octets, text) in SUMMED.items():
+        expect(f'sums: {name}', follow(octets).text(is_sum=True) == text)
 
 
 MISTAKES = [['--from', 'left', '--to', 'left'], ['--from', 'left', '--from', 'right'], ['--from', ''], ['--to', 'a b'], ['--from', 'a' * 17], ['--domain', '256'],
@@ -373,6 +458,7 @@ def main():
     see_real(is_program)
     see_bent(is_program)
     see_third(is_program)
+    see_sums()
     see_broken(is_program)
     if is_program:
         see_mistakes()

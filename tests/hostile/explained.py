@@ -1,6 +1,7 @@
 """What `ptpx explain` owes for an input, beside what `check` and `replay` answered to it: their verdict, their fault and their status, and of each report the reasons against it."""
 import json
 import re
+from fractions import Fraction
 
 from shown import lines_of
 
@@ -11,9 +12,11 @@ FURTHER = re.compile(r'  and (70[1-8]): .*')
 COUNT = re.compile(r'([0-9]+) reports?: ([0-9]+) sound')
 AGAINST = re.compile(r'  (70[1-8]) stands against ([0-9]+): .*')
 ASIDE = re.compile(r'were octets left aside \(708\), ([0-9]+) of ([0-9]+) reports? would be sound')
+# How many are right by the messages, and how many by the readings.
+RIGHT = re.compile(r'right by the (?:messages \(the device\)|readings \(device and network\)): ([0-9]+) of ([0-9]+) reports?')
 # In place of that, where a field that is read differs in so many messages.
 READ = re.compile(r"octets can't be left aside \(708\): a field that a slave or a master reads differs in [1-9][0-9]* messages?")
-KEYS = ['by_readings', 'event', 'line', 'node', 'offset2', 'path2', 'reasons']
+KEYS = ['by_messages', 'by_readings', 'error', 'event', 'line', 'node', 'offset2', 'path2', 'reasons', 'tags', 'time']
 ALONE = [701, 704]
 TOGETHER = [702, 703, 705, 707, 706, 708]
 
@@ -40,6 +43,19 @@ def is_later(explained, checked):
     return explained[0] == 3 and b' 803 ' in explained[1] and 0 < line_of_fault(checked[2]) < line_of_fault(explained[1])
 
 
+def wrong_errors(judged):
+    """What is wrong with the errors of a judgement, in words: nanoseconds of twice 2^-16 ns, against each of the two results."""
+    if (judged['error'] is None) == (706 in judged['reasons']):
+        return [f'error {judged["error"]} with reasons {judged["reasons"]}']
+    if judged['error'] is None:
+        return []
+    owed = {key: None if judged[key] is None else
+            {name: (int(judged[f'{name}2']) - int(judged[key][f'{name}2'])) / Fraction(131072) for name in ('offset', 'path')}
+            for key in ('by_messages', 'by_readings')}
+    told = {key: errors and {name: Fraction(text) for name, text in errors.items()} for key, errors in judged['error'].items()}
+    return [] if told == owed else [f'error {judged["error"]}']
+
+
 def judgements(output):
     """The judgements that were written, and what is wrong with them, in words."""
     told, wrong = [], []
@@ -53,6 +69,13 @@ def judgements(output):
             wrong.append(f'reasons {reasons}')
         if (judged['by_readings'] is None) != (reasons in [[why] for why in ALONE]):
             wrong.append(f'results by the readings {judged["by_readings"]} with reasons {reasons}')
+        for key in 'by_messages', 'time':
+            # a message that can't be read is told as 708, beside which results by the messages may be missing
+            if judged[key] is None and judged['by_readings'] is not None and (key == 'time' or 708 not in reasons):
+                wrong.append(f'no {key} with reasons {reasons}')
+            if judged[key] is not None and judged['by_readings'] is None:
+                wrong.append(f'{key} {judged[key]} with reasons {reasons}')
+        wrong += wrong_errors(judged)
         same = judged['by_readings'] == {key: judged[key] for key in ('offset2', 'path2')}
         if judged['by_readings'] and same == (706 in reasons):
             wrong.append(f'results by the readings {judged["by_readings"]} with reasons {reasons}')
@@ -79,21 +102,24 @@ def stories(text):
 
 
 def counts(text):
-    """How many reports a text says there are, how many sound, how many each reason stands against, and how many were sound without 708, or that a field that is read differs."""
+    """How many reports a text says there are, how many sound, how many each reason stands against, how many were sound without 708, or that a field that is read differs, and how many are right."""
     against = {int(found[1]): int(found[2]) for found in map(AGAINST.fullmatch, text.splitlines()) if found}
     first = [tuple(map(int, found.groups())) for found in map(COUNT.fullmatch, text.splitlines()) if found]
     aside = [tuple(map(int, found.groups())) for found in map(ASIDE.fullmatch, text.splitlines()) if found]
     read = [line for line in text.splitlines() if READ.fullmatch(line)]
-    return first, against, aside + [None] * len(read)
+    right = [tuple(map(int, found.groups())) for found in map(RIGHT.fullmatch, text.splitlines()) if found]
+    return first, against, aside + [None] * len(read), right
 
 
-def counts_owed(found, is_read):
-    """The same of these judgements, of which there is one at least, and of messages in which a field that is read differs or not."""
+def counts_owed(found, is_read, by_messages):
+    """The same of these judgements, of which there is one at least, of messages in which a field that is read differs or not, and of so many reports by the messages."""
     reasons = [judged['reasons'] for judged in found]
     sound = reasons.count([])
     against = {why: count for why in [*ALONE, *TOGETHER] if (count := sum(why in each for each in reasons))}
     aside = [None if is_read else (sound + reasons.count([708]), len(found))] if 708 in against else []
-    return [(len(found), sound)], against, aside
+    by_readings = sum(judged['by_readings'] == {key: judged[key] for key in ('offset2', 'path2')} for judged in found)
+    right = [(by_messages, len(found)), (by_readings, len(found))] if sound < len(found) else []
+    return [(len(found), sound)], against, aside, right
 
 
 def mistold(found, text, is_first):
@@ -117,7 +143,7 @@ def misexplained(text, checked, replayed, start):
             yield f'{name} ends in {answer}, check in {checked[0]} {checked[2]!r}, replay in {replayed[0]} {replayed[2]!r}'
     found, wrong = judgements(as_json[1])
     yield from wrong
-    refused = [line for line in lines_of(as_json[1]) if not line.endswith(b'"reasons":[]}')]
+    refused = [line for line in lines_of(as_json[1]) if b',"reasons":[],"tags":' not in line]
     if lines_of(first[1]) != refused[:1]:
         yield f'with --first {first[1]!r} is told'
     yield from mistold(found, told.decode(), False)
@@ -126,7 +152,10 @@ def misexplained(text, checked, replayed, start):
     if checked[2] or status not in (0, 1):
         return
     counted = counts(told.decode())
-    owed = counts_owed(found, None in counted[2])
+    by_messages = counted[3][0][0] if counted[3] else 0
+    owed = counts_owed(found, None in counted[2], by_messages)
+    if not sum(not judged['reasons'] for judged in found) <= by_messages <= len(found) and counted[3]:
+        yield f'{by_messages} of {len(found)} reports are right by the messages'
     if found and counted != owed:
         yield f'{counted} is counted, and {owed} is judged'
     if not told.endswith(b'verdict: ' + checked[1]):

@@ -137,10 +137,14 @@ def mismeasured(text, status, output, errors):
     wanted = owed(text)
     if (status, output) != ((3 if wanted.fault else 0, wanted.output) if wanted else (2, b'')):
         yield f'status {status} and {len(lines_of(output))} lines, another answer than that of the reader, with {recordings.arguments(text)}'
-    fault = FAULT.match(errors)
+    if wanted and not errors.startswith(wanted.at_once):
+        yield f'standard error has {errors!r}, and what is told at once is {wanted.at_once!r}'
+    behind = errors[len(wanted.at_once) if wanted else 0:]
+    fault = FAULT.match(behind)
     if (fault and (int(fault[1]), int(fault[2]))) != (wanted and wanted.fault):
         yield f'standard error has {errors[:200]!r}'
-    if wanted and errors[fault.end() if fault else 0:] != wanted.summary:
+    empty = b'' if text else b'ptpx: the input is empty\n'
+    if wanted and behind[fault.end() if fault else 0:] != empty + wanted.summary:
         yield f'standard error has {errors!r}, and what is told at the end is {wanted.summary!r}'
     if not errors.endswith(b'\n') or len(errors) > ERRORS:
         yield f'standard error has {len(errors)} octets'

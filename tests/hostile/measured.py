@@ -49,10 +49,11 @@ class Options(typing.NamedTuple):
 
 
 class Measured(typing.NamedTuple):
-    """What is owed: the output, the fault with its line, the counts, and what is told at the end."""
+    """What is owed: the output, the fault with its line, the counts, and what is told as soon as it is known, before the fault, and at the end."""
     output: bytes
     fault: tuple
     counts: collections.Counter
+    at_once: bytes
     summary: bytes
 
 
@@ -293,20 +294,22 @@ class Measurer:
         self.life, self.responses = Life(), collections.deque(maxlen=KNOWN)
         self.syncs = 0
         self.counts, self.reports = collections.Counter(), []
+        # What became of each message, in order.
+        self.became = []
 
     def hear(self, read):
         """What is written for a line."""
         said = read.said
         if isinstance(said, str):
             self.counts[said] += 1
-        elif said.kind == 'Delay_Req':
-            self.counts['Delay_Req ' + self.request(read)] += 1
-        else:
-            answer = self.answer(read)
-            if isinstance(answer, tuple):
-                self.counts['reports'] += 1
-                return self.report(read, *answer)
-            self.counts[f'{said.kind} {answer}'] += 1
+            return ''
+        answer = self.request(read) if said.kind == 'Delay_Req' else self.answer(read)
+        is_report = isinstance(answer, tuple)
+        self.became.append(worth.Became(read.place, read.units, said.kind, said.domain, said.source, said.sequence, 'report' if is_report else str(answer)))
+        if is_report:
+            self.counts['reports'] += 1
+            return self.report(read, *answer)
+        self.counts[f'{said.kind} {answer}'] += 1
         return ''
 
     def answer(self, read):
@@ -371,7 +374,8 @@ class Measurer:
 
     def report(self, read, offset2, path2, tags):
         by = 'response' if read.said.kind == 'Delay_Resp' else 'sync'
-        self.reports.append(worth.Report(read.place, read.units, by, offset2, path2))
+        correction = self.port.answered.correction if by == 'response' else self.port.synced.correction
+        self.reports.append(worth.Report(read.place, read.units, by, offset2, path2, correction))
         if self.csv:
             return f'{read.time},{decimal(offset2)},{decimal(path2)},{by},{read.place}{self.columns() if self.full else ""}\n'
         tags = ','.join('null' if tag is None else str(tag) for tag in tags)
@@ -433,8 +437,8 @@ def datagrams(counts):
         yield f'{count} {list(KINDS.values())[place][count != 1]}{words}'
 
 
-def summary(watch, counts, reads, written, unit='line'):
-    """What is told at the end: of reads the times, in order, and what was said; of reports what they are of."""
+def whom(watch, unit='line'):
+    """Whom the input is of, as far as that is known: told once all of it is, or else at the end."""
     domain, slave, master = watch.told()
     tellers = ['Sync of the master' if watch.given.master else 'Sync',
                'Sync' if watch.given.domain is None else 'Sync of the domain', 'Delay_Req of the domain']
@@ -444,7 +448,11 @@ def summary(watch, counts, reads, written, unit='line'):
         else:
             printed = value if name == 'domain' else f'{value[:8].hex()}/{int.from_bytes(value[8:], "big")}'
             yield f'{name} {printed}, ' + (f'told by {unit} {line}' if line else 'as asked for')
-    for sentence in worth.beware(unit, counts, reads, written):
+
+
+def summary(counts, reads, written, became, unit='line'):
+    """What is told at the end: of reads the times, in order, and what was said; of reports what they are of; of messages what became of them."""
+    for sentence in worth.beware(unit, counts, reads, written, became):
         yield f'beware: {sentence}'
     reports, master_anew = counts.pop('reports', 0), counts.pop('master anew', 0)
     yield f'{reports or "no"} report{"s" if reports > 1 else ""}'
@@ -458,9 +466,11 @@ def summary(watch, counts, reads, written, unit='line'):
 
 
 class Reckoned(typing.NamedTuple):
-    """What is owed for lines that were read: the reports in order as they are written, what became of each line, and what is told at the end."""
+    """What is owed for lines that were read: the reports in order as they are written, what became of each line, what is told as soon as it is known,
+    and at the end."""
     written: list
     counts: collections.Counter
+    at_once: list
     told: list
 
 
@@ -483,8 +493,9 @@ def reckoned(lines, given=Options(), unit='line'):
         kept = []
     counts = measurer.counts if measurer else collections.Counter()
     counts.update(one.said if isinstance(one.said, str) else f'{one.said.kind} too early' for one in early + kept)
-    reports = measurer.reports if measurer else []
-    return Reckoned(written, counts, list(summary(watch, counts.copy(), reads, reports, unit)))
+    reports, became = (measurer.reports, measurer.became) if measurer else ([], [])
+    those, told = list(whom(watch, unit)), list(summary(counts.copy(), reads, reports, became, unit))
+    return Reckoned(written, counts, those, told) if measurer else Reckoned(written, counts, [], those + told)
 
 
 def measured(text, given=Options()):
@@ -498,5 +509,5 @@ def measured(text, given=Options()):
         lines.append(told)
     head = [f'{HEAD}{FULL if given.full else ""}\n'] if given.csv else []
     owed = reckoned(lines, given)
-    told = ''.join(f'ptpx: {sentence}\n' for sentence in owed.told)
-    return Measured(''.join(itertools.chain(head, owed.written)).encode(), fault, owed.counts, told.encode())
+    at_once, told = (''.join(f'ptpx: {sentence}\n' for sentence in those).encode() for those in (owed.at_once, owed.told))
+    return Measured(''.join(itertools.chain(head, owed.written)).encode(), fault, owed.counts, at_once, told)

@@ -1,5 +1,6 @@
 """What is told of the numbers of a measurement, computed apart from the program, with fractions: what speaks against them, and their
 statistics."""
+import collections
 import math
 import typing
 from fractions import Fraction
@@ -14,6 +15,19 @@ class Report(typing.NamedTuple):
     by: str
     offset2: int
     path2: int
+    # Of the Sync and the Follow_Up together, or of the Delay_Resp; None where it isn't known.
+    correction: int = None
+
+
+class Became(typing.NamedTuple):
+    """A message of the four that was heard, and what became of it: `report`, or a reason in words or by its number."""
+    place: int
+    units: int
+    kind: str
+    domain: int
+    source: bytes
+    sequence: int
+    answer: str
 
 
 def nanoseconds(value2):
@@ -47,9 +61,18 @@ def series(name, unit, values):
         f' (rounded), least {nanoseconds(least[0])} ns at {unit} {least[1]}, greatest {nanoseconds(greatest[0])} ns at {unit} {greatest[1]}')
 
 
+def spread(name, unit, values):
+    """The least and the greatest of corrections, each with its place."""
+    if values and values[0][0] is not None:
+        ends = min(values, key=lambda it: it[0]), max(values, key=lambda it: it[0])
+        yield f'{name}: ' + ', '.join(f'{end} {nanoseconds(2 * value)} ns at {unit} {place}' for end, (value, place) in zip(('least', 'greatest'), ends))
+
+
 def statistics(unit, reports):
     yield from series('offsets at a Sync', unit, [(it.offset2, it.place) for it in reports if it.by == 'sync'])
     yield from series('path delays at a response', unit, [(it.path2, it.place) for it in reports if it.by == 'response'])
+    yield from spread('corrections at a Sync', unit, [(it.correction, it.place) for it in reports if it.by == 'sync'])
+    yield from spread('corrections at a response', unit, [(it.correction, it.place) for it in reports if it.by == 'response'])
 
 
 def whole(value2):
@@ -68,8 +91,73 @@ def slope(values):
     return run and Fraction(rise, 2 * run), run and 2 * rise * rise >= run * vary
 
 
-def beware(unit, counts, reads, reports):
-    """What speaks against the numbers: of reads the times, in order, and what was refused."""
+# What became of a message that is of another domain, of another master, of another slave or to it, and of one that came before.
+OF_DOMAIN, OF_MASTER, OF_SLAVE, REPEATED = ('503', 'of another domain'), ('505',), ('508', 'of another slave'), ('before', 'repeated')
+
+
+def identity(octets):
+    return f'{octets[:8].hex()}/{int.from_bytes(octets[8:], "big")}'
+
+
+def listed(counts):
+    """The first eight of these with how many each, and how many there are of all others."""
+    those = [f'{count} of {name}' for name, count in list(counts.items())[:8]]
+    rest = sum(list(counts.values())[8:])
+    return ', '.join(those + ([f'{rest} of further ones'] if rest else []))
+
+
+def lags(became):
+    """How much later the repeats came than the first of their number, where that is the last of its kind."""
+    firsts = {}
+    for it in became:
+        if it.answer in REPEATED:
+            number, units = firsts.get(it.kind, (None, None))
+            if number == it.sequence:
+                yield max(it.units - units, 0) // 2**16
+        elif it.answer not in OF_DOMAIN + OF_MASTER + OF_SLAVE:
+            firsts[it.kind] = it.sequence, it.units
+
+
+def silence(times, last, count):
+    """How many tenths of a second come after this time, the last of so many, where these are many."""
+    long, often = max(times[-1] - last, 0), max(last - times[0], 0) // max(count, 1)
+    return long * 10 // SECOND if long >= 10 * SECOND and long // 10 >= often else None
+
+
+def ending(unit, times, reports, became):
+    """What is told of Syncs of the master, or else of reports, that end long before the recording does."""
+    syncs = [(at, it) for at, it in enumerate(became) if it.kind == 'Sync' and it.answer not in OF_DOMAIN + OF_MASTER]
+    if syncs:
+        by_sync = sum(it.by == 'sync' for it in reports)
+        tenths = silence(times, syncs[-1][1].units, max(sum(it.answer != 'report' for _, it in syncs), by_sync))
+        if tenths is not None:
+            new = next((it for it in became[syncs[-1][0]:] if it.kind == 'Sync' and it.answer in OF_MASTER), None)
+            yield f'the Syncs of the master end {tenths // 10}.{tenths % 10} s before the recording does' + (
+                f', and those of {identity(new.source)} begin at {unit} {new.place}; --master {identity(new.source)} measures by them'
+                if new else ': it went away')
+            return
+    if reports:
+        tenths = silence(times, reports[-1].units, len(reports))
+        if tenths is not None:
+            yield (f'no report is of the last {tenths // 10}.{tenths % 10} s: the slave went away, or it follows another master, whom --master picks, '
+                   'or nobody answers it')
+
+
+def company(became):
+    """What is told of others whose messages are there."""
+    masters = collections.Counter(identity(it.source) for it in became if it.answer in OF_MASTER)
+    slaves = collections.Counter(identity(it.source) for it in became if it.kind == 'Delay_Req' and it.answer in OF_SLAVE)
+    domains = collections.Counter(it.domain for it in became if it.answer in OF_DOMAIN)
+    if masters:
+        yield f'messages of other masters of the domain: {listed(masters)}; --master picks one'
+    if slaves:
+        yield f'Delay_Reqs of other slaves of the domain: {listed(slaves)}; --slave picks one'
+    if domains:
+        yield f'messages of other domains: {listed({f"domain {it}": domains[it] for it in sorted(domains)})}; --domain picks one'
+
+
+def beware(unit, counts, reads, reports, became):
+    """What speaks against the numbers: of reads the times, in order, and what was refused; of messages what became of them."""
     syncs, responses = [[it for it in reports if it.by == by] for by in ('sync', 'response')]
     is_of_slave = True
     for name, all_of, sign in ('requests', responses, 1), ('Syncs', syncs, -1):
@@ -97,22 +185,17 @@ def beware(unit, counts, reads, reports):
             yield (f'the offset runs away by {"-" if by < 0 else ""}{size // 1000}.{size % 1000:03} ppm (rounded): the times are of a clock that '
                    "doesn't follow this master, as that of a tap or of another host, or that was set or was still settling")
     times = [units for units, _ in reads]
-    if reports and times:
-        silence, often = max(times[-1] - reports[-1].units, 0), max(reports[-1].units - times[0], 0) // len(reports)
-        if silence >= 10 * SECOND and silence // 10 >= often:
-            tenths = silence * 10 // SECOND
-            yield (f'no report is of the last {tenths // 10}.{tenths % 10} s: the master or the slave went away, or the slave follows another master, '
-                   'whom --master picks')
+    if times:
+        yield from ending(unit, times, reports, became)
     repeats = counts['Delay_Req repeated'] + sum(counts[f'{kind} before'] for kind in ('Sync', 'Follow_Up', 'Delay_Resp'))
     if repeats:
-        yield f'messages with a number that came before: {repeats}; a mirror of both directions writes each twice, and the first of each was used'
+        later = sorted(lags(became))
+        yield f'messages with a number that came before: {repeats}' + (f', from {later[0]} to {later[-1]} ns after the first' if later else '') + (
+            '; a mirror of both directions writes each twice, and the first of each was used')
     cut = sum(said == 'refused 205' for _, said in reads)
     if cut:
         yield f'datagrams that are cut short (205): {cut}; a snap length does that, so record whole packets'
-    for kind, reason, name, option in ('Sync', '505', 'masters', 'master'), ('Delay_Req', 'of another slave', 'slaves', 'slave'):
-        count = counts[f'{kind} {reason}']
-        if count:
-            yield f'{kind}s of other {name} of the domain: {count}; --{option} picks one'
+    yield from company(became)
     falls = sum(one > other for one, other in zip(times, times[1:]))
     if falls and reports:
         yield f"times that are before that of the {unit} before: {falls}; a clock was set, or the {unit}s aren't in order"
