@@ -39,6 +39,7 @@ svg circle {{ fill: var(--own) }} svg .bar {{ fill: var(--own); stroke: var(--pa
   .wide {{ display: none }} .narrow {{ display: block }} .pair {{ grid-template-columns: 1fr }}
   table {{ font-size: .86em }} small {{ font-size: .8em }} small > span {{ display: block }} small span, .statistics th {{ white-space: normal }}
 }}
+@media (max-width: 420px) {{ .three {{ font-size: .76em }} .three .number {{ padding-left: .5em }} }}
 @media print {{
   :root {{ color-scheme: light; {LIGHT} }} body {{ font-size: 10.5pt; padding: 0 }}
   .wide {{ display: block }} .narrow {{ display: none }} .pair {{ grid-template-columns: 1fr 1fr }}
