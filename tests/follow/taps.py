@@ -234,7 +234,7 @@ def fault_text(fault):
     return f'ptpx: fault {number} at octet {place}, after {packets[0]} packet{"" if packets == [1] else "s"}'
 
 
-def see(name, octets, wanted=Wanted(), errors=(), csv=False, is_program=True):
+def see(name, octets, wanted=Wanted(), errors=(), csv=False, is_sum=False, limit=None, is_program=True):
     """Compares an answer of the program with what is owed, and answers that. Standard error has these texts, and its last lines are those that are owed;
     of lines there are no others but the fault, and of a whole capture the first one tells how many packets there are."""
     global cases
@@ -242,10 +242,12 @@ def see(name, octets, wanted=Wanted(), errors=(), csv=False, is_program=True):
     if not is_program:
         return owed
     cases += 1
-    answer = run(octets, [*wanted.arguments(), *(['--csv'] if csv else [])])
+    form = ['--csv'] if csv else ['--sum'] if is_sum else []
+    answer = run(octets, [*wanted.arguments(), *form, *(['--limit', limit] if limit is not None else [])])
     said = answer.stderr.decode()
-    text = owed.text(csv)
-    expect(f'{name}: status {answer.returncode}, {said}', answer.returncode == owed.status)
+    status = owed.status or followed.is_beyond(owed.crossings, limit)
+    text = owed.text(csv, is_sum)
+    expect(f'{name}: status {answer.returncode}, {said}', answer.returncode == status)
     expect(f'{name}: another output, {answer.stdout[:400]!r} and not {text[:400]!r}', answer.stdout == text)
     expect(f'{name}: {said}', owed.fault is None or owed.fault[0] == 'third' or said.startswith(fault_text(owed.fault)))
     expect(f'{name}: {said}', (owed.status == 2) == ('fault 809 ' in said))
@@ -368,13 +370,28 @@ SUMMED = {
         rested(0, 1) + REQUEST, sums_of((2, ('0', f'-{UNIT}', '0'), (UNIT, '0', '0'), UNIT, ('0', '0', '0')), (1, ('900',) * 3, ('100',) * 3, None, ('1000',) * 3), '-100', '50')),
 }
 
-def see_sums():
-    """The sums of the reader, by which it tells means and the asymmetry."""
+# Of inputs the limit, and the exit status, worked by hand.
+LIMITED = [
+    (ONE_STEP, '1001', 0), (ONE_STEP, '1000.999999999', 1), (ONE_STEP, '0', 1), (ONE_STEP, '1001.000000001', 0), (b'', '0', 0), (rested(65536), '1', 0),
+    (rested(-65536), '1', 0), (rested(-65537), '1', 1), (rested(65537), '1', 1), (rested(-65537), '1.000015258', 1), (rested(-65537), '1.000015259', 0), (rested(0), '0', 0),
+    (rested(1), '0', 1), (rested(-1), '0.000015258', 1), (REQUEST, '0', 0), (ONE_STEP + REQUEST, '1000', 1), (ONE_STEP + BAD, '0', 3), (ONE_STEP + REQUEST + BAD, '0', 3),
+    (ONE_STEP + REQUEST + b'middle 3.0 \n', '0', 2), (ONE_STEP, '281474976710655.999999999', 0)]
+
+
+def see_sums(is_program):
     for name, (octets, text) in SUMMED.items():
-        expect(f'sums: {name}', follow(octets).text(is_sum=True) == text)
+        owed = see(f'sums: {name}', octets, is_sum=True, is_program=is_program)
+        expect(f'sums: {name}: {owed.text(is_sum=True)}', owed.text(is_sum=True) == text)
+    for octets, limit, status in LIMITED:
+        for form in {}, {'csv': True}, {'is_sum': True}:
+            owed = see(f'limit {limit}', octets, limit=limit, is_program=is_program, **form)
+            expect(f'limit {limit}: {status}', (owed.status or followed.is_beyond(owed.crossings, limit)) == status)
+    for name, (octets, wanted, syncs, requests) in REAL.items():
+        see(f'{name}, sums', octets, wanted, is_sum=True, limit=str(max(map(abs, [*syncs[1:3], *requests[1:3]])) - 1), is_program=is_program)
 
 
-MISTAKES = [['--from', 'left', '--to', 'left'], ['--from', 'left', '--from', 'right'], ['--from', ''], ['--to', 'a b'], ['--from', 'a' * 17], ['--domain', '256'],
+MISTAKES = [['--sum', '--csv'], *[['--limit', it] for it in ('', '-1', '01', '1.', '1.0000000001', '1 ', ' 1', '1 0', '281474976710656', '1' * 16, '1e3', '0x1')],
+            ['--limit', '1', '--limit', '2'], ['--from', 'left', '--to', 'left'], ['--from', 'left', '--from', 'right'], ['--from', ''], ['--to', 'a b'], ['--from', 'a' * 17], ['--domain', '256'],
             ['--csv=yes'], ['--interface', 'left'], ['capture.pcapng']]
 
 
@@ -433,6 +450,10 @@ def made_messages(rng):
     return [it for _, it in sorted(enumerate(messages), key=lambda row: row[0] + rng.uniform(0, reach))]
 
 
+FORMS = [{}, {'csv': True}, {'is_sum': True}]
+LIMITS = [None, '0', '10', '5000', '4503599.627370496']
+
+
 def see_made(is_program):
     rng = random.Random(SEED)
     count = 0
@@ -442,7 +463,7 @@ def see_made(is_program):
             place = rng.randrange(len(text))
             text = text[:place] + bytes([rng.randrange(256)]) + text[place + 1:]
         wanted = rng.choice([Wanted(), Wanted(), INNER, Wanted(b'right'), Wanted(end=b'right'), Wanted(slave=SLAVE), Wanted(domain=0, master=MASTER), Wanted(master=OTHER)])
-        count += len(see(f'made input {number}', text, wanted, csv=rng.random() < 0.3, is_program=is_program).crossings)
+        count += len(see(f'made input {number}', text, wanted, **rng.choice(FORMS), limit=rng.choice(LIMITS), is_program=is_program).crossings)
     expect('of made inputs none has crossings', count > MADE)
 
 
@@ -458,7 +479,7 @@ def main():
     see_real(is_program)
     see_bent(is_program)
     see_third(is_program)
-    see_sums()
+    see_sums(is_program)
     see_broken(is_program)
     if is_program:
         see_mistakes()

@@ -1,5 +1,5 @@
 -- Words, and what they name: a subcommand with its options, help, or nothing.
-use Rattle.std.proofs.Common.{◌≡◌, false, true, refl, List, [], ◌∷◌, ℕ, Some, None, codes, sym, ◌∙◌}
+use Rattle.std.proofs.Common.{◌≡◌, false, true, refl, List, [], ◌∷◌, ℕ, Some, None, codes, sym, ◌∙◌, ◌*◌}
 use Rattle.std.specs.Str.{chars}
 use Rattle.hex.proofs.OnLiterals.{hex_on_literals}
 use Rattle.clap.proofs.OnLiterals.{clap_on_literals}
@@ -10,6 +10,7 @@ use Rattle.clap.specs.declared.error.kind.ErrorKind.{ErrorKind}
 use Rattle.clap.specs.declared.error.kind.ErrorKind.TheVariants as kind
 use Rattle.command_line.specs.Arguments.{HasHelpFlag, Names, NamesNothing, faults_in, named_in}
 use Rattle.capture_file.specs.Name.{interface_name}
+use Rattle.command_line.specs.Limit.{limit_of}
 use Rattle.command_line.specs.Number.{domain_of}
 use Rattle.command_line.specs.PortText.{port_identity_of}
 use Rattle.command_line.specs.declared.commands.Subcommand.TheVariants.{Show, Replay, Check, Extract, Measure, Follow, Explain}
@@ -53,7 +54,9 @@ followed : Names (codes "ptpx" ∷ codes "follow" ∷ codes "--to=right" ∷ cod
       slave = None;
       master = None;
       domain = None;
+      limit = None;
       csv = false;
+      sum = false;
     }))
 unfolding clap_on_literals walk_fault walked hex_on_literals chars faults_in named_in
 followed = (refl, refl)
@@ -61,6 +64,28 @@ followed = (refl, refl)
 one_tap : NamesNothing (codes "ptpx" ∷ codes "follow" ∷ codes "--from" ∷ codes "left" ∷ codes "--to" ∷ codes "left" ∷ [])
 unfolding clap_on_literals walk_fault walked hex_on_literals chars faults_in named_in
 one_tap = no_options (codes "ptpx" ∷ codes "follow" ∷ codes "--from" ∷ codes "left" ∷ codes "--to" ∷ codes "left" ∷ []) refl
+
+summed : Names (codes "ptpx" ∷ codes "follow" ∷ codes "--limit=12.5" ∷ codes "--sum" ∷ [])
+    (Follow (record {
+      from = None;
+      to = None;
+      slave = None;
+      master = None;
+      domain = None;
+      limit = Some 819200000000000;
+      csv = false;
+      sum = true;
+    }))
+unfolding clap_on_literals walk_fault walked hex_on_literals chars faults_in named_in
+summed = (refl, refl)
+
+rows_of_sums : NamesNothing (codes "ptpx" ∷ codes "follow" ∷ codes "--sum" ∷ codes "--csv" ∷ [])
+unfolding clap_on_literals walk_fault walked hex_on_literals chars faults_in named_in
+rows_of_sums = no_options (codes "ptpx" ∷ codes "follow" ∷ codes "--sum" ∷ codes "--csv" ∷ []) refl
+
+limit_below_0 : NamesNothing (codes "ptpx" ∷ codes "follow" ∷ codes "--limit=-1" ∷ [])
+unfolding clap_on_literals walk_fault walked hex_on_literals chars faults_in named_in
+limit_below_0 = no_options (codes "ptpx" ∷ codes "follow" ∷ codes "--limit=-1" ∷ []) refl
 
 explained : Names (codes "ptpx" ∷ codes "explain" ∷ codes "--json" ∷ codes "--first" ∷ [])
     (Explain (record { first = true; json = true }))
@@ -212,3 +237,31 @@ too_high_domain = refl
 
 long_domain : domain_of (codes "0000") ≡ None
 long_domain = refl
+
+-- nanoseconds are told as so many seconds, in units of 2^-16 ns
+whole_limit : limit_of (codes "1000") ≡ Some 65536000000000000
+whole_limit = refl
+
+limit_of_nothing : limit_of (codes "0") ≡ Some 0
+limit_of_nothing = refl
+
+finest_limit : limit_of (codes "0.000000001") ≡ Some 65536
+finest_limit = refl
+
+longest_limit : limit_of (codes "281474976710655.999999999") ≡ Some (281474976710655999999999 * 65536)
+longest_limit = refl
+
+too_great_limit : limit_of (codes "281474976710656") ≡ None
+too_great_limit = refl
+
+padded_limit : limit_of (codes "01") ≡ None
+padded_limit = refl
+
+empty_limit : limit_of [] ≡ None
+empty_limit = refl
+
+limit_with_octets : limit_of (codes "1 00") ≡ None
+limit_with_octets = refl
+
+limit_and_blank : limit_of (codes "1 ") ≡ None
+limit_and_blank = refl

@@ -1,5 +1,5 @@
 -- The subcommands of `ptpx`: their names and options, and what is asked for by the rows that clap's matches have of these.
-use Rattle.std.specs.Prelude.{List, [], ◌∷◌, Option, Some, None, codes, if◌then◌else◌, option_and_then, option_map}
+use Rattle.std.specs.Prelude.{◌&&◌, Bool, List, [], ◌∷◌, Option, Some, None, codes, if◌then◌else◌, option_and_then, option_map}
 use Rattle.std.specs.Str.{bytes_eq}
 use Rattle.clap.specs.Simple.{App}
 use Rattle.clap.specs.Walk as matches
@@ -11,6 +11,7 @@ use Rattle.command_line.specs.declared.commands.extract.ExtractOptions.{ExtractO
 use Rattle.command_line.specs.declared.commands.follow.FollowOptions.{FollowOptions}
 use Rattle.command_line.specs.declared.commands.measure.MeasureOptions.{MeasureOptions}
 use Rattle.capture_file.specs.Name.{interface_name}
+use Rattle.command_line.specs.Limit.{limit_of}
 use Rattle.command_line.specs.Number.{domain_of}
 use Rattle.command_line.specs.Options.{is_used, said}
 use Rattle.command_line.specs.PortText.{port_identity_of}
@@ -32,7 +33,7 @@ subcommands =
     ∷ (
       codes "follow",
       with_value (codes "from") ∷ with_value (codes "to") ∷ with_value (codes "slave") ∷ with_value (codes "master")
-          ∷ with_value (codes "domain") ∷ flag (codes "csv") ∷ [],
+          ∷ with_value (codes "domain") ∷ with_value (codes "limit") ∷ flag (codes "csv") ∷ flag (codes "sum") ∷ [],
     )
     ∷ (codes "explain", flag (codes "first") ∷ flag (codes "json") ∷ [])
     ∷ []
@@ -59,17 +60,25 @@ measure_options_of rows = option_and_then (λ slave. option_and_then (λ master.
     (said port_identity_of (codes "master") rows))
     (said port_identity_of (codes "slave") rows)
 
--- the options of `follow`, where each value is one and the two taps aren't the same
+-- whether sums are asked for, unless CSV is, too
+abbrev pub sum_besides : (csv sum : Bool) → Option Bool
+sum_besides csv sum = if csv && sum then None else Some sum
+
+-- the options of `follow`, where each value is one, the two taps aren't the same, and not both CSV and sums are asked for
 abbrev pub follow_options_of : List matches.Row → Option FollowOptions
 follow_options_of rows = option_and_then (λ from. option_and_then (λ to. option_and_then (λ slave. option_and_then (λ master.
-    option_map (λ domain. record {
+    option_and_then (λ domain. option_and_then (λ limit. option_map (λ sum. record {
       from = from;
       to = to;
       slave = slave;
       master = master;
       domain = domain;
+      limit = limit;
       csv = is_used (codes "csv") rows;
+      sum = sum;
     })
+    (sum_besides (is_used (codes "csv") rows) (is_used (codes "sum") rows)))
+    (said limit_of (codes "limit") rows))
     (said domain_of (codes "domain") rows))
     (said port_identity_of (codes "master") rows))
     (said port_identity_of (codes "slave") rows))

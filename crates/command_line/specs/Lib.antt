@@ -1,4 +1,5 @@
 pub mod Number
+pub mod Limit
 pub mod PortText
 pub mod TapText
 pub mod Options

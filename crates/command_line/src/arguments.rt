@@ -114,9 +114,11 @@ fn mistake(
         wanted,
     } = wrong;
     let subcommand_name = matches.subcommand_name().unwrap_or("");
-    let message = format!(in alloc;
-        "invalid value '{value}' for '--{option} <{name}>': wanted is {wanted}"
-    )?;
+    let message = if name.is_empty() {
+        format!(in alloc; "'--{option}' can't be used here: wanted is {wanted}")?
+    } else {
+        format!(in alloc; "invalid value '{value}' for '--{option} <{name}>': wanted is {wanted}")?
+    };
     let program_name = format!(in alloc; "ptpx {subcommand_name}")?;
     let command = match subcommands().iter().find(|row| row.name == subcommand_name) {
         Some(row) => with_options(alloc, row)?,

@@ -4,6 +4,7 @@
 mod arguments;
 pub mod commands;
 mod help;
+mod limit;
 mod number;
 mod options;
 mod port_identity;

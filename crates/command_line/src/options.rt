@@ -3,17 +3,20 @@ ghost use Rattle.std.specs.Prelude.{◌≡◌};
 ghost use Rattle.clap.specs.Matches.{first_value, found_of};
 ghost use Rattle.std.specs.Result.{result_ok};
 ghost use Rattle.capture_file.specs.Name.{interface_name};
+ghost use Rattle.command_line.specs.Limit.{limit_of};
 ghost use Rattle.command_line.specs.Number.{domain_of};
 ghost use Rattle.command_line.specs.Options.{is_text_used, said_by};
 ghost use Rattle.command_line.specs.PortText.{port_identity_of};
 ghost use Rattle.command_line.specs.TapText.{tap_besides};
 ghost use Rattle.tap_choice.specs.Sides.{is_named};
 
+use crate::limit::limit_in;
 use crate::number::domain_in;
 use crate::port_identity::port_identity_in;
 use capture_file::InterfaceName;
 use clap::ArgMatches;
 use event_codec::PortIdentity;
+use ptp_units::ScaledTime;
 use tap_choice::TapName;
 
 /// A value that an option doesn't take.
@@ -23,7 +26,7 @@ pub(crate) struct WrongValue<'a> {
     pub(crate) option: &'static str,
     /// The value.
     pub(crate) value: &'a str,
-    /// What the help calls the value.
+    /// What the help calls the value; nothing where the option has none.
     pub(crate) name: &'static str,
     /// What is wanted.
     pub(crate) wanted: &'static str,
@@ -87,6 +90,31 @@ pub(crate) fn domain_option<'a>(
             value,
             name: "NUMBER",
             wanted: DOMAIN,
+        }),
+    }
+}
+
+/// What a limit looks like.
+const LIMIT: &str =
+    "nanoseconds below 2^48, as 1000 or 12.5, without zeros in front and with 9 decimals at the most";
+
+/// The nanoseconds of an option, where they are given: so many seconds.
+pub(crate) fn limit_option<'a>(
+    matches: &ArgMatches<'a>,
+    option: &'static str,
+) -> Result<Option<ScaledTime>, WrongValue<'a>>
+    ensures { result_ok result ≡ said_by limit_of (first_value (found_of matches.now) option.now) }
+{
+    let Some(value) = matches.get_str(option) else {
+        return Ok(None);
+    };
+    match limit_in(value) {
+        Some(limit) => Ok(Some(limit)),
+        None => Err(WrongValue {
+            option,
+            value,
+            name: "NS",
+            wanted: LIMIT,
         }),
     }
 }

@@ -1,1 +1,2 @@
 pub mod OneAnswer
+mod WorkedFollow

@@ -1,18 +1,22 @@
 //! How `follow` runs.
-ghost use Rattle.std.specs.Prelude.{◌≡◌};
-ghost use Rattle.schedule_replay.specs.Follow.{RunsFollow, capture_status, fault_status, follow_status};
-ghost use Rattle.schedule_replay.specs.Follow.{lines_status};
+ghost use Rattle.std.specs.Prelude.{◌≡◌, ◌&&◌, List};
+ghost use Rattle.tap_crossing.specs.declared.crossing.Crossing.{Crossing};
+ghost use Rattle.tap_sums.specs.Held.{AreSums};
+ghost use Rattle.schedule_replay.specs.Follow.{RunsFollow, EndsAs, EndsWithSums, capture_status, fault_status, follow_status};
+ghost use Rattle.schedule_replay.specs.Follow.{lines_status, crossing_form, leaves_sums, is_field, is_beyond_limit, limited};
 
 use crate::capture_faults::report_capture;
 use crate::program::report;
 use capture_file::{CaptureCause, CaptureStop};
 use command_line::commands::follow::FollowOptions;
+use ptp_units::ScaledTime;
 use std::alloc::Global;
 use std::io::{Read, Write};
 use tap_choice::{Sides, TapName, Wanted};
-use tap_follow::{FollowFault, Outcome, follow};
+use tap_follow::{FollowFault, Outcome, Summary, follow};
 use tap_following::Form;
-use text_lines::{Cause, Counted, Stopped};
+use tap_sums::Sums;
+use text_lines::{Cause, Counted, Numbered, Stopped};
 
 /// Follows messages between two taps, tells what came of them beside the crossings, and answers the exit status.
 pub(crate) fn run_follow<R: Read, W: Write, E: Write>(
@@ -31,11 +35,119 @@ pub(crate) fn run_follow<R: Read, W: Write, E: Write>(
         master: options.master,
         slave: options.slave,
     };
-    let form = if options.csv { Form::Table } else { Form::Json };
+    let form = crossing_form(&options);
     let (outcome, summary) = follow(alloc, &wanted, form, input, output);
     let status = finish_followed(errors, &summary.taps(), outcome);
+    let are_asked = asks_sums(&options, &outcome);
+    let status = end_with_sums(alloc, are_asked, &summary, status, output, errors);
     summary.tell(errors);
-    status
+    limited(status, is_beyond(options.limit, &summary.sums()))
+}
+
+/// How crossings are asked for.
+fn crossing_form(options: &FollowOptions) -> Form
+    ensures { result ≡ crossing_form options.now }
+{
+    if options.sum {
+        Form::Sums
+    } else if options.csv {
+        Form::Table
+    } else {
+        Form::Json
+    }
+}
+
+/// Whether sums are written after this outcome: at the end, and after a fault of reading or of the input, but for a third tap.
+fn leaves_sums(outcome: &Outcome) -> bool
+    ensures { result ≡ leaves_sums outcome.now }
+{
+    match outcome {
+        Outcome::Lines(Ok(_)) | Outcome::Capture(Ok(_)) => true,
+        Outcome::Lines(Err(stop)) => match stop.what {
+            Cause::Reading(_) => true,
+            Cause::Task(fault) => is_field(fault),
+        },
+        Outcome::Capture(Err(stop)) => match stop.what {
+            CaptureCause::Read | CaptureCause::Capture(_) => true,
+            CaptureCause::Memory => false,
+            CaptureCause::Task(fault) => is_field(fault),
+        },
+    }
+}
+
+/// Whether sums are asked for, and written after this outcome.
+fn asks_sums(options: &FollowOptions, outcome: &Outcome) -> bool
+    ensures { result ≡ (options.now.sum && leaves_sums outcome.now) }
+{
+    options.sum && leaves_sums(outcome)
+}
+
+/// Whether a fault says that a line isn't what is asked for.
+fn is_field(fault: FollowFault) -> bool
+    ensures { result ≡ is_field fault }
+{
+    match fault {
+        FollowFault::Field => true,
+        FollowFault::Write | FollowFault::Memory | FollowFault::ThirdTap(_) => false,
+    }
+}
+
+/// Writes the sums, where they are asked for, and answers the exit status.
+fn end_with_sums<W: Write, E: Write>(
+    alloc: Global,
+    are_asked: bool,
+    summary: &Summary,
+    status: u8,
+    output: &mut Counted<W>,
+    errors: &mut E,
+) -> u8
+    ensures { EndsAs W.contents are_asked summary.now status result output.old output.new }
+{
+    if are_asked {
+        finish_sums(alloc, summary, status, output, errors)
+    } else {
+        status
+    }
+}
+
+/// Writes the sums. Answers the exit status, and says the fault where they can't be written.
+fn finish_sums<W: Write, E: Write>(
+    alloc: Global,
+    summary: &Summary,
+    status: u8,
+    output: &mut Counted<W>,
+    errors: &mut E,
+) -> u8
+    ensures { EndsWithSums W.contents summary.now status result output.old output.new }
+{
+    match summary.write_sums(alloc, output) {
+        Ok(()) => status,
+        Err(fault) => {
+            let _ = writeln!(
+                errors,
+                "ptpx: fault {}: the sums can't be written",
+                fault.number()
+            );
+            3
+        }
+    }
+}
+
+/// Whether the rest of a crossing is greater than the limit, either way, where there is one.
+fn is_beyond(limit: Option<ScaledTime>, sums: &Sums) -> bool
+    ensures { (all : List Crossing) → AreSums all sums.now → result ≡ is_beyond_limit limit all }
+{
+    match limit {
+        Some(limit) => sums.is_beyond(limit),
+        None => false,
+    }
+}
+
+/// The exit status where none speaks against it: 1 where a rest is beyond the limit.
+fn limited(status: u8, is_beyond: bool) -> u8
+    ensures { result ≡ limited status is_beyond }
+{
+    if status == 0 && is_beyond { 1 } else { status }
 }
 
 /// Answers the exit status of `follow`, and says its fault.

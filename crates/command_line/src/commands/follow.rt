@@ -3,17 +3,18 @@ ghost use Rattle.std.specs.Prelude.{◌≡◌};
 ghost use Rattle.std.specs.Result.{result_ok};
 ghost use Rattle.clap.specs.Matches.{found_of};
 ghost use Rattle.clap.specs.Walk.{rows_of};
-ghost use Rattle.command_line.specs.Commands.{follow_options_of};
+ghost use Rattle.command_line.specs.Commands.{follow_options_of, sum_besides};
 
 use crate::commands::Help;
-use crate::options::{WrongValue, domain_option, is_used, port_option, tap_option};
+use crate::options::{WrongValue, domain_option, is_used, limit_option, port_option, tap_option};
 use crate::table::{OptionRow, SubcommandRow};
 use clap::ArgMatches;
 use event_codec::PortIdentity;
+use ptp_units::ScaledTime;
 use tap_choice::TapName;
 
 /// The options of `follow`.
-const OPTIONS: [OptionRow; 6] = [
+const OPTIONS: [OptionRow; 8] = [
     OptionRow {
         name: "from",
         value: Some("TAP"),
@@ -40,9 +41,19 @@ const OPTIONS: [OptionRow; 6] = [
         about: "domainNumber; else that of the first Sync, of the master where that is given",
     },
     OptionRow {
+        name: "limit",
+        value: Some("NS"),
+        about: "Answer 1 where a rest is greater than so many nanoseconds, either way",
+    },
+    OptionRow {
         name: "csv",
         value: None,
         about: "Write CSV, in place of JSON",
+    },
+    OptionRow {
+        name: "sum",
+        value: None,
+        about: "Write sums at the end, in place of crossings",
     },
 ];
 
@@ -67,8 +78,28 @@ pub struct FollowOptions {
     pub master: Option<PortIdentity>,
     /// domainNumber; without it, that of the first Sync, of the master where that is given.
     pub domain: Option<u8>,
+    /// The greatest rest, either way, that isn't told by the exit status: so many seconds as it is nanoseconds.
+    pub limit: Option<ScaledTime>,
     /// Whether the output is CSV, in place of JSON.
     pub csv: bool,
+    /// Whether the output is sums, in place of crossings, and not CSV.
+    pub sum: bool,
+}
+
+/// Whether sums are asked for, unless CSV is, too.
+fn sum_besides<'a>(csv: bool, sum: bool) -> Result<bool, WrongValue<'a>>
+    ensures { result_ok result ≡ sum_besides csv sum }
+{
+    if csv && sum {
+        Err(WrongValue {
+            option: "sum",
+            value: "",
+            name: "",
+            wanted: "one of --sum and --csv",
+        })
+    } else {
+        Ok(sum)
+    }
 }
 
 /// The options that were met.
@@ -83,13 +114,19 @@ pub(crate) fn follow_options<'a>(matches: &ArgMatches<'a>) -> Result<FollowOptio
         Ok(to) => to,
         Err(wrong) => return Err(wrong),
     };
+    let limit = match limit_option(matches, "limit") {
+        Ok(limit) => limit,
+        Err(wrong) => return Err(wrong),
+    };
     Ok(FollowOptions {
         from,
         to,
         slave: port_option(matches, "slave")?,
         master: port_option(matches, "master")?,
         domain: domain_option(matches, "domain")?,
+        limit,
         csv: is_used(matches, "csv"),
+        sum: sum_besides(is_used(matches, "csv"), is_used(matches, "sum"))?,
     })
 }
 
@@ -106,6 +143,11 @@ line or packet is read. It is
   "taken":"75768","time":"1795645064.377389335","to":"right"}
 in one line, or with --csv, below the head time,kind,number,taken_ns,corrected_ns,rest_ns,
   1795645064.377389335,sync,0,75768,79403,-3635
+With --sum three lines stand in their place at the end, or after a fault but 808 and 809: the count of Syncs,
+the greatest, the least and the mean of each number, and step, the greatest change of rest from one to the
+next; the same of Delay_Reqs; and asymmetry, the mean rest of Syncs less that of Delay_Reqs, and mean_rest,
+half of their sum. Means are rounded to 2^-16 ns, half to even, those two from the exact means. null stands
+where there is none.
 A crossing is a Sync that went from the tap --from to the tap --to, or a Delay_Req that went from --to to
 --from, as kind says, and number is its sequenceId. taken, corrected and rest are nanoseconds, exactly those
 of the times and corrections that stand there: taken is the time at its second tap less that at its first;
@@ -130,11 +172,14 @@ was met twice at a tap is told of no more. None is told of that has a correction
 timestamp at one tap than at the other, or a Sync that is two-step at --from alone.
 
 A PORT is a portIdentity: 16 hexadecimal digits, '/' and the number, as 'ptpx show' writes it, or as pmc
-of linuxptp does, 00aabb.fffe.ccddee-1. Number and domain may have zeros in front.
+of linuxptp does, 00aabb.fffe.ccddee-1. Number and domain may have zeros in front. NS is nanoseconds, written
+as the time of a line is.
 
 At the end standard error tells of a capture how many packets there are, then the two taps, the domain, the
-master and the slave, and how many Syncs and Delay_Reqs were met at one tap and not at the other, those among
-them that came again when all was told, or behind 256 others, and how many lack a Follow_Up or a Delay_Resp.
+master and the slave, of the crossings of each kind the least, the mean and the greatest of each number, the
+asymmetry and what that means, and how many Syncs and Delay_Reqs were met at one tap and not at the other,
+those among them that came again when all was told, or behind 256 others, and how many lack a Follow_Up or a
+Delay_Resp.
 
 Faults, each of which ends the run with 'ptpx: fault 806 at line 3' on standard error, or of a capture with
 'ptpx: fault 1006 at octet 6300, after 41 packets: the capture ends within a packet or a block'. Lines count
@@ -153,6 +198,7 @@ from 1 and octets from 0, and what was written before stands. Line 0 is before a
 
 Exit statuses:
   0  each line or packet was read
+  1  each was, and a rest is greater than --limit, either way
   2  the arguments aren't a command, or 809: --from and --to have to name two of three taps
   3  any other fault
 
