@@ -1,5 +1,5 @@
 -- What is found of a report by what is kept and noted, right after its line, is what is found by the lines.
-use Rattle.std.proofs.Common.{◌≡◌, ◌∙◌, ℕ, ◌+◌, ◌-◌, ◌&&◌, true, [], ◌∷◌, length, Option, Some, None}
+use Rattle.std.proofs.Common.{◌≡◌, ◌∙◌, ℕ, ◌+◌, ◌-◌, Bool, ◌&&◌, true, false, [], ◌∷◌, length, Option, Some, None}
 use Rattle.std.proofs.Common.{refl, ap, arith}
 use Rattle.std.specs.Prelude.{◌||◌, option_and_then, is_some}
 use Rattle.std.specs.BTreeMap.{get}
@@ -23,7 +23,7 @@ use Rattle.trace_model.proofs.Lines.{line_at-number}
 use Rattle.trace_model.proofs.OctetsOfExchanges.{passed, heard_of}
 use Rattle.exchange_check.specs.declared.exceptions.Exceptions.{Exceptions}
 use Rattle.exchange_check.specs.declared.kept.Kept.{Kept}
-use Rattle.exchange_check.specs.Evidence.{noted, told_by, last_finding, is_of_exchange, wrong_reading_at}
+use Rattle.exchange_check.specs.Evidence.{noted, told_by, last_finding, wrong_reading_at}
 use Rattle.exchange_check.specs.Evidence.{first_readings_at, first_octets_at}
 use Rattle.exchange_check.specs.Inner.Finding.{found_finding_by}
 use Rattle.exchange_check.specs.Inner.Found.{of_report, of_found}
@@ -40,6 +40,22 @@ use Rattle.exchange_check.proofs.OfExchange.{journeys-there, of_last, last_if}
 use Rattle.exchange_check.proofs.Standing.{slave, all_lines}
 use Rattle.exchange_check.proofs.Telling.{IsSilent}
 use Rattle.exchange_check.proofs.Told.{fact_of, facts_at}
+
+-- reasons that are asked of an exchange and its journeys: all but 701 and 704
+abbrev pub is_of_journeys : Why → Bool
+is_of_journeys whys.NoSuchLine = false
+is_of_journeys whys.BrokenJourney = false
+is_of_journeys _ = true
+
+pub of_journeys : (why : Why) → (why ≡ whys.NoSuchLine → ⊥) → (why ≡ whys.BrokenJourney → ⊥) → is_of_journeys why ≡ true
+of_journeys whys.NoSuchLine other another = absurd (other refl)
+of_journeys whys.BrokenJourney other another = absurd (another refl)
+of_journeys whys.OtherNumber other another = refl
+of_journeys whys.OtherMaster other another = refl
+of_journeys whys.WrongReading other another = refl
+of_journeys whys.TooBig other another = refl
+of_journeys whys.WrongValue other another = refl
+of_journeys whys.Bytes other another = refl
 
 module _ (network : Network) (report : Report) where
   -- what is found of an exchange and its journeys
@@ -132,7 +148,7 @@ module _ (network : Network) (report : Report) where
         (found_finding_by network (site_at network fed) (wrong_reading_at network fed) (first_readings_at network fed)
         (first_octets_at network fed) report why (fact_of network e)) (by_lines why e) (same why counted))
 
-    by_why : (why : Why) → is_of_exchange why ≡ true
+    by_why : (why : Why) → is_of_journeys why ≡ true
         → of_last network report (ways_of why) fed ≡ last_finding network fed report why
     by_why whys.OtherNumber h = refl
     by_why whys.OtherMaster h = refl
@@ -143,7 +159,7 @@ module _ (network : Network) (report : Report) where
     by_why whys.NoSuchLine h = cc
     by_why whys.BrokenJourney h = cc
 
-module _ (network : Network) (report : Report) (why : Why) (asked : is_of_exchange why ≡ true) (fed : Lines) (kept : Kept)
+module _ (network : Network) (report : Report) (why : Why) (asked : is_of_journeys why ≡ true) (fed : Lines) (kept : Kept)
     (h : IsKept network kept (length fed) (machine network fed)) (exceptions : Exceptions)
     (evidence : told_by exceptions ≡ noted network fed) (number : ℕ)
     (number_is : number ≡ length kept.facts.items - 1) where

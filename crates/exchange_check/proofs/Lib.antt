@@ -32,3 +32,7 @@ pub mod SaidIn
 pub mod MessagesTold
 pub mod FoundFindings
 pub mod FindingTold
+pub mod PlaceFound
+pub mod Twices
+pub mod TwiceLeft
+pub mod WaysFound

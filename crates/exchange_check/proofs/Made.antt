@@ -64,10 +64,10 @@ line_at-past network lines n past = by (line_at network lines n) refl
         absurd (omega (arith, inside, past))
 
 module _ (network : Network) (lines : Lines) where
-  -- what comes before a journey's last stay: the journey of the copy that entered there
-  abbrev pub IsBefore : LineStay → List LineStay → Type 0
-  IsBefore stay rest = (copy : ℕ) × (journey : LineJourney) × (entered_copy (event_of stay.entered) ≡ Some copy)
-      × (line_journey_of network lines copy ≡ Some journey) × (journey.stays ≡ rest)
+  -- what comes before the last stay of a copy's journey: the journey of the copy that entered there
+  abbrev pub IsBefore : ℕ → LineStay → List LineStay → Type 0
+  IsBefore left stay rest = (copy : ℕ) × (journey : LineJourney) × (entered_copy (event_of stay.entered) ≡ Some copy)
+      × (line_journey_of network lines copy ≡ Some journey) × (journey.stays ≡ rest) × (copy < left)
 
 module _ (network : Network) (lines : Lines) (number : ℕ) (e : LinePlace)
     (there : line_at network lines number ≡ Some e) where
@@ -177,7 +177,7 @@ module _ (network : Network) (lines : Lines) (number : ℕ) (e : LinePlace)
   stay_is _ = refl
 
   none_before : (j : LineJourney) (stay : LineStay) (rest : List LineStay) → Some (line_begun e) ≡ Some j
-      → j.stays ≡ stay ∷ rest → IsBefore network lines stay rest
+      → j.stays ≡ stay ∷ rest → IsBefore network lines (line_number e) stay rest
   none_before j stay rest made h = absurd (none-some stay
       (ap (λ (x : LineJourney). slice_get x.stays 0) (same_Some _ _ made)
       ∙ ap (λ (l : List LineStay). slice_get l 0) h))
@@ -186,7 +186,7 @@ module _ (network : Network) (lines : Lines) (number : ℕ) (e : LinePlace)
       (stay : LineStay) (rest : List LineStay) → line_at network e.earlier transit ≡ Some entered
       → (entered_copy (event_of entered) ≡ Some copy) × (copy < line_number entered)
       → line_journey_of network e.earlier copy ≡ o
-      → option_map (with_stay e entered) o ≡ Some j → j.stays ≡ stay ∷ rest → IsBefore network lines stay rest
+      → option_map (with_stay e entered) o ≡ Some j → j.stays ≡ stay ∷ rest → IsBefore network lines (line_number e) stay rest
   journey_entered transit entered copy None j stay rest at copied journey made h = absurd (none-some j made)
   journey_entered transit entered copy (Some k) j stay rest at copied journey made h =
       let number : line_number entered ≡ transit = line_at-number network e.earlier transit entered at in
@@ -199,13 +199,14 @@ module _ (network : Network) (lines : Lines) (number : ℕ) (e : LinePlace)
         ap (λ (x : LineStay). entered_copy (event_of x.entered)) (sym same) ∙ copied.0,
         journey_before copy low ∙ journey,
         ap (λ (l : List LineStay). drop 1 l) stays,
+        low,
       )
 
   copy_before_stay : (node : NodeName) (transit : ℕ) (entered : LinePlace) (o : Option ℕ) (j : LineJourney)
       (stay : LineStay) (rest : List LineStay) → line_at network e.earlier transit ≡ Some entered
       → copy_entered node entered ≡ o
       → option_and_then (λ copy. option_map (with_stay e entered) (line_journey_of network e.earlier copy)) o ≡ Some j
-      → j.stays ≡ stay ∷ rest → IsBefore network lines stay rest
+      → j.stays ≡ stay ∷ rest → IsBefore network lines (line_number e) stay rest
   copy_before_stay node transit entered None j stay rest at copied made h = absurd (none-some j made)
   copy_before_stay node transit entered (Some copy) j stay rest at copied made h =
       journey_entered transit entered copy (line_journey_of network e.earlier copy) j stay rest at
@@ -214,14 +215,14 @@ module _ (network : Network) (lines : Lines) (number : ℕ) (e : LinePlace)
   left_before : (node : NodeName) (transit : ℕ) (o : Option LinePlace) (j : LineJourney) (stay : LineStay)
       (rest : List LineStay) → line_at network e.earlier transit ≡ o
       → option_and_then (line_left_from node e (line_journey_of network e.earlier)) o ≡ Some j
-      → j.stays ≡ stay ∷ rest → IsBefore network lines stay rest
+      → j.stays ≡ stay ∷ rest → IsBefore network lines (line_number e) stay rest
   left_before node transit None j stay rest at made h = absurd (none-some j made)
   left_before node transit (Some entered) j stay rest at made h =
       copy_before_stay node transit entered (copy_entered node entered) j stay rest at refl made h
 
   made_before : (event : Event) (j : LineJourney) (stay : LineStay) (rest : List LineStay)
       → line_journey_made network event e (line_journey_of network e.earlier) ≡ Some j
-      → j.stays ≡ stay ∷ rest → IsBefore network lines stay rest
+      → j.stays ≡ stay ∷ rest → IsBefore network lines (line_number e) stay rest
   made_before (Sync node at) j stay rest made h = none_before j stay rest made h
   made_before (SyncOne node at) j stay rest made h = none_before j stay rest made h
   made_before (Leave node transit at) j stay rest made h =
@@ -258,13 +259,15 @@ module _ (network : Network) (lines : Lines) (number : ℕ) where
 
   stay_before_found : (o : Option LinePlace) (j : LineJourney) (stay : LineStay) (rest : List LineStay)
       → line_at network lines number ≡ o → option_and_then (journey_from network) o ≡ Some j
-      → j.stays ≡ stay ∷ rest → IsBefore network lines stay rest
+      → j.stays ≡ stay ∷ rest → IsBefore network lines number stay rest
   stay_before_found None j stay rest at made h = absurd (none-some j made)
   stay_before_found (Some e) j stay rest at made h =
-      made_before network lines number e at (event_of e) j stay rest made h
+      let same : line_number e ≡ number = line_at-number network lines number e at in
+      subst (λ (n : ℕ). IsBefore network lines n stay rest) same
+      (made_before network lines number e at (event_of e) j stay rest made h)
 
   -- the journey before the last stay of a copy
   pub stay_before : (j : LineJourney) (stay : LineStay) (rest : List LineStay)
-      → line_journey_of network lines number ≡ Some j → j.stays ≡ stay ∷ rest → IsBefore network lines stay rest
+      → line_journey_of network lines number ≡ Some j → j.stays ≡ stay ∷ rest → IsBefore network lines number stay rest
   stay_before j stay rest journey h = stay_before_found (line_at network lines number) j stay rest refl
       (sym (journey_of-line_at network lines number) ∙ journey) h

@@ -23,7 +23,7 @@ use Rattle.exchange_check.proofs.Told.{fact_of, facts_at}
 
 module _ (network : Network) where
   -- of the copy of a line that counts, or of one that doesn't
-  abbrev stop_by : (by copy : ℕ) → Option LinePlace → Option Stop
+  abbrev pub stop_by : (by copy : ℕ) → Option LinePlace → Option Stop
   stop_by by copy o = stop_of_copy (λ n. option_and_then (stop_made network) o) by copy (option_map (fact_of network) o)
 
   way_event : (event : Event) (e : LinePlace) (by copy : ℕ) → event ≡ event_of e → line_number e ≡ copy
@@ -48,7 +48,7 @@ module _ (network : Network) where
   way_line true false line earlier by copy number before = refl
   way_line false counted line earlier by copy number before = before refl
 
-  way-at : (lines : Lines) (by copy : ℕ) → copy < length lines
+  pub way-at : (lines : Lines) (by copy : ℕ) → copy < length lines
       → result_err (way_of network lines by copy) ≡ stop_by by copy (line_at network lines copy)
   way-at [] by copy within = absurd (omega (arith, within))
   way-at (line ∷ earlier) by copy within =

@@ -1,6 +1,6 @@
 -- What is noted of lines beside what judges them: whatever is out of the ordinary. Each of these is a table by numbers
 -- of lines.
-use Rattle.std.specs.Prelude.{◌≡◌, ℕ, Bool, true, false, ◌||◌, not, List, [], ◌∷◌, ◌++◌, length, ◌&&◌, ◌==◌, is_some}
+use Rattle.std.specs.Prelude.{◌≡◌, ℕ, ◌||◌, not, List, [], ◌∷◌, ◌++◌, length, ◌&&◌, ◌==◌, is_some}
 use Rattle.std.specs.Prelude.{if◌then◌else◌, reverse, Option, Some, None, option_map, option_and_then}
 use Rattle.std.specs.Option.{option_or}
 use Rattle.std.specs.Result.{result_err}
@@ -17,7 +17,6 @@ use Rattle.trace_model.specs.declared.line.TraceLine.{TraceLine}
 use Rattle.trace_model.specs.declared.line.TraceOut.{TraceOut}
 use Rattle.trace_model.specs.declared.line.TraceOut.TheVariants as outs
 use Rattle.trace_model.specs.declared.verdict.Why.{Why}
-use Rattle.trace_model.specs.declared.verdict.Why.TheVariants as whys
 use Rattle.trace_model.specs.Line.{Lines, counts}
 use Rattle.trace_model.specs.Record.{LinePlace, line_place, line_number, event_of, site, line_at, last_line, reads_right}
 use Rattle.trace_model.specs.Journey.{LineJourney, line_journey_of}
@@ -174,12 +173,6 @@ unbegun network = record { network = network; lines = [] }
 -- a transcript is another one and one more line
 abbrev pub IsWithLine : Transcript → TraceLine → Transcript → Type 0
 IsWithLine before line after = after ≡ record { network = before.network; lines = before.lines ++ line ∷ [] }
-
--- reasons that are asked of an exchange and its journeys: all but 701 and 704
-abbrev pub is_of_exchange : Why → Bool
-is_of_exchange whys.NoSuchLine = false
-is_of_exchange whys.BrokenJourney = false
-is_of_exchange _ = true
 
 -- the first thing that breaks the condition of a reason against a report of the last of these lines, newest first
 abbrev pub last_finding : Network → Lines → Report → Why → Option Finding

@@ -10,4 +10,6 @@ pub mod History
 pub mod Noting
 pub mod Found
 pub mod Finding
+pub mod PlaceFinding
+pub mod WayFinding
 pub mod Messages

@@ -112,7 +112,7 @@ fn follow_of(found: &Found) -> Option<u64>
 
 impl Kept {
     /// What is told of the last stay of the copy that the line of this number made.
-    fn last_stay(&self, copy: u64) -> Option<Stay>
+    pub(crate) fn last_stay(&self, copy: u64) -> Option<Stay>
         ensures { result ≡ last_stay_by (facts_of self.now) copy }
     {
         let left = self.at(copy)?;

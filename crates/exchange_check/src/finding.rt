@@ -1,4 +1,5 @@
-//! What is found wrong with a report: of each reason the first thing that breaks its condition.
+//! What is found wrong with a report: of each reason the first thing that breaks its condition, of 701 and of 704 by
+//! `place_finding` and `way_finding`.
 
 ghost use Rattle.std.specs.Prelude.{◌≡◌, true, nat_lt, option_map, reverse};
 ghost use Rattle.std.specs.BTreeMap.{get};
@@ -7,7 +8,7 @@ ghost use Rattle.std.specs.Option.{option_or, option_map_or};
 ghost use Rattle.network_model.specs.Run.{site_of};
 ghost use Rattle.trace_model.specs.declared.finding.Finding.TheVariants as findings;
 ghost use Rattle.trace_model.specs.Finding.{broken, early_finding};
-ghost use Rattle.exchange_check.specs.Evidence.{Evidences, last_finding, is_of_exchange};
+ghost use Rattle.exchange_check.specs.Evidence.{Evidences, last_finding};
 ghost use Rattle.exchange_check.specs.Inner.Finding.{follow_finding_by, pair_finding_by, told_finding_by};
 ghost use Rattle.exchange_check.specs.Inner.Finding.{master_finding_by, copy_in, arrival_reading, readings_finding_by};
 ghost use Rattle.exchange_check.specs.Inner.Finding.{size_finding_by, value_finding_by, octets_finding_by};
@@ -21,172 +22,18 @@ use crate::checker::Checker;
 use crate::evidence::Evidence;
 use crate::exceptions::Exceptions;
 use crate::facts::{Fact, Found, FoundJourney, Site};
-use crate::judging::{LineKind, are_results, fits, is_domain, is_followed, is_of_line, results_of};
+use crate::judging::{LineKind, are_results, fits, is_domain, is_followed, results_of};
 use crate::kept::Kept;
 use crate::lookup::Lookup;
 use crate::octets::{master_at, slave_at};
-use crate::ways::Stop;
 use network_model::{Name, Nodes, Report};
-use trace_model::{Finding, Lack, Part, Why};
+use trace_model::{Finding, Part, Why};
 
 /// What is found where a condition doesn't hold.
-fn broken(holds: bool, finding: Finding) -> Option<Finding>
+pub(crate) fn broken(holds: bool, finding: Finding) -> Option<Finding>
     ensures { result ≡ broken holds finding }
 {
     if holds { None } else { Some(finding) }
-}
-
-/// What a tag lacks.
-fn wrong_tag(part: Part, found: Result<Fact, Lack>) -> Option<Finding> {
-    match found {
-        Ok(_) => None,
-        Err(lack) => Some(Finding::WrongTag { part, lack }),
-    }
-}
-
-/// A line that passes a test, or what it lacks.
-fn passing(fact: &Fact, passes: bool, lack: Lack) -> Result<Fact, Lack> {
-    if passes { Ok(*fact) } else { Err(lack) }
-}
-
-impl Kept {
-    /// The line of a number below another one, or what this number lacks.
-    fn line_found(&self, limit: u64, number: u64) -> Result<Fact, Lack> {
-        if number >= limit {
-            return Err(Lack::NotBefore(number));
-        }
-        match self.at(number) {
-            Some(fact) => Ok(*fact),
-            None => Err(Lack::CameToNothing(number)),
-        }
-    }
-
-    /// The line of a report's tag, of this kind and at this slave.
-    fn tag_found(&self, kind: LineKind, slave: &Name, number: u64) -> Result<Fact, Lack> {
-        match self.line_found(self.facts.len() as u64, number) {
-            Ok(fact) => passing(
-                &fact,
-                kind.is_of(&fact.event) && fact.event.node() == *slave,
-                Lack::OtherEvent(number),
-            ),
-            Err(lack) => Err(lack),
-        }
-    }
-
-    /// The line that made the copy which is heard at a line.
-    fn sender_found(&self, fact: &Fact) -> Result<Fact, Lack> {
-        match fact.event.heard_copy() {
-            Some(copy) => self.line_found(fact.line, copy),
-            None => Err(Lack::OtherEvent(fact.line)),
-        }
-    }
-
-    /// The Sync's arrival.
-    fn sync_found(&self, slave: &Name, report: &Report) -> Result<Fact, Lack> {
-        let tag = report.sync_tag;
-        match self.tag_found(LineKind::Arrival, slave, tag) {
-            Ok(fact) => passing(
-                &fact,
-                report.follow_tag.is_some() || fact.completes,
-                Lack::CompletedNothing(tag),
-            ),
-            Err(lack) => Err(lack),
-        }
-    }
-
-    /// The line that sent the Follow_Up.
-    fn follow_found(&self, slave: &Name, hearing: u64) -> Result<Fact, Lack> {
-        let sender = match self.tag_found(LineKind::Hearing, slave, hearing) {
-            Ok(heard) => self.sender_found(&heard),
-            Err(lack) => Err(lack),
-        };
-        match sender {
-            Ok(sender) => passing(
-                &sender,
-                sender.event.is_follow(),
-                Lack::OtherEvent(sender.line),
-            ),
-            Err(lack) => Err(lack),
-        }
-    }
-
-    /// What the tag of the Follow_Up lacks; nothing where the report has none.
-    fn follow_tag_finding(&self, slave: &Name, hearing: Option<u64>) -> Option<Finding> {
-        match hearing {
-            Some(hearing) => wrong_tag(Part::FollowUp, self.follow_found(slave, hearing)),
-            None => None,
-        }
-    }
-
-    /// The hearing of this number, where it completed a pair.
-    fn completion_found(&self, slave: &Name, hearing: u64) -> Result<Fact, Lack> {
-        match self.tag_found(LineKind::Hearing, slave, hearing) {
-            Ok(heard) => passing(&heard, heard.completes, Lack::CompletedNothing(hearing)),
-            Err(lack) => Err(lack),
-        }
-    }
-
-    /// The arrival that sent the Delay_Resp.
-    fn response_found(&self, slave: &Name, hearing: u64) -> Result<Fact, Lack> {
-        let sender = match self.completion_found(slave, hearing) {
-            Ok(heard) => self.sender_found(&heard),
-            Err(lack) => Err(lack),
-        };
-        match sender {
-            Ok(sender) => passing(
-                &sender,
-                sender.event.is_arrival() && sender.made,
-                Lack::OtherEvent(sender.line),
-            ),
-            Err(lack) => Err(lack),
-        }
-    }
-
-    /// The first line before this one by which the slave learned when the request of this number departed.
-    fn stamp_before(&self, request: u64, number: u64) -> Option<u64> {
-        match self.stamps.get(&request) {
-            Some(stamp) if *stamp < number => Some(*stamp),
-            _ => None,
-        }
-    }
-
-    /// What is found of the tags of a report of the line of this number, which counts.
-    fn tags_finding(&self, slave: &Name, number: u64, report: &Report) -> Option<Finding> {
-        if !is_of_line(number, report) {
-            return Some(Finding::OfOtherLine);
-        }
-        if let Some(found) = wrong_tag(Part::Sync, self.sync_found(slave, report)) {
-            return Some(found);
-        }
-        if let Some(found) = self.follow_tag_finding(slave, report.follow_tag) {
-            return Some(found);
-        }
-        let request = self.tag_found(LineKind::Request, slave, report.request_tag);
-        if let Some(found) = wrong_tag(Part::DelayReq, request) {
-            return Some(found);
-        }
-        let response = self.response_found(slave, report.response_tag);
-        if let Some(found) = wrong_tag(Part::DelayResp, response) {
-            return Some(found);
-        }
-        let first = self.stamp_before(report.request_tag, number);
-        let stamped = match first {
-            Some(stamp) => stamp < report.response_tag,
-            None => false,
-        };
-        broken(
-            report.request_tag < report.response_tag && stamped,
-            Finding::Unstamped { first },
-        )
-    }
-
-    /// 701: what is found of the lines of a report of the line of this number.
-    fn place_finding(&self, number: u64, report: &Report) -> Option<Finding> {
-        match self.at(number) {
-            Some(fact) => self.tags_finding(&fact.event.node(), number, report),
-            None => Some(Finding::CantReport),
-        }
-    }
 }
 
 /// 702: another Sync's Follow_Up, or none of a two-step Sync.
@@ -226,7 +73,7 @@ fn early(part: Part, set: u64, later: bool) -> Option<Finding>
 }
 
 /// The first of two findings.
-fn or(one: Option<Finding>, other: Option<Finding>) -> Option<Finding>
+pub(crate) fn or(one: Option<Finding>, other: Option<Finding>) -> Option<Finding>
     ensures { result ≡ option_or one other }
 {
     match one {
@@ -493,134 +340,20 @@ fn report_finding(
     }
 }
 
-/// The stay that was left twice first, of those that were looked at.
-#[derive(Clone, Copy)]
-struct Twice {
-    entered: u64,
-    second: u64,
-}
-
-/// The one of two stays that was left twice first.
-fn earlier(one: Option<Twice>, other: Option<Twice>) -> Option<Twice> {
-    match (one, other) {
-        (Some(one), Some(other)) if other.second < one.second => Some(other),
-        (Some(one), _) => Some(one),
-        (None, other) => other,
-    }
-}
-
 impl Evidence {
-    /// The stay by which the copy left that the line of this number made, where that was left twice, and the copy that
-    /// entered there.
-    fn last_twice(&self, kept: &Kept, copy: u64) -> Option<(Option<Twice>, u64)> {
-        let transit = kept.at(copy)?.event.named_transit()?;
-        let entered = kept.at(transit)?.event.entered_copy()?;
-        let twice = match self.exceptions.seconds.get(&transit) {
-            Some(second) => Some(Twice {
-                entered: transit,
-                second: *second,
-            }),
-            None => None,
-        };
-        Some((twice, entered))
-    }
-
-    /// 704: the stay on the journey of a copy that was left twice first. It takes time with the stays of the journey.
-    fn left_twice(&self, kept: &Kept, part: Part, copy: u64) -> Option<Finding> {
-        if kept.stays.once(copy) {
-            return None;
-        }
-        let mut first = None;
-        let mut at = copy;
-        while let Some((twice, before)) = self.last_twice(kept, at)
-            && before < at
-        {
-            first = earlier(first, twice);
-            at = before;
-        }
-        let twice = first?;
-        Some(Finding::LeftTwice {
-            part,
-            entered: twice.entered,
-            first: kept.stays.first(twice.entered)?,
-            second: twice.second,
-        })
-    }
-
-    /// Where the journey stops of the copy that arrives at a line, or the copy.
-    fn copy_arrived(&self, kept: &Kept, kind: LineKind, arrival: &Fact) -> Result<u64, Stop> {
-        let by = arrival.line;
-        let stop = |lack| Err(Stop { by, lack });
-        let Some(copy) = arrival.event.heard_copy() else {
-            return stop(Lack::OtherEvent(by));
-        };
-        if copy >= by {
-            return stop(Lack::NotBefore(copy));
-        }
-        if let Some(found) = kept.stop_of(&self.exceptions.stops, by, copy) {
-            return Err(found);
-        }
-        match kept.found_journey_at(copy) {
-            Some(journey) if !kind.is_of(&journey.origin.event) => {
-                stop(Lack::OtherEvent(journey.origin.line))
-            }
-            _ => Ok(copy),
-        }
-    }
-
-    /// 704: what is found of the journey of the message that arrives at a line.
-    fn way_finding(
-        &self,
-        kept: &Kept,
-        part: Part,
-        kind: LineKind,
-        arrival: &Fact,
-    ) -> Option<Finding> {
-        match self.copy_arrived(kept, kind, arrival) {
-            Ok(copy) => self.left_twice(kept, part, copy),
-            Err(stop) => Some(Finding::Stops {
-                part,
-                by: stop.by,
-                lack: stop.lack,
-            }),
-        }
-    }
-
-    /// 704: what is found of the two journeys.
-    fn ways_finding(&self, kept: &Kept, found: &Found) -> Option<Finding> {
-        let sync = self.way_finding(kept, Part::Sync, LineKind::DrawsSync, &found.sync_arrival);
-        if sync.is_some() {
-            return sync;
-        }
-        self.way_finding(
-            kept,
-            Part::DelayReq,
-            LineKind::Request,
-            &found.request_arrival,
-        )
-    }
-
     /// The first thing that breaks the condition of a reason against a report of the line that was noted last; none
     /// where this reason doesn't stand against it. The time that it takes doesn't grow with the lines, but for looking
     /// some of them up, and of a journey on which a stay was left twice it grows with its stays.
     pub fn finding(&self, checker: &Checker, report: &Report, why: Why) -> Option<Finding>
-        ensures of_exchange { Evidences self.now checker.now → is_of_exchange why ≡ true
+        ensures { Evidences self.now checker.now
             → result ≡ last_finding checker.now.network (reverse checker.now.lines) report.now why }
     {
         let (nodes, kept) = checker.inside();
         let number = kept.last_number();
         match why {
-            Why::NoSuchLine => kept.place_finding(number, report),
-            Why::BrokenJourney => self.broken_journey(kept, number, report),
+            Why::NoSuchLine => kept.place_finding(report),
+            Why::BrokenJourney => self.exceptions.broken_journey(kept, number, report),
             _ => report_finding(&self.exceptions, nodes, kept, number, report, why),
-        }
-    }
-
-    /// 704: what is found of the journeys of a report of the line of this number.
-    fn broken_journey(&self, kept: &Kept, number: u64, report: &Report) -> Option<Finding> {
-        match kept.found_at(number, report) {
-            Some(found) => self.ways_finding(kept, &found),
-            None => None,
         }
     }
 }

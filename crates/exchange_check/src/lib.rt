@@ -16,10 +16,12 @@ mod kept;
 mod kept_line;
 mod lookup;
 mod octets;
+mod place_finding;
 mod refusal;
 mod residence;
 mod sites;
 mod stays;
+mod way_finding;
 mod ways;
 
 pub use checker::{Checker, check};
