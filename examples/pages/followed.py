@@ -104,21 +104,31 @@ class Crossings:
         rests = Graph('rest', {it.more: it.rest for it in self.ways}, ' and '.join(it.rest.counted() for it in self.ways), 'crossing')
         rest, *others = over_time_parts([rests, *(it.graph() for it in self.ways)])
         tables = ''.join(it.table() for it in self.ways)
-        lost = f'<p id="lost">{escape("; ".join(said.lost))}.</p>' if said.lost else ''
-        return [rest, self.asymmetry_part(), *others, f'<h2>Statistics</h2>{tables}{lost}<p class="soft">{TOLD}</p>', distributions_part(self.series)]
+        statistics = f'<h2>Statistics</h2>{tables}{lost_part(said)}<p class="soft">{TOLD}</p>'
+        return [rest, self.asymmetry_part(), *others, statistics, distributions_part(self.series)]
 
     def asymmetry_part(self):
-        """How unequal the two ways are, and what that means, in the words of follow."""
-        title = '<h2>Asymmetry</h2>'
         without = [it.one for it in self.ways if not len(it.rest)]
         if without:
-            return f'{title}<p id="meaning">No {without[0]} crossed, so the asymmetry isn\'t known.</p>'
+            return asymmetry_part(self.taps, without, None, None)
         syncs, requests = (it.mean for it in self.series)
-        asymmetry = as_told(syncs - requests)
-        rows = [('asymmetry', f'{rounded_length(asymmetry)} ns', 'mean rest of Syncs less that of Delay_Reqs'),
-                ('mean rest', f'{rounded_as_told((syncs + requests) / 2)} ns', 'half of the sum of both, in which the clocks of the taps don\'t stand')]
-        second = 'the second tap' if self.taps is None else self.taps[1]
-        meaning = (f'asymmetry {rounded_length(asymmetry)} ns: where both taps read one clock, offsets of a slave behind them are by half of it, '
-                   f'{rounded_length(asymmetry / 2)} ns, too great, and one that is steered by them is late by as much; where the clock of {second} is '
-                   f'ahead by d, 2d is in it')
-        return f'{title}{told_table(rows)}<p id="meaning">{meaning[0].upper()}{meaning[1:]}.</p>'
+        return asymmetry_part(self.taps, without, as_told(syncs - requests), as_told((syncs + requests) / 2))
+
+
+def lost_part(said):
+    """Which messages didn't cross, as was said."""
+    return f'<p id="lost">{escape("; ".join(said.lost))}.</p>' if said.lost else ''
+
+
+def asymmetry_part(taps, without, asymmetry, mean_rest):
+    """How unequal the two ways are, and what that means, in the words of follow; or of which kind nothing crossed."""
+    title = '<h2>Asymmetry</h2>'
+    if without:
+        return f'{title}<p id="meaning">No {without[0]} crossed, so the asymmetry isn\'t known.</p>'
+    rows = [('asymmetry', f'{rounded_length(asymmetry)} ns', 'mean rest of Syncs less that of Delay_Reqs'),
+            ('mean rest', f'{rounded_length(mean_rest)} ns', 'half of the sum of both, in which the clocks of the taps don\'t stand')]
+    second = 'the second tap' if taps is None else taps[1]
+    meaning = (f'asymmetry {rounded_length(asymmetry)} ns: where both taps read one clock, offsets of a slave behind them are by half of it, '
+               f'{rounded_length(asymmetry / 2)} ns, too great, and one that is steered by them is late by as much; where the clock of {second} is '
+               f'ahead by d, 2d is in it')
+    return f'{title}{told_table(rows)}<p id="meaning">{meaning[0].upper()}{meaning[1:]}.</p>'

@@ -5,6 +5,7 @@ import sys
 
 from pages.followed import Crossings
 from pages.measured import Measurement
+from pages.summed import Sums
 from pages.values import counted
 
 # No line is longer; and the first octets of captures.
@@ -72,7 +73,7 @@ def content_of(name, first, octets):
         if f'{first},'.startswith(f'{content.HEAD},'):
             return content(), True
     if first.startswith('{'):
-        return Crossings() if '"kind"' in first else Measurement(), False
+        return (Sums() if '"count":' in first else Crossings() if '"kind"' in first else Measurement()), False
     if octets in CAPTURES:
         raise Wrong(f'{name} is a capture; what ptpx measure or ptpx follow makes of it is wanted')
     if first.startswith('ptpx: '):
@@ -96,4 +97,6 @@ def read_lines(path, name):
                 content.add_row(text) if is_table else content.add_json(text)
             except (ValueError, KeyError, TypeError, AttributeError, RecursionError):
                 raise Wrong(f'{name}: line {number} is no {content.LINE}') from None
+    if isinstance(content, Sums) and not content.is_whole():
+        raise Wrong(f'{name} ends before the third {content.LINE}')
     return content

@@ -78,7 +78,12 @@ def statistics(series, mean_text):
 def statistics_table(count_name, columns, corner='', mean_text=rounded_length):
     """The statistics of series, side by side below their names."""
     names = count_name, 'mean, ns', 'standard deviation, ns', 'median, ns', 'least, ns', 'greatest, ns'
-    rows = zip(names, *(statistics(it, mean_text) for it in columns.values()))
+    return columns_table(names, {name: statistics(it, mean_text) for name, it in columns.items()}, corner)
+
+
+def columns_table(names, columns, corner=''):
+    """Cells side by side below the names of their columns, and behind those of their rows."""
+    rows = zip(names, *columns.values())
     body = ''.join(f'<tr><th>{name}</th>' + ''.join(f'<td class="number">{it}</td>' for it in cells) + '</tr>' for name, *cells in rows)
     head = f'<tr><th>{corner}</th>' + ''.join(f'<th class="number">{it}</th>' for it in columns) + '</tr>'
     return f'<div class="scroll"><table class="statistics{" three" if len(columns) > 2 else ""}">{head}{body}</table></div>'
@@ -97,7 +102,9 @@ def watched_part(content, said):
 
 
 def when(content):
-    """From when to when there is something."""
+    """From when to when there is something, of what has times."""
+    if not content.series:
+        return content.when()
     first, last = time_range(content.series)
     text = f'{content.counted()} from {seconds(first)} to {seconds(last)}'
     try:
@@ -170,7 +177,7 @@ def empty_part(content, said):
 
 def page(content, said, command):
     """The whole page, which is well-formed as XML, too."""
-    is_there = any(map(len, content.series))
+    is_there = any(content.counts.values())
     parts = [f'<h1>{escape(content.title())}</h1>', when(content) + content.ABOUT if is_there else '', watched_part(content, said), beware_part(said)]
     if is_there:
         parts += content.parts(said)
