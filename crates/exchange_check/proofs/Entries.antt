@@ -25,10 +25,10 @@ use Rattle.exchange_check.specs.declared.refusal.CheckFault.{CheckFault}
 use Rattle.exchange_check.specs.Evidence.{Table, noted, told_by, octets_told, stops_in, wrong_octets}
 use Rattle.exchange_check.specs.Evidence.{wrong_octets_at, wrong_reading, wrong_reading_at, uncounted_at, second_leaves}
 use Rattle.exchange_check.specs.Evidence.{journey_readings, journey_octets, stop_made, first_readings_at, first_octets_at}
-use Rattle.exchange_check.specs.Evidence.{stops_at}
+use Rattle.exchange_check.specs.Evidence.{made_otherwise, first_otherwise_at, stops_at}
 use Rattle.exchange_check.specs.Inner.Machine.{IsKept, machine, facts_of, sites_of, firsts_of}
 use Rattle.exchange_check.specs.Inner.Noting.{mapped, with_entry, octets_entry, reading_entry, seconds_with, first_reading_by}
-use Rattle.exchange_check.specs.Inner.Noting.{first_octets_by, stop_entry, slim, NotesLine}
+use Rattle.exchange_check.specs.Inner.Noting.{first_octets_by, first_otherwise_by, stop_entry, slim, NotesLine}
 use Rattle.exchange_check.proofs.Noted.{site_at}
 use Rattle.exchange_check.proofs.Told.{fact_of, journey_from}
 use Rattle.exchange_check.proofs.Inside.{facts-kept, sites-kept, firsts-kept}
@@ -37,6 +37,7 @@ use Rattle.exchange_check.proofs.SecondLeaves.{seconds-more, seconds-unchanged}
 use Rattle.exchange_check.proofs.WrongReadings.{reading-entry}
 use Rattle.exchange_check.proofs.FirstReadings.{first-reading}
 use Rattle.exchange_check.proofs.FirstOctets.{first-octets}
+use Rattle.exchange_check.proofs.FirstOtherwise.{first-otherwise}
 use Rattle.exchange_check.proofs.WayStops.{stop-entry}
 
 -- the octets that are kept
@@ -85,7 +86,7 @@ module _ (network : Network) (line : TraceLine) (earlier : Lines) where
     -- of a line that counts
     module _ (site_kept : Site) (fact : Fact) (found : facts_of kept number ≡ Some fact)
         (site_is : site_kept ≡ sites_of network kept (site_of fact.event))
-        (notes : NotesLine kept site_kept fact line old new) where
+        (notes : NotesLine network kept site_kept fact line old new) where
       is_line : (counts network line ≡ true) × (fact_of network e ≡ fact)
       is_line = fact_if (counts network line) fact (sym at_last ∙ found)
 
@@ -136,10 +137,24 @@ module _ (network : Network) (line : TraceLine) (earlier : Lines) where
           ∙ entry-mapped findings.OtherOctets fact.line (first_octets_by (facts_of kept) raw fact) raw
           ∙ (λ i. with_entry (same i).line (option_map findings.OtherOctets
           (first_octets_by (facts-kept network fed kept h i) raw (same i))) (before i).first_octets)
-          ∙ (λ i. with_entry n (first-octets network line earlier counted raw (λ copy k. (before k).first_octets copy) i)
+          ∙ (λ i. with_entry n (first-octets network line earlier raw (λ copy k. (before k).first_octets copy) i)
           (of-journeys network (journey_octets network) earlier i))
           ∙ sym (of-journeys network (journey_octets network) fed
           ∙ table-more network (λ (x : LinePlace). option_and_then (journey_octets network) (journey_from network x))
+          line earlier true counted)
+
+      abbrev otherwise_raw : Table ℕ
+      otherwise_raw = get nat_cmp old.first_otherwise
+
+      first_otherwise : mapped findings.OtherOctets (get nat_cmp new.first_otherwise) ≡ first_otherwise_at network fed
+      first_otherwise = (λ i. mapped findings.OtherOctets (notes.first_otherwise i))
+          ∙ entry-mapped findings.OtherOctets fact.line
+          (first_otherwise_by network (facts_of kept) otherwise_raw fact line.out) otherwise_raw
+          ∙ (λ i. with_entry (same i).line (option_map findings.OtherOctets (first_otherwise_by network
+          (facts-kept network fed kept h i) otherwise_raw (same i) line.out)) (before i).first_otherwise)
+          ∙ (λ i. with_entry n (first-otherwise network line earlier counted otherwise_raw
+          (λ copy k. (before k).first_otherwise copy) i) (first_otherwise_at network earlier))
+          ∙ sym (table-more network (λ (x : LinePlace). made_otherwise network x (journey_from network x))
           line earlier true counted)
 
       stops_now : stops_in (get nat_cmp new.stops)
@@ -158,6 +173,7 @@ module _ (network : Network) (line : TraceLine) (earlier : Lines) where
         seconds = seconds i;
         first_readings = first_readings i;
         first_octets = first_octets i;
+        first_otherwise = first_otherwise i;
         stops = stops_now i;
       }
 
@@ -189,6 +205,8 @@ module _ (network : Network) (line : TraceLine) (earlier : Lines) where
         first_octets = ((λ k. (before k).first_octets) ∙ of-journeys network (journey_octets network) earlier
             ∙ same_table (λ (x : LinePlace). option_and_then (journey_octets network) (journey_from network x))
             ∙ sym (of-journeys network (journey_octets network) fed)) i;
+        first_otherwise = ((λ k. (before k).first_otherwise)
+            ∙ same_table (λ (x : LinePlace). made_otherwise network x (journey_from network x))) i;
         stops = ((λ k. (before k).stops) ∙ same_table (stop_made network)) i;
       }
 
@@ -196,10 +214,12 @@ module _ (network : Network) (line : TraceLine) (earlier : Lines) where
       uncounted-line = ap told_by others ∙ kept_so
 
 -- what is noted of a line that counts, a table after the other
-module _ (kept : Kept) (site_kept : Site) (fact : Fact) (line : TraceLine) (s0 s1 s2 s3 s4 s5 s6 : Exceptions)
+module _ (network : Network) (kept : Kept) (site_kept : Site) (fact : Fact) (line : TraceLine)
+    (s0 s1 s2 s3 s4 s5 s6 s7 : Exceptions)
     (o1 : s1 ≡ record s0 { octets = s1.octets }) (o2 : s2 ≡ record s1 { readings = s2.readings })
     (o3 : s3 ≡ record s2 { seconds = s3.seconds }) (o4 : s4 ≡ record s3 { first_readings = s4.first_readings })
-    (o5 : s5 ≡ record s4 { first_octets = s5.first_octets }) (o6 : s6 ≡ record s5 { stops = s6.stops })
+    (o5 : s5 ≡ record s4 { first_octets = s5.first_octets }) (o6 : s6 ≡ record s5 { first_otherwise = s6.first_otherwise })
+    (o7 : s7 ≡ record s6 { stops = s7.stops })
     (p1 : octets_told s1 ≡ with_entry fact.line (octets_entry fact line.out) (octets_told s0))
     (p2 : get nat_cmp s2.readings
     ≡ with_entry fact.line (reading_entry site_kept fact line.reading) (get nat_cmp s1.readings))
@@ -209,9 +229,12 @@ module _ (kept : Kept) (site_kept : Site) (fact : Fact) (line : TraceLine) (s0 s
     (get nat_cmp s3.first_readings))
     (p5 : get nat_cmp s5.first_octets
     ≡ with_entry fact.line (first_octets_by (facts_of kept) (get nat_cmp s4.first_octets) fact) (get nat_cmp s4.first_octets))
-    (p6 : stops_in (get nat_cmp s6.stops)
-    ≡ with_entry fact.line (stop_entry (facts_of kept) (stops_in (get nat_cmp s5.stops)) fact)
-    (stops_in (get nat_cmp s5.stops))) where
+    (p6 : get nat_cmp s6.first_otherwise
+    ≡ with_entry fact.line (first_otherwise_by network (facts_of kept) (get nat_cmp s5.first_otherwise) fact line.out)
+    (get nat_cmp s5.first_otherwise))
+    (p7 : stops_in (get nat_cmp s7.stops)
+    ≡ with_entry fact.line (stop_entry (facts_of kept) (stops_in (get nat_cmp s6.stops)) fact)
+    (stops_in (get nat_cmp s6.stops))) where
   abbrev readings_of : Exceptions → Table WrongReading
   readings_of x = get nat_cmp x.readings
 
@@ -227,11 +250,14 @@ module _ (kept : Kept) (site_kept : Site) (fact : Fact) (line : TraceLine) (s0 s
   abbrev octets_in_firsts : Exceptions → Table ℕ
   octets_in_firsts x = get nat_cmp x.first_octets
 
+  abbrev otherwise_in : Exceptions → Table ℕ
+  otherwise_in x = get nat_cmp x.first_otherwise
+
   abbrev stops_of : Exceptions → Table Stop
   stops_of x = stops_in (get nat_cmp x.stops)
 
-  readings_stay : readings_of s6 ≡ readings_of s3
-  readings_stay = ap readings_of o6 ∙ ap readings_of o5 ∙ ap readings_of o4
+  readings_stay : readings_of s7 ≡ readings_of s3
+  readings_stay = ap readings_of o7 ∙ ap readings_of o6 ∙ ap readings_of o5 ∙ ap readings_of o4
 
   firsts_stay : firsts_in s3 ≡ firsts_in s0
   firsts_stay = ap firsts_in o3 ∙ ap firsts_in o2 ∙ ap firsts_in o1
@@ -239,22 +265,28 @@ module _ (kept : Kept) (site_kept : Site) (fact : Fact) (line : TraceLine) (s0 s
   octets_stay : octets_in_firsts s4 ≡ octets_in_firsts s0
   octets_stay = ap octets_in_firsts o4 ∙ ap octets_in_firsts o3 ∙ ap octets_in_firsts o2 ∙ ap octets_in_firsts o1
 
-  stops_stay : stops_of s5 ≡ stops_of s0
-  stops_stay = ap stops_of o5 ∙ ap stops_of o4 ∙ ap stops_of o3 ∙ ap stops_of o2 ∙ ap stops_of o1
+  otherwise_stay : otherwise_in s5 ≡ otherwise_in s0
+  otherwise_stay = ap otherwise_in o5 ∙ ap otherwise_in o4 ∙ ap otherwise_in o3 ∙ ap otherwise_in o2 ∙ ap otherwise_in o1
 
-  pub notes-line : NotesLine kept site_kept fact line s0 s6
+  stops_stay : stops_of s6 ≡ stops_of s0
+  stops_stay = ap stops_of o6 ∙ ap stops_of o5 ∙ ap stops_of o4 ∙ ap stops_of o3 ∙ ap stops_of o2 ∙ ap stops_of o1
+
+  pub notes-line : NotesLine network kept site_kept fact line s0 s7
   notes-line = record {
-    octets = ap octets_told o6 ∙ ap octets_told o5 ∙ ap octets_told o4 ∙ ap octets_told o3 ∙ ap octets_told o2 ∙ p1;
+    octets = ap octets_told o7 ∙ ap octets_told o6 ∙ ap octets_told o5 ∙ ap octets_told o4 ∙ ap octets_told o3 ∙ ap octets_told o2 ∙ p1;
     readings = readings_stay ∙ ap readings_of o3 ∙ p2
         ∙ (λ i. with_entry fact.line (reading_entry site_kept fact line.reading) (ap readings_of o1 i));
-    uncounted = ap uncounted_of o6 ∙ ap uncounted_of o5 ∙ ap uncounted_of o4 ∙ ap uncounted_of o3
+    uncounted = ap uncounted_of o7 ∙ ap uncounted_of o6 ∙ ap uncounted_of o5 ∙ ap uncounted_of o4 ∙ ap uncounted_of o3
         ∙ ap uncounted_of o2 ∙ ap uncounted_of o1;
-    seconds = ap seconds_of o6 ∙ ap seconds_of o5 ∙ ap seconds_of o4 ∙ p3
+    seconds = ap seconds_of o7 ∙ ap seconds_of o6 ∙ ap seconds_of o5 ∙ ap seconds_of o4 ∙ p3
         ∙ (λ i. seconds_with (firsts_of kept) fact ((ap seconds_of o2 ∙ ap seconds_of o1) i));
-    first_readings = ap firsts_in o6 ∙ ap firsts_in o5 ∙ p4
+    first_readings = ap firsts_in o7 ∙ ap firsts_in o6 ∙ ap firsts_in o5 ∙ p4
         ∙ (λ i. with_entry fact.line (first_reading_by (facts_of kept) (sym readings_stay i) (firsts_stay i) fact)
         (firsts_stay i));
-    first_octets = ap octets_in_firsts o6 ∙ p5
+    first_octets = ap octets_in_firsts o7 ∙ ap octets_in_firsts o6 ∙ p5
         ∙ (λ i. with_entry fact.line (first_octets_by (facts_of kept) (octets_stay i) fact) (octets_stay i));
-    stops = p6 ∙ (λ i. with_entry fact.line (stop_entry (facts_of kept) (stops_stay i) fact) (stops_stay i));
+    first_otherwise = ap otherwise_in o7 ∙ p6
+        ∙ (λ i. with_entry fact.line
+        (first_otherwise_by network (facts_of kept) (otherwise_stay i) fact line.out) (otherwise_stay i));
+    stops = p7 ∙ (λ i. with_entry fact.line (stop_entry (facts_of kept) (stops_stay i) fact) (stops_stay i));
   }

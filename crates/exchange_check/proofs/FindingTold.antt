@@ -79,13 +79,13 @@ module _ (network : Network) (report : Report) where
     at = slave network line earlier
 
     -- the lines of an exchange are there, and arrivals are arrivals
-    record Placed (x : Lined) : Type 0 where
-      sync : line_at network fed (line_number x.sync_arrival) ≡ Some x.sync_arrival
-      sync_arrives : is_arrival (event_of x.sync_arrival) ≡ true
-      request : line_at network fed (line_number x.request_arrival) ≡ Some x.request_arrival
-      request_arrives : is_arrival (event_of x.request_arrival) ≡ true
+    pub record Placed (x : Lined) : Type 0 where
+      pub sync : line_at network fed (line_number x.sync_arrival) ≡ Some x.sync_arrival
+      pub sync_arrives : is_arrival (event_of x.sync_arrival) ≡ true
+      pub request : line_at network fed (line_number x.request_arrival) ≡ Some x.request_arrival
+      pub request_arrives : is_arrival (event_of x.request_arrival) ≡ true
 
-    placed : (x : Lined) → all_lines network line earlier report ≡ Some x → Placed x
+    pub placed : (x : Lined) → all_lines network line earlier report ≡ Some x → Placed x
     placed x found =
         let parts = chain_parts network fed (sync_line network fed at report)
         (follow_lines network fed at report.follow_tag)

@@ -22,7 +22,9 @@ pub mod NotedTables
 pub mod SecondLeaves
 pub mod WrongReadings
 pub mod FirstReadings
+pub mod FirstOnJourneys
 pub mod FirstOctets
+pub mod FirstOtherwise
 pub mod WayStops
 pub mod Entries
 pub mod Evidenced
@@ -32,6 +34,7 @@ pub mod SaidIn
 pub mod MessagesTold
 pub mod FoundFindings
 pub mod FindingTold
+pub mod OtherwiseTold
 pub mod PlaceFound
 pub mod Twices
 pub mod TwiceLeft

@@ -1,6 +1,6 @@
 -- What is noted of lines beside what judges them: whatever is out of the ordinary. Each of these is a table by numbers
 -- of lines.
-use Rattle.std.specs.Prelude.{◌≡◌, ℕ, ◌||◌, not, List, [], ◌∷◌, ◌++◌, length, ◌&&◌, ◌==◌, is_some}
+use Rattle.std.specs.Prelude.{◌≡◌, ℕ, Bool, ◌||◌, not, List, [], ◌∷◌, ◌++◌, length, ◌&&◌, ◌==◌, is_some}
 use Rattle.std.specs.Prelude.{if◌then◌else◌, reverse, Option, Some, None, option_map, option_and_then}
 use Rattle.std.specs.Option.{option_or}
 use Rattle.std.specs.Result.{result_err}
@@ -17,13 +17,14 @@ use Rattle.trace_model.specs.declared.line.TraceLine.{TraceLine}
 use Rattle.trace_model.specs.declared.line.TraceOut.{TraceOut}
 use Rattle.trace_model.specs.declared.line.TraceOut.TheVariants as outs
 use Rattle.trace_model.specs.declared.verdict.Why.{Why}
-use Rattle.trace_model.specs.Line.{Lines, counts}
+use Rattle.trace_model.specs.Line.{Lines, counts, is_made}
 use Rattle.trace_model.specs.Record.{LinePlace, line_place, line_number, event_of, site, line_at, last_line, reads_right}
-use Rattle.trace_model.specs.Journey.{LineJourney, line_journey_of}
+use Rattle.trace_model.specs.Journey.{LineJourney, line_journey_of, line_journey_made}
 use Rattle.trace_model.specs.Octets.{writes_right}
-use Rattle.trace_model.specs.ByMessages.{by_messages}
+use Rattle.trace_model.specs.ByMessages.{by_messages, tells_right}
 use Rattle.trace_model.specs.Finding.{Stop, stop, finding, leave_of, reading_finding, stay_finding, stays_finding}
-use Rattle.trace_model.specs.Finding.{octets_finding, way_made, way_of}
+use Rattle.trace_model.specs.Finding.{octets_finding, way_made, way_of, first_of, of_exchange}
+use Rattle.trace_model.specs.Sound.{Exchange}
 use Rattle.exchange_check.specs.declared.evidence.Evidence.{Evidence}
 use Rattle.exchange_check.specs.declared.exceptions.Exceptions.{Exceptions}
 use Rattle.exchange_check.specs.declared.ways.Stop.{Stop as KeptStop}
@@ -97,6 +98,30 @@ abbrev pub journey_octets : Network → LineJourney → Option Finding
 journey_octets network journey =
     option_or (octets_finding network journey.origin) (stays_finding (λ s. octets_finding network s.left) journey.stays)
 
+-- a line made a message whose octets tell otherwise: in a field that a slave or a master reads
+abbrev pub tells_otherwise : Network → LinePlace → Bool
+tells_otherwise network e = is_made e.line.out && not (tells_right network e)
+
+abbrev pub otherwise_finding : Network → LinePlace → Option Finding
+otherwise_finding network e = if tells_otherwise network e then Some (findings.OtherOctets (line_number e)) else None
+
+-- the first such message on a journey
+abbrev pub journey_otherwise : Network → LineJourney → Option Finding
+journey_otherwise network journey =
+    option_or (otherwise_finding network journey.origin) (stays_finding (λ s. otherwise_finding network s.left) journey.stays)
+
+-- the first such message on the journey of the copy that a line made; a line whose message has none stands for itself
+abbrev pub made_otherwise : Network → LinePlace → Option LineJourney → Option Finding
+made_otherwise network e None = otherwise_finding network e
+made_otherwise network e (Some journey) = journey_otherwise network journey
+
+-- the first such message of an exchange: the Sync as it was sent and as it left each clock, its Follow_Up, the
+-- Delay_Req in the same way, the Delay_Resp
+abbrev pub exchange_otherwise : Network → Exchange → (sync request : LineJourney) → Option Finding
+exchange_otherwise network x sync request = first_of (
+    journey_otherwise network sync ∷ option_and_then (otherwise_finding network) x.follow
+    ∷ journey_otherwise network request ∷ otherwise_finding network x.request_arrival ∷ [])
+
 -- where the journey stops of a copy that left a clock at a line
 abbrev pub stop_made : Network → LinePlace → Option Stop
 stop_made network e =
@@ -113,6 +138,11 @@ first_readings_at network lines copy = option_and_then (journey_readings network
 abbrev pub first_octets_at : Network → Lines → Table Finding
 first_octets_at network lines copy = option_and_then (journey_octets network) (line_journey_of network lines copy)
 
+abbrev pub first_otherwise_at : Network → Lines → Table Finding
+first_otherwise_at network lines copy = option_and_then
+    (λ e. made_otherwise network e (line_journey_made network (event_of e) e (line_journey_of network e.earlier)))
+    (line_at network lines copy)
+
 abbrev pub stops_at : Network → Lines → Table Stop
 stops_at network lines copy = option_and_then (stop_made network) (line_at network lines copy)
 
@@ -124,6 +154,7 @@ pub record Noted : Type 0 where
   pub seconds : Table ℕ
   pub first_readings : Table Finding
   pub first_octets : Table Finding
+  pub first_otherwise : Table Finding
   pub stops : Table Stop
 
 -- of lines, newest first
@@ -135,6 +166,7 @@ noted network lines = record {
   seconds = second_leaves network lines;
   first_readings = first_readings_at network lines;
   first_octets = first_octets_at network lines;
+  first_otherwise = first_otherwise_at network lines;
   stops = stops_at network lines;
 }
 
@@ -159,6 +191,7 @@ told_by exceptions = record {
   seconds = get nat_cmp exceptions.seconds;
   first_readings = get nat_cmp exceptions.first_readings;
   first_octets = λ n. option_map findings.OtherOctets (get nat_cmp exceptions.first_octets n);
+  first_otherwise = λ n. option_map findings.OtherOctets (get nat_cmp exceptions.first_otherwise n);
   stops = stops_in (get nat_cmp exceptions.stops);
 }
 
@@ -183,3 +216,9 @@ last_finding network (line ∷ earlier) report why = finding network (line_place
 abbrev pub last_by_messages : Network → Lines → Report → Option Results
 last_by_messages network [] report = None
 last_by_messages network (line ∷ earlier) report = by_messages network (line_place line earlier) report
+
+-- the first message of the exchange of a report of the last of these lines whose octets tell otherwise
+abbrev pub last_otherwise : Network → Lines → Report → Option Finding
+last_otherwise network [] report = None
+last_otherwise network (line ∷ earlier) report =
+    of_exchange network (line_place line earlier) report (exchange_otherwise network)

@@ -13,3 +13,4 @@ pub mod Finding
 pub mod PlaceFinding
 pub mod WayFinding
 pub mod Messages
+pub mod Otherwise

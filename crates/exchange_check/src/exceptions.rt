@@ -3,13 +3,17 @@
 ghost use Rattle.std.specs.Prelude.{◌≡◌, ◌∷◌, OnOk, option_map, Some, length};
 ghost use Rattle.std.specs.BTreeMap.{get};
 ghost use Rattle.std.specs.Ordering.{nat_cmp};
+ghost use Rattle.event_codec.specs.Profile.{contents_of};
+ghost use Rattle.network_model.specs.Kinds.{named_transit};
 ghost use Rattle.trace_model.specs.Line.{Lines};
+ghost use Rattle.trace_model.specs.ByMessages.{tells_message};
 ghost use Rattle.exchange_check.specs.Evidence.{octets_in, octets_told, stops_in, came_of, told_by, noted};
 ghost use Rattle.exchange_check.specs.Inner.Machine.{IsKept, machine};
 ghost use Rattle.exchange_check.specs.Inner.Machine.{facts_of, firsts_of};
 ghost use Rattle.exchange_check.specs.Inner.Noting.{with_entry, octets_entry, reading_entry, is_left_again, seconds_with};
 ghost use Rattle.exchange_check.specs.Inner.Noting.{reading_found, stay_found, first_reading_left, first_reading_by};
-ghost use Rattle.exchange_check.specs.Inner.Noting.{octets_found, first_octets_left, first_octets_by, stop_entry, slim};
+ghost use Rattle.exchange_check.specs.Inner.Noting.{octets_found, first_left, first_octets_by, stop_entry, slim};
+ghost use Rattle.exchange_check.specs.Inner.Noting.{first_otherwise_by, otherwise_found};
 ghost use Rattle.exchange_check.specs.Inner.Noting.{AreNone, NotesLine};
 
 use crate::facts::{Fact, Site};
@@ -18,11 +22,12 @@ use crate::kept_line::{Came, Uncounted, WrongReading};
 use crate::refusal::CheckFault;
 use crate::ways::Stop;
 use arrayvec::ArrayVec;
-use network_model::Nodes;
+use event_codec::PortMessage;
+use network_model::{Event, Nodes};
 use ptp_units::ScaledTime;
 use std::alloc::Global;
 use std::collections::BTreeMap;
-use trace_model::{Finding, TraceLine, TraceOut};
+use trace_model::{Finding, TraceLine, TraceOut, tells_same};
 
 /// What is out of the ordinary in the lines so far.
 #[derive(Drop)]
@@ -39,6 +44,9 @@ pub(crate) struct Exceptions {
     pub(crate) first_readings: BTreeMap<u64, Finding>,
     /// Of each copy on whose journey octets are wrong: the first line that has such.
     pub(crate) first_octets: BTreeMap<u64, u64>,
+    /// Of each message, the first on its journey whose octets tell otherwise, in a field that is read; one that has no journey
+    /// stands for itself.
+    pub(crate) first_otherwise: BTreeMap<u64, u64>,
     /// Of each copy that left a clock, and whose journey can't be followed: where it stops.
     pub(crate) stops: BTreeMap<u64, Stop>,
 }
@@ -111,6 +119,7 @@ impl Exceptions {
             seconds: BTreeMap::new(alloc),
             first_readings: BTreeMap::new(alloc),
             first_octets: BTreeMap::new(alloc),
+            first_otherwise: BTreeMap::new(alloc),
             stops: BTreeMap::new(alloc),
         }
     }
@@ -128,7 +137,7 @@ impl Exceptions {
     {
         let number = kept.last_number();
         match kept.at(number) {
-            Some(fact) => self.note_counted(kept, &kept.site_of(nodes, fact), fact, line),
+            Some(fact) => self.note_counted(nodes, kept, &kept.site_of(nodes, fact), fact, line),
             None => self.note_uncounted(number, line),
         }
     }
@@ -149,18 +158,20 @@ impl Exceptions {
     /// A line that counts, which was kept already. This is what is kept of its node.
     fn note_counted(
         &mut self,
+        nodes: &Nodes,
         kept: &Kept,
         site: &Site,
         fact: &Fact,
         line: &TraceLine,
     ) -> Result<(), CheckFault>
-        ensures { OnOk result (NotesLine kept.now site.now fact.now line.now self.old self.new) }
+        ensures { OnOk result (NotesLine nodes.now kept.now site.now fact.now line.now self.old self.new) }
     {
         self.note_octets(fact, &line.out)?;
         self.note_reading(site, fact, line.reading)?;
         self.note_leave(kept, fact)?;
         self.note_first_reading(kept, fact)?;
         self.note_first_octets(kept, fact)?;
+        self.note_first_otherwise(nodes, kept, fact, &line.out)?;
         self.note_stop(kept, fact)?;
         Ok(())
     }
@@ -208,6 +219,22 @@ impl Exceptions {
     {
         let found = self.first_octets(kept, fact);
         put(&mut self.first_octets, fact.line, found)
+    }
+
+    fn note_first_otherwise(
+        &mut self,
+        nodes: &Nodes,
+        kept: &Kept,
+        fact: &Fact,
+        out: &TraceOut,
+    ) -> Result<(), CheckFault>
+        ensures first_otherwise { OnOk result (get nat_cmp self.new.first_otherwise
+            ≡ with_entry fact.now.line (first_otherwise_by nodes.now (facts_of kept.now)
+            (get nat_cmp self.old.first_otherwise) fact.now out.now) (get nat_cmp self.old.first_otherwise)) }
+        ensures others { self.new ≡ record self.old { first_otherwise = self.new.first_otherwise } }
+    {
+        let found = self.first_otherwise(nodes, kept, fact, out);
+        put(&mut self.first_otherwise, fact.line, found)
     }
 
     fn note_stop(&mut self, kept: &Kept, fact: &Fact) -> Result<(), CheckFault>
@@ -309,18 +336,6 @@ impl Exceptions {
         }
     }
 
-    /// The first line with wrong octets on the journey of a copy that left a clock after this stay.
-    fn first_octets_left(&self, kept: &Kept, left: &Fact, transit: u64) -> Option<u64>
-        ensures { result ≡ first_octets_left (facts_of kept.now) (get nat_cmp self.now.first_octets) left.now
-            (Some transit) }
-    {
-        let copy = kept.at(transit)?.event.entered_copy()?;
-        match self.first_octets.get(&copy) {
-            Some(first) => Some(*first),
-            None => octets_found(left),
-        }
-    }
-
     /// The first line with wrong octets on the journey of the copy that a line made.
     fn first_octets(&self, kept: &Kept, fact: &Fact) -> Option<u64>
         ensures { result ≡ first_octets_by (facts_of kept.now) (get nat_cmp self.now.first_octets) fact.now }
@@ -328,10 +343,44 @@ impl Exceptions {
         if fact.journey.is_none() {
             return None;
         }
-        match fact.event.named_transit() {
-            Some(transit) => self.first_octets_left(kept, fact, transit),
-            None => octets_found(fact),
+        first_left(kept, &self.first_octets, octets_found(fact), &fact.event)
+    }
+
+    /// The first line whose octets tell otherwise, on the journey of the message that a line made or of that line alone.
+    fn first_otherwise(
+        &self,
+        nodes: &Nodes,
+        kept: &Kept,
+        fact: &Fact,
+        out: &TraceOut,
+    ) -> Option<u64>
+        ensures { result ≡ first_otherwise_by nodes.now (facts_of kept.now) (get nat_cmp self.now.first_otherwise)
+            fact.now out.now }
+    {
+        let own = otherwise_found(nodes, kept, fact, out);
+        if fact.journey.is_none() {
+            return own;
         }
+        first_left(kept, &self.first_otherwise, own, &fact.event)
+    }
+}
+
+/// The first line on the journey of a copy, by the first of those that were before it and by what is found of its own line.
+fn first_left(
+    kept: &Kept,
+    firsts: &BTreeMap<u64, u64>,
+    own: Option<u64>,
+    event: &Event,
+) -> Option<u64>
+    ensures { result ≡ first_left (facts_of kept.now) (get nat_cmp firsts.now) own (named_transit event.now) }
+{
+    let Some(transit) = event.named_transit() else {
+        return own;
+    };
+    let copy = kept.at(transit)?.event.entered_copy()?;
+    match firsts.get(&copy) {
+        Some(first) => Some(*first),
+        None => own,
     }
 }
 
@@ -340,6 +389,30 @@ fn octets_found(fact: &Fact) -> Option<u64>
     ensures { result ≡ octets_found fact.now }
 {
     if fact.writes_right {
+        None
+    } else {
+        Some(fact.line)
+    }
+}
+
+/// Whether octets that a line made tell the same as this message.
+fn tells_message(message: &Option<PortMessage>, out: &TraceOut) -> bool
+    ensures { result ≡ tells_message (option_map contents_of message.now) out.now }
+{
+    let Some(message) = message else {
+        return false;
+    };
+    match out {
+        TraceOut::Made(octets) => tells_same(&message.message(), octets.as_slice()),
+        _ => false,
+    }
+}
+
+/// The line, where it made a message whose octets tell otherwise.
+fn otherwise_found(nodes: &Nodes, kept: &Kept, fact: &Fact, out: &TraceOut) -> Option<u64>
+    ensures { result ≡ otherwise_found nodes.now (facts_of kept.now) fact.now out.now }
+{
+    if fact.writes_right || !fact.made || tells_message(&kept.message_at(nodes, fact.line), out) {
         None
     } else {
         Some(fact.line)

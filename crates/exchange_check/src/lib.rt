@@ -16,6 +16,7 @@ mod kept;
 mod kept_line;
 mod lookup;
 mod octets;
+mod otherwise;
 mod place_finding;
 mod refusal;
 mod residence;

@@ -15,6 +15,7 @@ use Rattle.trace_model.specs.declared.finding.Finding.TheVariants as findings
 use Rattle.trace_model.specs.declared.finding.Lack.TheVariants.{NotBefore, CameToNothing, OtherEvent}
 use Rattle.trace_model.specs.declared.line.TraceLine.{TraceLine}
 use Rattle.trace_model.specs.declared.line.TraceOut.{TraceOut}
+use Rattle.trace_model.specs.ByMessages.{tells_message}
 use Rattle.trace_model.specs.Finding.{Stop, stop}
 use Rattle.exchange_check.specs.declared.facts.Fact.{Fact}
 use Rattle.exchange_check.specs.declared.facts.Site.{Site}
@@ -99,16 +100,28 @@ first_reading_by facts readings firsts fact =
 abbrev pub octets_found : Fact → Option ℕ
 octets_found fact = if fact.writes_right then None else Some fact.line
 
-abbrev pub first_octets_left : Facts → Table ℕ → Fact → Option ℕ → Option ℕ
-first_octets_left facts firsts left None = octets_found left
-first_octets_left facts firsts left (Some transit) =
-    option_and_then (λ entered.
-    option_and_then (λ copy. option_or (firsts copy) (octets_found left)) (entered_copy entered.event))
+-- the first line on a journey, from the first before and from what is found of the last line itself
+abbrev pub first_left : Facts → Table ℕ → (own : Option ℕ) → Option ℕ → Option ℕ
+first_left facts firsts own None = own
+first_left facts firsts own (Some transit) =
+    option_and_then (λ entered. option_and_then (λ copy. option_or (firsts copy) own) (entered_copy entered.event))
     (facts transit)
 
 abbrev pub first_octets_by : Facts → Table ℕ → Fact → Option ℕ
 first_octets_by facts firsts fact =
-    if is_some fact.journey then first_octets_left facts firsts fact (named_transit fact.event) else None
+    if is_some fact.journey then first_left facts firsts (octets_found fact) (named_transit fact.event) else None
+
+-- octets that tell otherwise than the message of their line; a message that has no journey is one by itself
+abbrev pub otherwise_found : Network → Facts → Fact → TraceOut → Option ℕ
+otherwise_found network facts fact out =
+    if fact.writes_right || not fact.made || tells_message (message_at_by network facts fact.line) out then None
+    else Some fact.line
+
+abbrev pub first_otherwise_by : Network → Facts → Table ℕ → Fact → TraceOut → Option ℕ
+first_otherwise_by network facts firsts fact out =
+    if is_some fact.journey
+    then first_left facts firsts (otherwise_found network facts fact out) (named_transit fact.event)
+    else otherwise_found network facts fact out
 
 -- where the journey of a copy stops, which a line names
 abbrev pub stop_made_by : Table Stop → (by copy : ℕ) → Event → Option Stop
@@ -167,10 +180,12 @@ pub record AreNone (e : Exceptions) : Type 0 where
   pub seconds : get nat_cmp e.seconds ≡ (λ n. None)
   pub first_readings : get nat_cmp e.first_readings ≡ (λ n. None)
   pub first_octets : get nat_cmp e.first_octets ≡ (λ n. None)
+  pub first_otherwise : get nat_cmp e.first_otherwise ≡ (λ n. None)
   pub stops : get nat_cmp e.stops ≡ (λ n. None)
 
 -- what is noted of a line that counts
-pub record NotesLine (kept : Kept) (site : Site) (fact : Fact) (line : TraceLine) (old new : Exceptions) : Type 0 where
+pub record NotesLine (network : Network) (kept : Kept) (site : Site) (fact : Fact) (line : TraceLine)
+    (old new : Exceptions) : Type 0 where
   pub octets : octets_told new
       ≡ with_entry fact.line (octets_entry fact line.out) (octets_told old)
   pub readings : get nat_cmp new.readings
@@ -183,6 +198,9 @@ pub record NotesLine (kept : Kept) (site : Site) (fact : Fact) (line : TraceLine
   pub first_octets : get nat_cmp new.first_octets
       ≡ with_entry fact.line (first_octets_by (facts_of kept) (get nat_cmp old.first_octets) fact)
       (get nat_cmp old.first_octets)
+  pub first_otherwise : get nat_cmp new.first_otherwise
+      ≡ with_entry fact.line (first_otherwise_by network (facts_of kept) (get nat_cmp old.first_otherwise) fact line.out)
+      (get nat_cmp old.first_otherwise)
   pub stops : stops_in (get nat_cmp new.stops)
       ≡ with_entry fact.line (stop_entry (facts_of kept) (stops_in (get nat_cmp old.stops)) fact)
       (stops_in (get nat_cmp old.stops))

@@ -11,5 +11,6 @@ returns c network = λ i. record {
   seconds = c.new.ensures.seconds i;
   first_readings = c.new.ensures.first_readings i;
   first_octets = none-told findings.OtherOctets _ c.new.ensures.first_octets i;
+  first_otherwise = none-told findings.OtherOctets _ c.new.ensures.first_otherwise i;
   stops = none-told stop_told _ c.new.ensures.stops i;
 }
