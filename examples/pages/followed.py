@@ -49,7 +49,7 @@ class Crossings:
 
     TOOL, WATCHED, LINE = 'follow', 'followed', 'crossing of ptpx follow'
     HEAD = 'time,kind,number,taken_ns,corrected_ns,rest_ns'
-    EMPTY = 'There is no crossing: no Sync and no Delay_Req was met at both taps.'
+    EMPTY = 'There is no crossing: no Sync and no Delay_Req was met at both taps with all that belongs to it.'
     ABOUT = ('<p id="words">Taken is how long a message was on its way from tap to tap, corrected is what its corrections tell of that, and rest is taken less '
              'corrected: the cables between the taps, what a clock there told wrong, by how much the taps\' own clocks differ, and what their stamps are '
              'wrong.</p>')

@@ -102,7 +102,7 @@ def watched_part(content, said):
 
 
 def when(content):
-    """From when to when there is something, of what has times."""
+    """From when to when there is something; what has no times tells how much there is."""
     if not content.series:
         return content.when()
     first, last = time_range(content.series)

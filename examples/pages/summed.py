@@ -4,14 +4,14 @@ from fractions import Fraction
 
 from pages.followed import Crossings, asymmetry_part, lost_part
 from pages.sheet import cell, columns_table, rounded_length
-from pages.values import LENGTH, exact, half_units
+from pages.values import LENGTH, counted, exact, half_units
 
 KINDS = (('sync', 'sync', 'Sync'), ('delay_req', 'delay', 'Delay_Req'))
 COLUMNS = 'taken', 'corrected', 'rest'
 ROWS = 'crossings', 'mean, ns', 'least, ns', 'greatest, ns', 'greatest step, ns'
-TOLD = ('Least, greatest and step are exact. Means and the two numbers above are those of the lines, which are rounded to 2^-16 ns, half to even, and here to '
-        'three decimals. The greatest step is that of the rest from one crossing to the next. Medians, distributions and pictures over time are of the lines '
-        'that follow writes without --sum.')
+TOLD = ('Least, greatest and step are exact. Means, asymmetry and mean rest are those of the lines, which are rounded to 2^-16 ns, half to even, and here to '
+        'three decimals. The greatest step is the greatest change of the rest, without its sign, from one crossing to the next whose record closed. Medians, '
+        'standard deviations, distributions and pictures over time are of the lines that follow writes without --sum.')
 
 
 def length_of(text):
@@ -88,7 +88,7 @@ class Sums:
         return self.title()
 
     def when(self):
-        return f'<p>{" and ".join(f"{it.count} {it.one if it.count == 1 else it.more}" for it in self.ways)}.</p>'
+        return f'<p>{" and ".join(counted(it.count, it.one, it.more) for it in self.ways)}.</p>'
 
     def parts(self, said):
         without = [it.one for it in self.ways if not it.count]
