@@ -488,6 +488,7 @@ def judged(exchange):
         'event': last['n'],
         'line': len(NODES) + last['n'] + 1,
         'node': 'S',
+        'octets': 'told' if any(way.read for way in exchange.case.ways) else 'other',
         **pair(exchange.reported),
         'reasons': [706, 708] if wrong else [708],
         'tags': last['tags'],

@@ -74,10 +74,10 @@ verdict: refused event 13: 706
 JUDGED = (
     '{"by_messages":{"offset2":"131072000","path2":"131072000"},"by_readings":{"offset2":"131072000","path2":"131072000"},'
     '"error":{"by_messages":{"offset":"0.00000762939453125","path":"0"},"by_readings":{"offset":"0.00000762939453125","path":"0"}},'
-    '"event":13,"line":17,"node":"S","offset2":"131072001","path2":"131072000","reasons":[706],"tags":[5,7,8,13],"time":[2,1000,0]}\n')
+    '"event":13,"line":17,"node":"S","octets":null,"offset2":"131072001","path2":"131072000","reasons":[706],"tags":[5,7,8,13],"time":[2,1000,0]}\n')
 JUDGED_SOUND = (
     '{"by_messages":{"offset2":"131072000","path2":"131072000"},"by_readings":{"offset2":"131072000","path2":"131072000"},'
-    '"error":null,"event":13,"line":17,"node":"S","offset2":"131072000","path2":"131072000","reasons":[],"tags":[5,7,8,13],'
+    '"error":null,"event":13,"line":17,"node":"S","octets":null,"offset2":"131072000","path2":"131072000","reasons":[],"tags":[5,7,8,13],'
     '"time":[2,1000,0]}\n')
 SOUND = 'event 13, line 17, slave S: sound\n1 report: 1 sound\nverdict: accepted 1\n'
 
@@ -252,6 +252,10 @@ MET = [
     (7, '"transit":3', '"transit":2',
      refused(13, 17, 704) +
      '    the journey of the Sync stops at event 4, line 8: it names event 2, line 6, a sync at M, which is no enter of this clock\n'
+     '1 report: 0 sound\n'),
+    (12, '"copy":8', '"copy":2',
+     refused(13, 17, 704) +
+     '    the journey of the Delay_Req stops at event 9, line 13: it names event 2, line 6, a sync at M, which sent no such message\n'
      '1 report: 0 sound\n'),
     (13, '"transit":9', '"transit":3',
      refused(13, 17, 704) +
@@ -733,7 +737,7 @@ other octets than a port or a clock writes: 1 of 6 messages
 """),
             (300, 0, """\
 can't be followed back to where it was sent, or a stay on it was left twice
-    the journey of the Sync doesn't stop in its last 256 stays; those before them weren't looked at
+    the journey of the Sync stops at event 2, line 6: it names event 0, line 4, a setmaster at S, which sent no such message
 """),
         ]:
             with self.subTest(stays=stays):
@@ -744,6 +748,20 @@ can't be followed back to where it was sent, or a stay on it was left twice
     def test_tells_how_much_of_a_journey_was_looked_at(self):
         output = explain(changed(staying(300, 1), ('"hex":"0812', '"hex":"0802'))).output
         self.assertIn('    of the journey of the Sync only the last 256 stays were looked at\n', output)
+
+    def test_tells_what_is_wrong_first_before_the_stays_that_are_looked_at(self):
+        lines = staying(300, 1).splitlines(True)
+        for old, new, said in [
+            ('"hex":"0012', '"hex":"1012', 'octet 0 from 0, in majorSdoId and messageType, is 10; wanted is 00'),
+            ('"reading":[1,0,0]', '"reading":[1,5,0]',
+             'read is 1.000000005, the true moment is 1.000000000, and they differ by 5 ns; wanted is 0 ns, since no event set the clock'),
+        ]:
+            with self.subTest(old=old, new=new):
+                output = explain(changed(lines, (old, new), place=14)).output
+                self.assertIn(f"""
+    event 11, line 15, a leave at T: {said}
+    of the journey of the Sync only the last 256 stays were looked at
+""", output)
 
 
 if __name__ == '__main__':

@@ -16,7 +16,7 @@ ASIDE = re.compile(r'were octets left aside \(708\), ([0-9]+) of ([0-9]+) report
 RIGHT = re.compile(r'right by the (?:messages \(the device\)|readings \(device and network\)): ([0-9]+) of ([0-9]+) reports?')
 # In place of that, where a field that is read differs in so many messages.
 READ = re.compile(r"octets can't be left aside \(708\): a field that a slave or a master reads differs in [1-9][0-9]* messages?")
-KEYS = ['by_messages', 'by_readings', 'error', 'event', 'line', 'node', 'offset2', 'path2', 'reasons', 'tags', 'time']
+KEYS = ['by_messages', 'by_readings', 'error', 'event', 'line', 'node', 'octets', 'offset2', 'path2', 'reasons', 'tags', 'time']
 ALONE = [701, 704]
 TOGETHER = [702, 703, 705, 707, 706, 708]
 
@@ -75,6 +75,10 @@ def judgements(output):
                 wrong.append(f'no {key} with reasons {reasons}')
             if judged[key] is not None and judged['by_readings'] is None:
                 wrong.append(f'{key} {judged[key]} with reasons {reasons}')
+        if (judged['octets'] in ('told', 'other')) != (708 in reasons) or judged['octets'] not in (None, 'told', 'other'):
+            wrong.append(f'octets {judged["octets"]} with reasons {reasons}')
+        if judged['octets'] == 'other' and 702 not in reasons and 707 not in reasons and judged['by_messages'] != judged['by_readings']:
+            wrong.append(f'other octets, and results by the messages {judged["by_messages"]}')
         wrong += wrong_errors(judged)
         same = judged['by_readings'] == {key: judged[key] for key in ('offset2', 'path2')}
         if judged['by_readings'] and same == (706 in reasons):

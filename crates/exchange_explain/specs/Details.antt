@@ -1,13 +1,18 @@
--- What is told of the report of a line beside its judgement: its results by the messages, and when it was.
-use Rattle.std.specs.Prelude.{ℕ, [], ◌∷◌, nat_lt, if◌then◌else◌, Option, None, option_map, option_and_then}
+-- What is told of the report of a line beside its judgement: its results by the messages, in which fields octets differ
+-- that it rests on, and when it was.
+use Rattle.std.specs.Prelude.{ℕ, [], ◌∷◌, nat_lt, if◌then◌else◌, Option, Some, None, option_map, option_and_then}
 use Rattle.slave_port.specs.declared.heard.Report.{Report}
 use Rattle.network_model.specs.Kinds.{draws_sync, is_request}
 use Rattle.network_model.specs.Network.{Network}
+use Rattle.trace_model.specs.declared.finding.Finding.{Finding}
+use Rattle.trace_model.specs.declared.verdict.Why.TheVariants.{Bytes}
 use Rattle.trace_model.specs.Line.{Lines}
 use Rattle.trace_model.specs.Record.{LinePlace, line_number, line_place, reading, site}
 use Rattle.trace_model.specs.Sound.{Exchange, exchange_of, unbroken}
-use Rattle.exchange_check.specs.Evidence.{last_by_messages}
+use Rattle.exchange_check.specs.Evidence.{last_by_messages, last_finding, last_otherwise}
 use Rattle.exchange_explain.specs.declared.details.Details.{Details}
+use Rattle.exchange_explain.specs.declared.details.Octets.{Octets}
+use Rattle.exchange_explain.specs.declared.details.Octets.TheVariants.{Told, Other}
 use Rattle.exchange_explain.specs.declared.input.Input.{Input}
 use Rattle.exchange_explain.specs.declared.input.Input.TheVariants.{Transcript, Schedule}
 
@@ -31,10 +36,21 @@ abbrev pub last_time : Network → Lines → Report → Option ℕ
 last_time network [] report = None
 last_time network (line ∷ earlier) report = time_of network (line_place line earlier) report
 
+-- in which fields octets differ that aren't right, by the first message of an exchange that has one otherwise which is
+-- read
+abbrev pub fields_of : (otherwise : Option Finding) → Octets
+fields_of None = Other
+fields_of (Some otherwise) = Told
+
+-- the same, by the first message whose octets aren't right, too; nothing where all are right
+abbrev pub octets_of : (wrong otherwise : Option Finding) → Option Octets
+octets_of wrong otherwise = option_map (λ finding. fields_of otherwise) wrong
+
 -- what is told of a report of the last line of an input beside its judgement; nothing of a schedule
 abbrev pub details_of : Input → Report → Details
 details_of (Transcript state) report = record {
   by_messages = last_by_messages state.nodes state.lines report;
+  octets = octets_of (last_finding state.nodes state.lines report Bytes) (last_otherwise state.nodes state.lines report);
   time = last_time state.nodes state.lines report;
 }
-details_of (Schedule state) report = record { by_messages = None; time = None }
+details_of (Schedule state) report = record { by_messages = None; octets = None; time = None }

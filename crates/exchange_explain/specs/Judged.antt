@@ -12,6 +12,8 @@ use Rattle.trace_model.specs.declared.verdict.Why.{Why}
 use Rattle.trace_model.specs.Refusal.{code_of}
 use Rattle.schedule_reading.specs.declared.transcript.Judged.{Judged}
 use Rattle.exchange_explain.specs.declared.details.Details.{Details}
+use Rattle.exchange_explain.specs.declared.details.Octets.{Octets}
+use Rattle.exchange_explain.specs.declared.details.Octets.TheVariants.{Told, Other}
 
 -- two results, or null
 abbrev pub results_text : Option Results → List ℕ
@@ -68,6 +70,12 @@ abbrev pub follow_text : Option ℕ → List ℕ
 follow_text None = codes "null"
 follow_text (Some tag) = decimal tag
 
+-- in which fields octets differ, or null
+abbrev pub octets_text : Option Octets → List ℕ
+octets_text None = codes "null"
+octets_text (Some Told) = codes "\"told\""
+octets_text (Some Other) = codes "\"other\""
+
 -- a moment `[s,n,f]`, in seconds, nanoseconds and 2^-16 ns, or null
 abbrev pub time_text : Option ℕ → List ℕ
 time_text None = codes "null"
@@ -83,13 +91,14 @@ owed_text judged details =
     ++ codes ",\"error\":" ++ error_text (is_wrong judged.report judged.judgement.by_readings)
     (errors_against judged.report details.by_messages) (errors_against judged.report judged.judgement.by_readings)
 
--- where a report stands, and its two results
-abbrev pub reported_text : Judged → List ℕ
-reported_text judged =
+-- where a report stands, in which fields octets differ that it rests on, and its two results
+abbrev pub reported_text : Judged → Details → List ℕ
+reported_text judged details =
     codes ",\"event\":" ++ decimal judged.event
     ++ codes ",\"line\":" ++ decimal judged.line
     ++ codes ",\"node\":\"" ++ judged.node
-    ++ codes "\",\"offset2\":\"" ++ signed_decimal judged.report.offset2
+    ++ codes "\",\"octets\":" ++ octets_text details.octets
+    ++ codes ",\"offset2\":\"" ++ signed_decimal judged.report.offset2
     ++ codes "\",\"path2\":\"" ++ signed_decimal judged.report.path2 ++ codes "\""
 
 -- the reasons against a report, its tags, and when it was
@@ -105,4 +114,4 @@ reasons_text judged details =
 
 -- what a report is judged to be, and what is told of it beside that, in one line
 abbrev pub judged_text : Judged → Details → List ℕ
-judged_text judged details = owed_text judged details ++ (reported_text judged ++ reasons_text judged details)
+judged_text judged details = owed_text judged details ++ (reported_text judged details ++ reasons_text judged details)

@@ -1,22 +1,35 @@
 //! What is told of a report beside its judgement.
 ghost use Rattle.std.specs.Prelude.{◌≡◌, MatchResult, reverse};
+ghost use Rattle.trace_model.specs.declared.verdict.Why.TheVariants.{Bytes};
+ghost use Rattle.exchange_check.specs.Evidence.{Evidences, last_finding, last_otherwise};
 ghost use Rattle.schedule_reading.specs.declared.fault.TaskFault.TheVariants.{Memory};
-ghost use Rattle.exchange_explain.specs.Details.{details_of, last_time};
+ghost use Rattle.exchange_explain.specs.Details.{details_of, fields_of, last_time, octets_of};
 ghost use Rattle.exchange_explain.specs.Inner.Noting.{Enters, IsNotedIn};
 ghost use Rattle.exchange_explain.specs.Inner.Times.{later_reading};
 
 use crate::input::{Input, Taken};
-use exchange_check::{Checker, Evidence, ExchangeLine, Results};
+use exchange_check::{Checker, Evidence, ExchangeLine, Finding, Results, Why};
 use network_model::Report;
 use ptp_units::ScaledTime;
 use schedule_lines::TranscriptLine;
 use schedule_reading::TaskFault;
+
+/// In which fields octets differ of messages that a report rests on, where they aren't right (708).
+#[derive(Clone, Copy, Debug, PartialEq, Eq)]
+pub enum Octets {
+    /// In one at least that a slave or a master reads.
+    Told,
+    /// In others alone, which nobody here reads.
+    Other,
+}
 
 /// What is told of a report beside its judgement.
 #[derive(Clone, Copy, Debug)]
 pub struct Details {
     /// Its results by the messages.
     pub by_messages: Option<Results>,
+    /// In which fields octets of its messages differ; none where 708 doesn't stand against it.
+    pub octets: Option<Octets>,
     /// What its slave read at the last of its two event messages, as the Sync came or as the Delay_Req left.
     pub time: Option<ScaledTime>,
 }
@@ -24,6 +37,7 @@ pub struct Details {
 /// Nothing is told.
 const NOTHING: Details = Details {
     by_messages: None,
+    octets: None,
     time: None,
 };
 
@@ -73,6 +87,28 @@ fn last_time(checker: &Checker, report: &Report) -> Option<ScaledTime>
     }
 }
 
+/// In which fields octets differ that aren't right, by the first message that has one otherwise which is read.
+fn fields_of(otherwise: Option<Finding>) -> Octets
+    ensures { result ≡ fields_of otherwise }
+{
+    match otherwise {
+        Some(_) => Octets::Told,
+        None => Octets::Other,
+    }
+}
+
+/// In which fields octets differ of the messages of a report of the line that was noted last.
+fn octets_of(evidence: &Evidence, checker: &Checker, report: &Report) -> Option<Octets>
+    ensures { Evidences evidence.now checker.now → result ≡ octets_of
+        (last_finding checker.now.network (reverse checker.now.lines) report.now Bytes)
+        (last_otherwise checker.now.network (reverse checker.now.lines) report.now) }
+{
+    match evidence.finding(checker, report, Why::Bytes) {
+        Some(_) => Some(fields_of(evidence.first_otherwise(checker, report))),
+        None => None,
+    }
+}
+
 /// What is told of a report of the last line beside its judgement, by what was noted of each line.
 pub(crate) fn details_of(evidence: &Evidence, input: &Input, report: &Report) -> Details
     ensures { IsNotedIn evidence.now input.now → result ≡ details_of input.now report.now }
@@ -81,6 +117,7 @@ pub(crate) fn details_of(evidence: &Evidence, input: &Input, report: &Report) ->
         Input::Transcript(transcript) => match transcript.checker() {
             Some(checker) => Details {
                 by_messages: evidence.by_messages(checker, report),
+                octets: octets_of(evidence, checker, report),
                 time: last_time(checker, report),
             },
             None => NOTHING,

@@ -2,10 +2,10 @@
 ghost use Rattle.std.specs.Prelude.{◌≡◌, ◌++◌, OnOk, Some};
 ghost use Rattle.std.specs.String.{string_bytes};
 ghost use Rattle.exchange_explain.specs.Judged.{codes_text, difference, errors_against, errors_text, error_text};
-ghost use Rattle.exchange_explain.specs.Judged.{follow_text, is_wrong, judged_text, owed_text, reasons_text};
+ghost use Rattle.exchange_explain.specs.Judged.{follow_text, is_wrong, judged_text, octets_text, owed_text, reasons_text};
 ghost use Rattle.exchange_explain.specs.Judged.{reported_text, results_text, time_text};
 
-use crate::details::Details;
+use crate::details::{Details, Octets};
 use exchange_check::{Results, Why};
 use network_model::Report;
 use ptp_units::{Nanoseconds, ScaledTime};
@@ -109,6 +109,22 @@ impl Display for FollowTag {
     }
 }
 
+/// In which fields octets differ, or null.
+#[derive(Clone, Copy)]
+struct Fields(Option<Octets>);
+
+impl Display for Fields {
+    ghost output = { λ fields. Some (octets_text fields.0) };
+
+    fn fmt<W: fmt::Write>(&self, f: &mut Formatter<W>) -> fmt::Result {
+        match self.0 {
+            Some(Octets::Told) => f.write_str("\"told\""),
+            Some(Octets::Other) => f.write_str("\"other\""),
+            None => f.write_str("null"),
+        }
+    }
+}
+
 /// A moment as it stands in a transcript, or null.
 #[derive(Clone, Copy)]
 struct Time(Option<ScaledTime>);
@@ -185,18 +201,22 @@ fn push_owed(text: &mut String, judged: &Judged, details: &Details) -> Result<()
     write!(text, "{}", error_of(judged, details))
 }
 
-/// Appends where a report stands, and its two results.
-fn push_reported(text: &mut String, judged: &Judged) -> Result<(), AllocError>
-    ensures { OnOk result (string_bytes text.new ≡ string_bytes text.old ++ reported_text judged.now) }
+/// Appends where a report stands, in which fields octets differ that it rests on, and its two results.
+fn push_reported(text: &mut String, judged: &Judged, details: &Details) -> Result<(), AllocError>
+    ensures { OnOk result (string_bytes text.new ≡ string_bytes text.old ++ reported_text judged.now details.now) }
 {
     write!(
         text,
-        ",\"event\":{},\"line\":{},\"node\":\"{}\",\"offset2\":\"{}\",\"path2\":\"{}\"",
+        ",\"event\":{},\"line\":{},\"node\":\"{}\",\"octets\":{}",
         judged.event,
         judged.line,
         judged.node.text(),
-        judged.report.offset2,
-        judged.report.path2
+        Fields(details.octets)
+    )?;
+    write!(
+        text,
+        ",\"offset2\":\"{}\",\"path2\":\"{}\"",
+        judged.report.offset2, judged.report.path2
     )
 }
 
@@ -226,6 +246,6 @@ pub(crate) fn push_judged(
     ensures { OnOk result (string_bytes text.new ≡ string_bytes text.old ++ judged_text judged.now details.now) }
 {
     push_owed(text, judged, details)?;
-    push_reported(text, judged)?;
+    push_reported(text, judged, details)?;
     push_reasons(text, judged, details)
 }

@@ -11,7 +11,7 @@ mod json;
 mod judgements;
 mod schedule;
 
-pub use details::Details;
+pub use details::{Details, Octets};
 pub use explaining::{Explained, explain};
 pub use input::Found;
 pub use judgements::write_judgements;

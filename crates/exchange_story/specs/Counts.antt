@@ -1,12 +1,13 @@
 -- How many reports there are, how many fail which conditions, and what is told of that.
 use Rattle.std.specs.Prelude.{◌≡◌, ℕ, ◌+◌, ◌-◌, ◌^◌, ◌==◌, ◌&&◌, min, nat_lt, Bool, true, false, List, [], ◌∷◌, ◌++◌}
-use Rattle.std.specs.Prelude.{length, map, count_by, slice_index, codes, if◌then◌else◌, not, ⊤}
+use Rattle.std.specs.Prelude.{length, map, count_by, slice_index, codes, if◌then◌else◌, not}
 use Rattle.std.specs.List.{list_any}
 use Rattle.std.specs.Fmt.{decimal}
 use Rattle.trace_model.specs.declared.verdict.Why.{Why}
 use Rattle.trace_model.specs.declared.verdict.Why.TheVariants.{NoSuchLine, OtherNumber, OtherMaster, BrokenJourney}
 use Rattle.trace_model.specs.declared.verdict.Why.TheVariants.{WrongReading, WrongValue, TooBig, Bytes}
 use Rattle.trace_model.specs.Refusal.{code_of, words_of}
+use Rattle.exchange_story.specs.Lines.{are_lines}
 
 -- all reasons, in the order in which they are told
 abbrev pub told_reasons : List Why
@@ -128,9 +129,20 @@ counts_text counts by_messages messages =
     else (reports_text counts ++ (failing_lines (against counts) told_reasons
     ++ (right_text counts by_messages ++ aside_text counts messages)))
 
--- lines on the messages that have other octets, by whether octets stand against a report: none where they don't
+-- the line that says how many of so many messages have other octets
+abbrev pub other_octets_text : (others messages : ℕ) → List ℕ
+other_octets_text others messages =
+    codes "other octets than a port or a clock writes: " ++ decimal others ++ codes " of " ++ decimal messages
+    ++ codes " messages\n"
+
+-- what is told of the messages that have other octets, by whether octets stand against a report: how many they are said to be
+-- of how many messages, in front of that lines on fields that are read and behind it lines on where they differ, all of which
+-- begin with two blanks; nothing where they don't
 abbrev pub TellsMessages : Bool → List ℕ → Type 0
-TellsMessages true text = ⊤
+TellsMessages true text =
+    (fields : List ℕ) × (others : ℕ) × (messages : ℕ) × (places : List ℕ)
+    × (are_lines (codes "  ") fields ≡ true) × (are_lines (codes "  ") places ≡ true)
+    × (text ≡ fields ++ (other_octets_text others messages ++ places))
 TellsMessages false text = text ≡ []
 
 -- the word for so many completions

@@ -5,19 +5,18 @@ ghost use Rattle.exchange_story.specs.Lines.{are_lines};
 ghost use Rattle.exchange_story.specs.Report.{tells_otherwise, TellsReasons, TellsRefused, TellsWhich};
 
 use crate::exchange::push_exchange;
+use crate::known::Known;
 use crate::lines::push_lines;
 use crate::past::Past;
-use crate::record::Record;
 use crate::report::{Reported, push_begin, push_reason, push_results, tells_otherwise};
-use exchange_check::{Checker, Exchange, Results, Why};
+use exchange_check::{Exchange, Results, Why};
 use std::alloc::{AllocError, Global};
 
 /// A report that is refused, and the transcript up to it.
 #[derive(Clone, Copy)]
 pub(crate) struct Case<'a> {
     pub(crate) alloc: Global,
-    pub(crate) checker: &'a Checker,
-    pub(crate) record: &'a Record,
+    pub(crate) known: Known<'a>,
     pub(crate) reported: &'a Reported,
     /// Its lines; none where 701 or 704 stands.
     pub(crate) exchange: &'a Option<Exchange>,
@@ -69,7 +68,11 @@ impl Case<'_> {
             return Ok(());
         };
         let mut lines = String::new(self.alloc);
-        push_exchange(&mut lines, self.record.nodes().len() as u64, exchange)?;
+        push_exchange(
+            &mut lines,
+            self.known.checker.nodes().len() as u64,
+            exchange,
+        )?;
         push_lines(text, "  t", lines.as_str())
     }
 

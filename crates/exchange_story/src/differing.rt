@@ -1,11 +1,17 @@
 //! How many messages of a transcript have other octets than ports and clocks write.
+ghost use Rattle.std.specs.Prelude.{◌≡◌, ◌++◌, List, ℕ, OnOk, true};
+ghost use Rattle.std.specs.String.{string_bytes};
+ghost use Rattle.exchange_story.specs.Counts.{TellsMessages, other_octets_text};
 
 use crate::field::{FIELDS, field_at};
+use crate::known::Known;
+use crate::lines::push_lines;
 use crate::moments::Length;
-use crate::octets::{Compared, Difference};
+use crate::octets::{Compared, Difference, difference_at};
 use crate::tally::messages_noun;
 use crate::wrong_field::{READ_FIELDS, WrongField};
-use std::alloc::AllocError;
+use exchange_check::KeptLine;
+use std::alloc::{AllocError, Global};
 
 /// How many messages differ in a field that is read.
 #[derive(Clone, Copy, Debug)]
@@ -64,18 +70,26 @@ impl Differing {
         }
     }
 
-    /// One more event, whose message differs so, where it makes one.
-    pub(crate) fn count(&mut self, found: Option<Compared>) {
-        let Some(compared) = found else {
-            return;
-        };
+    /// One more line that counts, whose message differs or not, where it makes one.
+    pub(crate) fn count(&mut self, known: Known<'_>, line: &KeptLine) {
+        if line.writes_right {
+            self.messages = self.messages.saturating_add(1);
+        } else if line.made
+            && let Some(compared) = difference_at(known, line.number)
+        {
+            self.count_compared(&compared);
+        }
+    }
+
+    /// One more message, which differs so.
+    fn count_compared(&mut self, compared: &Compared) {
         self.messages = self.messages.saturating_add(1);
         if compared.is_right() {
             return;
         }
         self.differ = self.differ.saturating_add(1);
         if compared.is_read_otherwise() {
-            self.count_read(&compared);
+            self.count_read(compared);
         } else if let Some(rest) = compared.rest {
             let count = self.count_of(rest);
             *count = count.saturating_add(1);
@@ -117,13 +131,33 @@ impl Differing {
 
     /// Appends how many messages differ in which field that is read, then how many messages differ at all, and where those
     /// that don't differ in such a field do.
-    pub(crate) fn push(&self, text: &mut String) -> Result<(), AllocError> {
-        self.push_read(text)?;
+    pub(crate) fn push(&self, alloc: Global, text: &mut String) -> Result<(), AllocError>
+        ensures { OnOk result ((told : List ℕ) × TellsMessages true told
+            × (string_bytes text.new ≡ string_bytes text.old ++ told)) }
+    {
+        let mut lines = String::new(alloc);
+        self.push_read(&mut lines)?;
+        push_lines(text, "  ", lines.as_str())?;
+        self.push_count(text)?;
+        lines.clear();
+        self.push_places(&mut lines)?;
+        push_lines(text, "  ", lines.as_str())
+    }
+
+    /// Appends how many messages differ at all.
+    fn push_count(&self, text: &mut String) -> Result<(), AllocError>
+        ensures { OnOk result (string_bytes text.new
+            ≡ string_bytes text.old ++ other_octets_text self.now.differ self.now.messages) }
+    {
         write!(
             text,
             "other octets than a port or a clock writes: {} of {} messages\n",
             self.differ, self.messages
-        )?;
+        )
+    }
+
+    /// Appends where those differ that don't in a field that is read.
+    fn push_places(&self, text: &mut String) -> Result<(), AllocError> {
         if self.minor_version > 0 {
             write!(
                 text,

@@ -1,7 +1,7 @@
-//! The journey of a message, followed back from its arrival over what was recorded.
+//! The journey of a message, followed back from its arrival.
 
-use crate::happening::AnEvent;
-use crate::record::{Leaves, Record, Recorded};
+use crate::known::Known;
+use exchange_check::{Finding, KeptLine, Lack, Part};
 use network_model::Event;
 use std::alloc::{AllocError, Global};
 
@@ -21,6 +21,14 @@ impl Message {
         match self {
             Message::Sync => "Sync",
             Message::Request => "Delay_Req",
+        }
+    }
+
+    /// What it is called in a finding.
+    fn part(self) -> Part {
+        match self {
+            Message::Sync => Part::Sync,
+            Message::Request => Part::DelayReq,
         }
     }
 
@@ -45,25 +53,10 @@ pub(crate) struct Stay {
 pub(crate) enum End {
     /// It was sent by this event.
     Sent(u64),
-    /// This event names one that isn't before it.
-    NotBefore {
+    /// This event names one that lacks this.
+    Stops {
         by: u64,
-        named: u64,
-    },
-    /// This event names one that counts for nothing.
-    NotCounting {
-        by: u64,
-        named: u64,
-    },
-    /// This event names one that doesn't send such a message.
-    NotSending {
-        by: u64,
-        named: u64,
-    },
-    /// This Leave names an event that is no Enter of its clock.
-    NotEntering {
-        by: u64,
-        named: u64,
+        lack: Lack,
     },
     /// What entered by an event left by two.
     LeftTwice {
@@ -75,10 +68,16 @@ pub(crate) enum End {
     TooLong,
 }
 
-/// One step back: a stay with the copy that entered, or an end.
-enum Back {
-    Stay(Stay, u64),
-    End(End),
+impl End {
+    /// Where the journey of this message stops by what is found against a report; none where that is another finding.
+    pub(crate) fn found(message: Message, finding: Finding) -> Option<End> {
+        match finding {
+            Finding::Stops { part, by, lack } if part == message.part() => {
+                Some(End::Stops { by, lack })
+            }
+            _ => None,
+        }
+    }
 }
 
 /// A journey: its stays, the last one first, and where it ends.
@@ -89,6 +88,14 @@ pub(crate) struct Journey {
 }
 
 impl Journey {
+    /// The event by which the first of its stays begins that are followed, where it has more.
+    pub(crate) fn cut(&self) -> Option<u64> {
+        match self.end {
+            End::TooLong => Some(self.stays.last()?.entered),
+            _ => None,
+        }
+    }
+
     /// Appends that stays weren't looked at, where it has more than are followed.
     pub(crate) fn push_cut(&self, text: &mut String, message: Message) -> Result<(), AllocError> {
         match self.end {
@@ -102,72 +109,67 @@ impl Journey {
     }
 }
 
-/// The stay of a message that left by an event, with the copy that entered.
-fn stay_before(record: &Record, left: u64, transit: u64, leave: &Recorded) -> Back {
-    if transit >= left {
-        return Back::End(End::NotBefore {
-            by: left,
-            named: transit,
-        });
-    }
-    let Some(enter) = record.counting(transit) else {
-        return Back::End(End::NotCounting {
-            by: left,
-            named: transit,
-        });
+/// The line that an event names, where it is before it and counts.
+fn line_named(known: Known<'_>, by: u64, named: u64) -> Result<KeptLine, End> {
+    let lack = match known.checker.line_at(named) {
+        _ if named >= by => Lack::NotBefore(named),
+        Some(line) => return Ok(line),
+        None => Lack::CameToNothing(named),
     };
-    let Some(copy) = enter.line.event.entered_copy() else {
-        return Back::End(End::NotEntering {
-            by: left,
-            named: transit,
-        });
+    Err(End::Stops { by, lack })
+}
+
+/// That what entered by this event left by two, where it did.
+fn left_twice(known: Known<'_>, entered: u64) -> Option<End> {
+    Some(End::LeftTwice {
+        entered,
+        first: known.checker.first_leave(entered)?,
+        second: known.evidence.second_leave(entered)?,
+    })
+}
+
+/// The stay of a message that left by this line, with the copy that entered, or where the journey ends.
+fn stay_before(known: Known<'_>, left: &KeptLine, transit: u64) -> Result<(Stay, u64), End> {
+    let by = left.number;
+    let entered = line_named(known, by, transit)?;
+    let copy = match entered.event.entered_copy() {
+        Some(copy) if entered.event.node() == left.event.node() => copy,
+        _ => {
+            return Err(End::Stops {
+                by,
+                lack: Lack::OtherEvent(transit),
+            });
+        }
     };
-    if enter.line.event.node() != leave.line.event.node() {
-        return Back::End(End::NotEntering {
-            by: left,
-            named: transit,
-        });
-    }
-    match record.leaves(transit) {
-        Some(
-            Leaves {
-                first,
-                second: Some(second),
-            },
-        ) => Back::End(End::LeftTwice {
-            entered: transit,
-            first,
-            second,
-        }),
-        _ => Back::Stay(
+    match left_twice(known, transit) {
+        Some(twice) => Err(twice),
+        None => Ok((
             Stay {
                 entered: transit,
-                left,
+                left: by,
             },
             copy,
-        ),
+        )),
     }
 }
 
-/// One step back from an event that names a copy.
-fn step(record: &Record, message: Message, by: u64, copy: u64) -> Back {
-    if copy >= by {
-        return Back::End(End::NotBefore { by, named: copy });
-    }
-    let Some(recorded) = record.counting(copy) else {
-        return Back::End(End::NotCounting { by, named: copy });
-    };
-    match recorded.line.event.named_transit() {
-        Some(transit) => stay_before(record, copy, transit, recorded),
-        None if message.is_sent_by(&recorded.line.event) => Back::End(End::Sent(copy)),
-        None => Back::End(End::NotSending { by, named: copy }),
+/// The last stay of a copy that an event names, with the copy that entered, or where the journey ends.
+fn step(known: Known<'_>, message: Message, by: u64, copy: u64) -> Result<(Stay, u64), End> {
+    let line = line_named(known, by, copy)?;
+    match line.event.named_transit() {
+        Some(transit) => stay_before(known, &line, transit),
+        None if message.is_sent_by(&line.event) => Err(End::Sent(copy)),
+        None => Err(End::Stops {
+            by,
+            lack: Lack::OtherEvent(copy),
+        }),
     }
 }
 
 /// The journey of a message that arrives by an event, which names this copy.
 pub(crate) fn journey_to(
     alloc: Global,
-    record: &Record,
+    known: Known<'_>,
     message: Message,
     arrival: u64,
     copy: u64,
@@ -176,9 +178,9 @@ pub(crate) fn journey_to(
     let mut by = arrival;
     let mut named = copy;
     for _stay in 0..STAYS_MOST {
-        match step(record, message, by, named) {
-            Back::End(end) => return Ok(Journey { stays, end }),
-            Back::Stay(stay, entered) => {
+        match step(known, message, by, named) {
+            Err(end) => return Ok(Journey { stays, end }),
+            Ok((stay, entered)) => {
                 stays.push(stay)?;
                 by = stay.entered;
                 named = entered;
@@ -191,43 +193,49 @@ pub(crate) fn journey_to(
     })
 }
 
+/// What an event isn't that one on a journey names: the beginning of a stay that it ends, or what sent the message.
+fn other_event(known: Known<'_>, by: u64, named: u64) -> &'static str {
+    match known.event_at(by) {
+        Some(event) if event.named_transit() == Some(named) => "which is no enter of this clock",
+        _ => "which sent no such message",
+    }
+}
+
 /// Appends where the journey of the message of this name ends, unless it was sent there.
 pub(crate) fn push_stop(
     text: &mut String,
-    record: &Record,
+    known: Known<'_>,
     name: &str,
     end: End,
 ) -> Result<(), AllocError> {
     match end {
         End::Sent(_) => Ok(()),
-        End::NotBefore { by, named } => write!(
+        End::Stops {
+            by,
+            lack: Lack::NotBefore(named),
+        } => write!(
             text,
             "    the journey of the {name} stops at {}, which names event {named}; wanted is one before it\n",
-            record.place(by)
+            known.place(by)
         ),
-        End::NotCounting { by, named } => push_named(
-            text,
-            record,
-            name,
+        End::Stops {
             by,
-            named,
-            "which came to nothing",
+            lack: Lack::OtherEvent(named),
+        } => write!(
+            text,
+            "    the journey of the {name} stops at {}: it names {}, {}\n",
+            known.place(by),
+            known.named(named),
+            other_event(known, by, named)
         ),
-        End::NotSending { by, named } => push_named(
-            text,
-            record,
-            name,
+        End::Stops {
             by,
-            named,
-            "which sent no such message",
-        ),
-        End::NotEntering { by, named } => push_named(
+            lack: Lack::CameToNothing(named) | Lack::CompletedNothing(named),
+        } => write!(
             text,
-            record,
-            name,
-            by,
-            named,
-            "which is no enter of this clock",
+            "    the journey of the {name} stops at {}: it names {}, which came to nothing\n",
+            known.place(by),
+            known.named(named)
         ),
         End::LeftTwice {
             entered,
@@ -236,49 +244,13 @@ pub(crate) fn push_stop(
         } => write!(
             text,
             "    the {name} entered a clock by {}, and left it twice: by {} and by {}\n",
-            record.place(entered),
-            record.place(first),
-            record.place(second)
+            known.place(entered),
+            known.place(first),
+            known.place(second)
         ),
         End::TooLong => write!(
             text,
             "    the journey of the {name} doesn't stop in its last {STAYS_MOST} stays; those before them weren't looked at\n"
         ),
-    }
-}
-
-/// Appends that a journey stops at an event, and what is wrong with the one that it names.
-fn push_named(
-    text: &mut String,
-    record: &Record,
-    name: &str,
-    by: u64,
-    named: u64,
-    wrong: &'static str,
-) -> Result<(), AllocError> {
-    write!(
-        text,
-        "    the journey of the {name} stops at {}: it names ",
-        record.place(by)
-    )?;
-    push_event(text, record, named)?;
-    write!(text, ", {wrong}\n")
-}
-
-/// Appends where an event stands, what it is and at which node.
-pub(crate) fn push_event(
-    text: &mut String,
-    record: &Record,
-    number: u64,
-) -> Result<(), AllocError> {
-    match record.at(number) {
-        Some(recorded) => write!(
-            text,
-            "{}, {} at {}",
-            record.place(number),
-            AnEvent(&recorded.line.event),
-            recorded.line.event.node().text()
-        ),
-        None => write!(text, "event {number}, which isn't there"),
     }
 }

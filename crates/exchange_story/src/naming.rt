@@ -1,13 +1,13 @@
 //! What the tags of a report name, where 701 stands against it, and where its messages came from, where 704 does.
 
 use crate::case::Case;
-use crate::journey::{End, Message, journey_to, push_event, push_stop};
-use crate::record::Recorded;
+use crate::journey::{End, Message, journey_to, push_stop};
+use exchange_check::{KeptLine, Why};
 use network_model::Event;
+use ptp_units::Seq;
 use std::alloc::AllocError;
 use std::fmt;
 use std::fmt::{Display, Formatter};
-use trace_model::TraceOut;
 
 /// A message that a report names by the tag of an event at the slave.
 #[derive(Clone, Copy)]
@@ -56,10 +56,10 @@ impl Tagged {
     }
 
     /// Whether this sent it, where it is a general message.
-    fn is_sender(self, sender: &Recorded) -> bool {
+    fn is_sender(self, sender: &KeptLine) -> bool {
         match self {
-            Tagged::FollowUp => sender.line.event.is_follow(),
-            _ => sender.line.event.is_arrival() && matches!(sender.line.out, TraceOut::Made(_)),
+            Tagged::FollowUp => sender.event.is_follow(),
+            _ => sender.event.is_arrival() && sender.made,
         }
     }
 
@@ -70,27 +70,21 @@ impl Tagged {
             Tagged::Request => event.is_request(),
         }
     }
+
+    /// The message that was sent first: a Sync or a Delay_Req.
+    fn begins_with(self) -> Message {
+        match self {
+            Tagged::Sync | Tagged::FollowUp => Message::Sync,
+            Tagged::Request | Tagged::Response => Message::Request,
+        }
+    }
 }
 
 /// The message that an event at a slave heard: its name, and the number of the Sync or of the Delay_Req that it is of.
 #[derive(Clone, Copy)]
 struct Heard {
     message: Tagged,
-    number: u16,
-}
-
-impl Heard {
-    /// The message that was sent first: a Sync or a Delay_Req.
-    fn origin(self) -> Origin {
-        let message = match self.message {
-            Tagged::Sync | Tagged::FollowUp => Message::Sync,
-            Tagged::Request | Tagged::Response => Message::Request,
-        };
-        Origin {
-            message,
-            number: self.number,
-        }
-    }
+    number: Seq,
 }
 
 impl Display for Heard {
@@ -100,99 +94,79 @@ impl Display for Heard {
             Tagged::Response => "the Delay_Resp to ",
             Tagged::Sync | Tagged::Request => "",
         })?;
-        write!(f, "{}", self.origin())
+        write!(f, "{} {}", self.message.begins_with().name(), self.number.0)
     }
-}
-
-/// A Sync or a Delay_Req, by its number.
-#[derive(Clone, Copy)]
-struct Origin {
-    message: Message,
-    number: u16,
-}
-
-impl Display for Origin {
-    fn fmt<W: fmt::Write>(&self, f: &mut Formatter<W>) -> fmt::Result {
-        write!(f, "{} {}", self.message.name(), self.number)
-    }
-}
-
-/// The message of this number, where there is one.
-fn heard_by(message: Tagged, number: Option<u16>) -> Option<Heard> {
-    Some(Heard {
-        message,
-        number: number?,
-    })
-}
-
-/// Whether a message completed a pair.
-fn completes(out: &TraceOut) -> bool {
-    matches!(out, TraceOut::Completed | TraceOut::Report(_))
 }
 
 impl Case<'_> {
     /// What the tag of a message names, where it names what it is to name.
-    fn tagged(&self, message: Tagged, tag: u64) -> Option<&Recorded> {
-        let recorded = self.record.counting(tag)?;
-        if message.is(&recorded.line.event) && recorded.line.event.node() == self.reported.node {
-            Some(recorded)
+    fn tagged(&self, message: Tagged, tag: u64) -> Option<KeptLine> {
+        let line = self.known.checker.line_at(tag)?;
+        if message.is(&line.event) && line.event.node() == self.reported.node {
+            Some(line)
         } else {
             None
         }
     }
 
-    /// What sent the message that is heard by the event of this tag, where it stands before that.
-    fn sender(&self, tag: u64) -> Option<(u64, &Recorded)> {
-        let copy = self.record.counting(tag)?.line.event.heard_copy()?;
-        if copy >= tag {
+    /// The copy that is heard by an event.
+    fn copy_heard(&self, number: u64) -> Option<u64> {
+        self.known.checker.line_at(number)?.event.heard_copy()
+    }
+
+    /// What sent the message that is heard by an event, where it stands before that.
+    fn sender(&self, number: u64) -> Option<KeptLine> {
+        let copy = self.copy_heard(number)?;
+        if copy >= number {
             return None;
         }
-        Some((copy, self.record.counting(copy)?))
+        self.known.checker.line_at(copy)
     }
 
-    /// The arrival of the Delay_Req, where the report's Delay_Resp is of one, and the copy that arrived.
-    fn request_arrival(&self) -> Option<(u64, u64)> {
-        let (number, arrival) = self.sender(self.reported.report.response_tag)?;
-        Some((number, arrival.line.event.heard_copy()?))
+    /// The two-step Sync that its Follow_Up is of.
+    pub(crate) fn followed_by(&self, follow: u64) -> Option<u64> {
+        match self.known.checker.line_at(follow) {
+            Some(line) => line.last_sync,
+            None => None,
+        }
     }
 
-    /// The number of the message that arrives by an event, as a copy of this one.
-    fn number_of(
-        &self,
-        message: Message,
-        arrival: u64,
-        copy: u64,
-    ) -> Result<Option<u16>, AllocError> {
-        let journey = journey_to(self.alloc, self.record, message, arrival, copy)?;
+    /// The message that is of the Sync or the Delay_Req that an event sent.
+    fn heard_of(&self, message: Tagged, origin: Option<u64>) -> Option<Heard> {
+        Some(Heard {
+            message,
+            number: self.known.sequence_at(origin?)?,
+        })
+    }
+
+    /// The event that sent the message which arrives by a line, where it can be followed back.
+    fn sent_by(&self, message: Message, arrival: &KeptLine) -> Result<Option<u64>, AllocError> {
+        let Some(copy) = arrival.event.heard_copy() else {
+            return Ok(None);
+        };
+        let journey = journey_to(self.alloc, self.known, message, arrival.number, copy)?;
         Ok(match journey.end {
-            End::Sent(origin) => self.record.at(origin).map(|recorded| recorded.number.0),
+            End::Sent(origin) => Some(origin),
             _ => None,
         })
     }
 
     /// The message that an event heard, where it can be followed back.
     fn heard_at(&self, number: u64) -> Result<Option<Heard>, AllocError> {
-        let Some(recorded) = self.record.counting(number) else {
+        let Some(line) = self.known.checker.line_at(number) else {
             return Ok(None);
         };
-        let Some(copy) = recorded.line.event.heard_copy() else {
-            return Ok(None);
-        };
-        if recorded.line.event.is_arrival() {
-            let sync = self.number_of(Message::Sync, number, copy)?;
-            return Ok(heard_by(Tagged::Sync, sync));
+        if line.event.is_arrival() {
+            let sync = self.sent_by(Message::Sync, &line)?;
+            return Ok(self.heard_of(Tagged::Sync, sync));
         }
         match self.sender(number) {
-            Some((_, sender)) if Tagged::FollowUp.is_sender(sender) => {
-                let sync = sender.sync.and_then(|sync| self.record.at(sync));
-                Ok(heard_by(Tagged::FollowUp, sync.map(|recorded| recorded.number.0)))
+            Some(sender) if Tagged::FollowUp.is_sender(&sender) => {
+                Ok(self.heard_of(Tagged::FollowUp, sender.last_sync))
             }
-            Some((arrival, sender)) if Tagged::Response.is_sender(sender) => {
-                let Some(copy) = sender.line.event.heard_copy() else {
-                    return Ok(None);
-                };
-                let request = self.number_of(Message::Request, arrival, copy)?;
-                Ok(heard_by(Tagged::Response, request))
+            Some(sender) if Tagged::Response.is_sender(&sender) => {
+                let request = self.sent_by(Message::Request, &sender)?;
+                Ok(self.heard_of(Tagged::Response, request))
             }
             _ => Ok(None),
         }
@@ -202,10 +176,12 @@ impl Case<'_> {
     pub(crate) fn push_tags(&self, text: &mut String) -> Result<(), AllocError> {
         let report = &self.reported.report;
         let number = self.reported.event;
-        if self.record.counting(number).is_none() {
-            text.push_str("    ")?;
-            push_event(text, self.record, number)?;
-            return text.push_str(", can't report; wanted is an arrive or a hear at a slave\n");
+        if self.known.checker.line_at(number).is_none() {
+            return write!(
+                text,
+                "    {}, can't report; wanted is an arrive or a hear at a slave\n",
+                self.known.named(number)
+            );
         }
         self.push_sync(text)?;
         if let Some(hearing) = report.follow_tag {
@@ -229,25 +205,29 @@ impl Case<'_> {
     fn push_tag(&self, text: &mut String, message: Tagged, tag: u64) -> Result<(), AllocError> {
         write!(
             text,
-            "    the {} of \"tags\", of the {}, names ",
+            "    the {} of \"tags\", of the {}, names {}",
             message.place(),
-            message.name()
+            message.name(),
+            self.known.named(tag)
         )?;
-        push_event(text, self.record, tag)?;
-        if let Some(recorded) = self.record.at(tag)
-            && !recorded.counts
-        {
+        if self.known.evidence.uncounted_at(tag).is_some() {
             text.push_str(", which came to nothing")?;
         }
-        if let Some(heard) = self.heard_at(tag)? {
-            write!(text, ", which is {heard}")?;
-        }
+        self.push_heard(text, tag)?;
         write!(
             text,
             "; wanted is {} at {}\n",
             message.wanted(),
             self.reported.node.text()
         )
+    }
+
+    /// Appends which message an event heard, where it can be followed back.
+    fn push_heard(&self, text: &mut String, number: u64) -> Result<(), AllocError> {
+        match self.heard_at(number)? {
+            Some(heard) => write!(text, ", which is {heard}"),
+            None => Ok(()),
+        }
     }
 
     /// Appends that no tag is of the event that reports, and which message that is.
@@ -268,15 +248,16 @@ impl Case<'_> {
         let Some(heard) = self.heard_at(number)? else {
             return Ok(());
         };
-        let of = match heard.message {
-            Tagged::Sync | Tagged::FollowUp => self.heard_at(report.sync_tag)?,
-            Tagged::Request | Tagged::Response => self.heard_at(report.response_tag)?,
+        let of = match heard.message.begins_with() {
+            Message::Sync => self.heard_at(report.sync_tag)?,
+            Message::Request => self.heard_at(report.response_tag)?,
         };
         match of {
             Some(of) if of.number != heard.number => write!(
                 text,
-                "    {number} is {heard}; the report is of {}\n",
-                of.origin()
+                "    {number} is {heard}; the report is of {} {}\n",
+                of.message.begins_with().name(),
+                of.number.0
             ),
             _ => write!(text, "    {number} is {heard}\n"),
         }
@@ -287,10 +268,10 @@ impl Case<'_> {
         let report = &self.reported.report;
         match self.tagged(Tagged::Sync, report.sync_tag) {
             None => self.push_tag(text, Tagged::Sync, report.sync_tag),
-            Some(sync) if report.follow_tag.is_none() && !completes(&sync.line.out) => write!(
+            Some(sync) if report.follow_tag.is_none() && !sync.completes => write!(
                 text,
                 "    the 2nd of \"tags\" is null, but the Sync of {} waits for a Follow_Up\n",
-                self.record.place(report.sync_tag)
+                self.known.place(report.sync_tag)
             ),
             Some(_) => Ok(()),
         }
@@ -301,25 +282,19 @@ impl Case<'_> {
         let Some(hearing) = self.tagged(message, tag) else {
             return self.push_tag(text, message, tag);
         };
-        if let Some((_, sender)) = self.sender(tag)
-            && message.is_sender(sender)
+        if let Some(sender) = self.sender(tag)
+            && message.is_sender(&sender)
         {
             return Ok(());
         }
         write!(
             text,
-            "    the {} of {} is of ",
+            "    the {} of {} is of {}",
             message.name(),
-            self.record.place(tag)
+            self.known.place(tag),
+            self.known.named(hearing.event.heard_copy().unwrap_or(tag))
         )?;
-        push_event(
-            text,
-            self.record,
-            hearing.line.event.heard_copy().unwrap_or(tag),
-        )?;
-        if let Some(heard) = self.heard_at(tag)? {
-            write!(text, ", which is {heard}")?;
-        }
+        self.push_heard(text, tag)?;
         write!(text, "; wanted is {} before it\n", message.sent_by())
     }
 
@@ -327,10 +302,10 @@ impl Case<'_> {
     fn push_response(&self, text: &mut String) -> Result<(), AllocError> {
         let tag = self.reported.report.response_tag;
         match self.tagged(Tagged::Response, tag) {
-            Some(hearing) if !completes(&hearing.line.out) => write!(
+            Some(hearing) if !hearing.completes => write!(
                 text,
                 "    the Delay_Resp of {} completed nothing\n",
-                self.record.place(tag)
+                self.known.place(tag)
             ),
             _ => self.push_sender(text, Tagged::Response, tag),
         }
@@ -339,60 +314,87 @@ impl Case<'_> {
     /// Appends when the slave learned the departure of the Delay_Req, where that isn't between it and the Delay_Resp.
     fn push_stamp(&self, text: &mut String) -> Result<(), AllocError> {
         let report = &self.reported.report;
-        let Some(request) = self.tagged(Tagged::Request, report.request_tag) else {
-            return Ok(());
-        };
-        match request.stamped {
+        match self.known.checker.first_stamp(report.request_tag) {
             Some(stamp) if stamp < report.response_tag => Ok(()),
             Some(stamp) => write!(
                 text,
                 "    {} tells when the Delay_Req left; wanted is that before the Delay_Resp, event {}\n",
-                self.record.place(stamp),
+                self.known.place(stamp),
                 report.response_tag
             ),
             None => write!(
                 text,
                 "    no event tells when the Delay_Req of {} left\n",
-                self.record.place(report.request_tag)
+                self.known.place(report.request_tag)
             ),
         }
     }
 
     /// Appends where the journeys of the Sync and of the Delay_Req stop.
     pub(crate) fn push_broken(&self, text: &mut String) -> Result<(), AllocError> {
-        let sync = self.reported.report.sync_tag;
-        let copy = self
-            .record
-            .at(sync)
-            .and_then(|arrival| arrival.line.event.heard_copy());
-        let one = self.end_of(Message::Sync, copy.map(|copy| (sync, copy)))?;
-        let other = self.end_of(Message::Request, self.request_arrival())?;
-        match (one, other) {
+        let sync = self.end_of(Message::Sync)?;
+        let request = self.end_of(Message::Request)?;
+        match (sync, request) {
             // One cause is told once.
             (Some(twice @ End::LeftTwice { .. }), Some(other)) if twice == other => {
-                push_stop(text, self.record, "Sync and the Delay_Req", twice)
+                push_stop(text, self.known, "Sync and the Delay_Req", twice)
             }
-            _ => {
-                self.push_way(text, Message::Sync, one)?;
-                self.push_way(text, Message::Request, other)
+            (Some(End::TooLong), _) => {
+                self.push_ways(text, self.stop_before(Message::Sync).or(sync), request)
             }
+            (Some(End::Sent(_)), Some(End::TooLong)) => {
+                self.push_ways(text, sync, self.stop_before(Message::Request).or(request))
+            }
+            _ => self.push_ways(text, sync, request),
         }
     }
 
-    /// Where the journey of a message ends that arrives by an event as a copy.
-    fn end_of(
-        &self,
-        message: Message,
-        arrival: Option<(u64, u64)>,
-    ) -> Result<Option<End>, AllocError> {
-        let Some((arrival, copy)) = arrival else {
+    /// The event by which a message arrives, and the copy that arrives.
+    fn arrival_of(&self, message: Message) -> Option<(u64, u64)> {
+        let report = &self.reported.report;
+        let arrival = match message {
+            Message::Sync => report.sync_tag,
+            Message::Request => self.copy_heard(report.response_tag)?,
+        };
+        Some((arrival, self.copy_heard(arrival)?))
+    }
+
+    /// Where the journey of a message ends.
+    fn end_of(&self, message: Message) -> Result<Option<End>, AllocError> {
+        let Some((arrival, copy)) = self.arrival_of(message) else {
             return Ok(None);
         };
-        let journey = journey_to(self.alloc, self.record, message, arrival, copy)?;
+        let journey = journey_to(self.alloc, self.known, message, arrival, copy)?;
         Ok(Some(journey.end))
     }
 
-    /// Appends where the journey of a message stops.
+    /// Where the journey of a message stops that has more stays than are followed, by what is found against the report.
+    fn stop_before(&self, message: Message) -> Option<End> {
+        let (_, copy) = self.arrival_of(message)?;
+        // On one that doesn't stop a stay was left twice, which would be sought among all its stays.
+        if self.known.checker.origin_of(copy).is_some() {
+            return None;
+        }
+        let finding = self.known.evidence.finding(
+            self.known.checker,
+            &self.reported.report,
+            Why::BrokenJourney,
+        )?;
+        End::found(message, finding)
+    }
+
+    /// Appends where the journeys of the Sync and of the Delay_Req end, unless they were sent there.
+    fn push_ways(
+        &self,
+        text: &mut String,
+        sync: Option<End>,
+        request: Option<End>,
+    ) -> Result<(), AllocError> {
+        self.push_way(text, Message::Sync, sync)?;
+        self.push_way(text, Message::Request, request)
+    }
+
+    /// Appends where the journey of a message ends, unless it was sent there.
     fn push_way(
         &self,
         text: &mut String,
@@ -400,7 +402,7 @@ impl Case<'_> {
         end: Option<End>,
     ) -> Result<(), AllocError> {
         match end {
-            Some(end) => push_stop(text, self.record, message.name(), end),
+            Some(end) => push_stop(text, self.known, message.name(), end),
             None => Ok(()),
         }
     }

@@ -1,10 +1,11 @@
 //! Which messages a report took for others, whose they are, and which were too long in clocks.
 
 use crate::case::Case;
-use crate::journey::push_event;
+use crate::known::Named;
 use crate::moments::{Length, signed};
 use exchange_check::{Exchange, Leg};
 use network_model::{Name, NodeKind};
+use ptp_units::Seq;
 use std::alloc::AllocError;
 use std::fmt;
 use std::fmt::{Display, Formatter};
@@ -25,13 +26,29 @@ impl Display for Domain {
     }
 }
 
-impl Case<'_> {
-    /// Appends the number that an event drew, and where it stands.
-    fn push_number(&self, text: &mut String, number: u64) -> Result<(), AllocError> {
-        if let Some(recorded) = self.record.at(number) {
-            write!(text, "number {}, ", recorded.number.0)?;
+/// An event that drew a number, and that number.
+#[derive(Clone, Copy)]
+struct Drawing {
+    number: Option<Seq>,
+    event: Named,
+}
+
+impl Display for Drawing {
+    fn fmt<W: fmt::Write>(&self, f: &mut Formatter<W>) -> fmt::Result {
+        if let Some(number) = &self.number {
+            write!(f, "number {}, ", number.0)?;
         }
-        push_event(text, self.record, number)
+        write!(f, "{}", self.event)
+    }
+}
+
+impl Case<'_> {
+    /// The number that an event drew, and the event.
+    fn drawing(&self, number: u64) -> Drawing {
+        Drawing {
+            number: self.known.sequence_at(number),
+            event: self.known.named(number),
+        }
     }
 
     /// Appends which message was taken for which.
@@ -46,40 +63,40 @@ impl Case<'_> {
         if arrived == named {
             return Ok(());
         }
-        text.push_str("    the Delay_Req that the master answered is ")?;
-        self.push_number(text, arrived)?;
-        text.push_str("; it was taken for ")?;
-        self.push_number(text, named)?;
-        text.push('\n')
+        write!(
+            text,
+            "    the Delay_Req that the master answered is {}; it was taken for {}\n",
+            self.drawing(arrived),
+            self.drawing(named)
+        )
     }
 
     /// Appends which Sync the Follow_Up follows, where it is another one.
     fn push_followed(&self, text: &mut String, exchange: &Exchange) -> Result<(), AllocError> {
         let origin = &exchange.sync.departed;
+        let sync = self.drawing(origin.number);
         let Some(follow) = exchange.follow else {
             if origin.event.is_one_step_sync() {
                 return Ok(());
             }
-            text.push_str("    the Sync is ")?;
-            self.push_number(text, origin.number)?;
-            return text.push_str(", two-step; it was taken for one that needs no Follow_Up\n");
+            return write!(
+                text,
+                "    the Sync is {sync}, two-step; it was taken for one that needs no Follow_Up\n"
+            );
         };
-        let followed = self.record.at(follow).and_then(|recorded| recorded.sync);
+        let followed = self.followed_by(follow);
         if followed == Some(origin.number) {
             return Ok(());
         }
-        text.push_str("    the Sync is ")?;
-        self.push_number(text, origin.number)?;
         write!(
             text,
-            "; it was taken for that of the Follow_Up of {}, ",
-            self.record.place(follow)
+            "    the Sync is {sync}; it was taken for that of the Follow_Up of {}, ",
+            self.known.place(follow)
         )?;
         match followed {
-            Some(sync) => self.push_number(text, sync)?,
-            None => text.push_str("before which its master sent none")?,
+            Some(other) => write!(text, "{}\n", self.drawing(other)),
+            None => text.push_str("before which its master sent none\n"),
         }
-        text.push('\n')
     }
 
     /// Appends the master that the slave was told, who sent and who answered.
@@ -106,24 +123,26 @@ impl Case<'_> {
         let slave = self.reported.node;
         let domain = Domain(self.domain_of(&slave));
         let name = slave.text();
-        let told = self.record.master_told(&slave);
-        match told.and_then(|number| Some((
-            number,
-            self.record.at(number)?.line.event.named_master()?,
-        ))) {
+        match self.master_told(&slave) {
             Some((number, master)) => write!(
                 text,
                 "    {} told {name}, domain {domain}, the master {}\n",
-                self.record.place(number),
+                self.known.place(number),
                 master.text()
             ),
             None => write!(text, "    {name}, domain {domain}, was told no master\n"),
         }
     }
 
+    /// The last event that told a slave its master, and which one.
+    fn master_told(&self, slave: &Name) -> Option<(u64, Name)> {
+        let told = self.known.checker.master_told(slave)?;
+        Some((told, self.known.event_at(told)?.named_master()?))
+    }
+
     /// Appends which tags of the report aren't later than what told the slave its master.
     fn push_early(&self, text: &mut String) -> Result<(), AllocError> {
-        let Some(told) = self.record.master_told(&self.reported.node) else {
+        let Some(told) = self.known.checker.master_told(&self.reported.node) else {
             return Ok(());
         };
         let report = &self.reported.report;
@@ -140,7 +159,7 @@ impl Case<'_> {
                 write!(
                     text,
                     "    the {message} of {} is earlier than that\n",
-                    self.record.place(tag)
+                    self.known.place(tag)
                 )?;
             }
         }
@@ -149,7 +168,7 @@ impl Case<'_> {
 
     /// The domain of a port.
     fn domain_of(&self, name: &Name) -> Option<u8> {
-        match self.record.kind(name)? {
+        match self.known.checker.nodes().get(name)?.kind {
             NodeKind::Master { config, .. } | NodeKind::Slave { config, .. } => Some(config.domain),
             NodeKind::Clock => None,
         }

@@ -2,16 +2,15 @@
 
 use crate::case::Case;
 use crate::field::{VERSION, field_name};
-use crate::journey::{Message, push_event};
+use crate::journey::Message;
+use crate::known::Known;
 use crate::readings::Told;
-use crate::record::{Record, Recorded};
-use crate::wrong_field::{Fields, Kind, READ_FIELDS, ReadField, Said, WrongField};
+use crate::wrong_field::{Fields, READ_FIELDS, ReadField, WrongField};
 use event_codec::{Body, DecodeRefusal, decode, encode};
-use exchange_check::{Checker, Exchange};
+use exchange_check::{Exchange, Finding, Why};
 use std::alloc::AllocError;
 use std::fmt;
 use std::fmt::{Display, Formatter};
-use trace_model::TraceOut;
 
 /// How the octets of a message differ from those that its port or its clock writes.
 #[derive(Clone, Copy)]
@@ -135,14 +134,6 @@ impl Display for Differs<'_> {
     }
 }
 
-/// The octets that an event is said to have made.
-fn octets_made(recorded: &Recorded) -> Option<&[u8]> {
-    match &recorded.line.out {
-        TraceOut::Made(octets) => Some(octets.as_slice()),
-        _ => None,
-    }
-}
-
 /// The message that an event is to make, and how the octets that it made differ.
 #[derive(Clone, Copy)]
 pub(crate) struct Compared {
@@ -181,45 +172,32 @@ impl Compared {
     }
 }
 
-/// What the message of an event says; none where it makes none, or none that can be read.
-pub(crate) fn fields_at(record: &Record, number: u64) -> Option<Fields> {
-    let octets = octets_made(record.at(number)?)?;
+/// What octets say, or why nobody can read them.
+fn fields_in(octets: &[u8]) -> Result<Fields, DecodeRefusal> {
     match decode(octets) {
-        Ok((said, _)) => Some(Fields {
-            header: said.header,
-            body: said.body,
-        }),
-        Err(_) => None,
-    }
-}
-
-/// The timestamp and the correction of the message of an event, where it is of this type.
-pub(crate) fn said_at(record: &Record, number: u64, kind: Kind) -> Option<Said> {
-    let octets = octets_made(record.at(number)?)?;
-    match decode(octets) {
-        Ok((said, _)) => {
-            let fields = Fields {
-                header: said.header,
-                body: said.body,
-            };
-            fields.said(kind)
-        }
-        Err(_) => None,
-    }
-}
-
-/// How the octets that an event made differ from those of the message that is written; none where it makes none.
-pub(crate) fn difference_at(checker: &Checker, record: &Record, number: u64) -> Option<Compared> {
-    let octets = octets_made(record.at(number)?)?;
-    let message = checker.message_at(number)?;
-    let wanted = Fields::of(&message);
-    let found = match decode(octets) {
         Ok((said, _)) => Ok(Fields {
             header: said.header,
             body: said.body,
         }),
         Err(refusal) => Err(refusal),
-    };
+    }
+}
+
+/// What the message of an event says; none where it makes none, or none that can be read.
+pub(crate) fn fields_at(known: Known<'_>, number: u64) -> Option<Fields> {
+    let octets = known.evidence.octets_at(known.checker, number)?;
+    match fields_in(octets.as_slice()) {
+        Ok(fields) => Some(fields),
+        Err(_) => None,
+    }
+}
+
+/// How the octets that an event made differ from those of the message that is written; none where it makes none.
+pub(crate) fn difference_at(known: Known<'_>, number: u64) -> Option<Compared> {
+    let octets = known.evidence.octets_at(known.checker, number)?;
+    let message = known.checker.message_at(number)?;
+    let wanted = Fields::of(&message);
+    let found = fields_in(octets.as_slice());
     let but_for_read = match &found {
         Ok(found) => wanted.with_read_of(found),
         Err(_) => message,
@@ -229,7 +207,7 @@ pub(crate) fn difference_at(checker: &Checker, record: &Record, number: u64) -> 
     Some(Compared {
         wanted,
         found,
-        rest: Difference::of(octets, room.get(..length)?),
+        rest: Difference::of(octets.as_slice(), room.get(..length)?),
     })
 }
 
@@ -247,6 +225,13 @@ impl Case<'_> {
         ] {
             self.push_message(text, &mut told, leg.departed.number)?;
             let journey = self.journey_of(message, leg)?;
+            if let Some(Finding::OtherOctets { event }) = self.found_before(
+                Why::Bytes,
+                leg,
+                &journey,
+            ) {
+                self.push_message(text, &mut told, event)?;
+            }
             journey.push_cut(text, message)?;
             for stay in journey.stays.iter().rev() {
                 self.push_message(text, &mut told, stay.left)?;
@@ -266,65 +251,47 @@ impl Case<'_> {
         told: &mut Told,
         number: u64,
     ) -> Result<(), AllocError> {
-        let Some(compared) = difference_at(self.checker, self.record, number) else {
-            return self.push_unsent(text, told, number);
-        };
-        if compared.is_right() || !told.has_room() {
-            return Ok(());
+        match difference_at(self.known, number) {
+            Some(compared) if compared.is_right() => Ok(()),
+            _ if !told.has_room() => Ok(()),
+            Some(compared) => self.push_compared(text, number, &compared),
+            // A Follow_Up of no Sync: no port writes it.
+            None => write!(
+                text,
+                "    {}: no two-step Sync was sent before it, so no octets are right\n",
+                self.known.named(number)
+            ),
         }
-        self.push_read(text, number, &compared)?;
-        let Some(difference) = compared.rest else {
-            return Ok(());
-        };
-        text.push_str("    ")?;
-        push_event(text, self.record, number)?;
-        let differs = Differs {
-            difference,
-            body: &compared.wanted.body,
-            is_rest: compared.refusal().is_none() && compared.is_read_otherwise(),
-        };
-        write!(text, ": {differs}\n")
     }
 
-    /// Appends what a message says in fields that are read, where that is something else, or why nobody can read it.
-    fn push_read(
+    /// Appends how the message of an event differs: first what it says in fields that are read, or why nobody can read it.
+    fn push_compared(
         &self,
         text: &mut String,
         number: u64,
         compared: &Compared,
     ) -> Result<(), AllocError> {
+        let named = self.known.named(number);
         if let Some(refusal) = compared.refusal() {
-            text.push_str("    ")?;
-            push_event(text, self.record, number)?;
             write!(
                 text,
-                ": nobody can read it, {}: {refusal}\n",
+                "    {named}: nobody can read it, {}: {refusal}\n",
                 refusal.code()
             )?;
         }
         for field in READ_FIELDS {
-            let Some(wrong) = compared.wrong(field) else {
-                continue;
-            };
-            text.push_str("    ")?;
-            push_event(text, self.record, number)?;
-            write!(text, ": {wrong}\n")?;
+            if let Some(wrong) = compared.wrong(field) {
+                write!(text, "    {named}: {wrong}\n")?;
+            }
         }
-        Ok(())
-    }
-
-    /// Appends that a Follow_Up is of no Sync, so that no port writes it.
-    fn push_unsent(
-        &self,
-        text: &mut String,
-        told: &mut Told,
-        number: u64,
-    ) -> Result<(), AllocError> {
-        if !told.has_room() {
+        let Some(difference) = compared.rest else {
             return Ok(());
-        }
-        text.push_str("    ")?;
-        push_event(text, self.record, number)?;
-        text.push_str(": no two-step Sync was sent before it, so no octets are right\n")
+        };
+        let differs = Differs {
+            difference,
+            body: &compared.wanted.body,
+            is_rest: compared.refusal().is_none() && compared.is_read_otherwise(),
+        };
+        write!(text, "    {named}: {differs}\n")
     }
 }

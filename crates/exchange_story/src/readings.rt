@@ -1,10 +1,9 @@
 //! The readings of a report that aren't those of the clocks.
 
 use crate::case::Case;
-use crate::journey::{Journey, Message, journey_to, push_event};
+use crate::journey::{Journey, Message, journey_to};
 use crate::moments::{Length, Moment, signed_units};
-use crate::record::Recorded;
-use exchange_check::{Exchange, Leg};
+use exchange_check::{Exchange, Finding, Leg, Why};
 use ptp_units::ScaledTime;
 use std::alloc::AllocError;
 
@@ -37,30 +36,6 @@ impl Told {
     }
 }
 
-/// A reading at an event with a true moment.
-#[derive(Clone, Copy)]
-struct Read {
-    reading: Option<ScaledTime>,
-    at: ScaledTime,
-    /// What the clock was set to differ by, in units of 2^-16 ns.
-    difference: i128,
-}
-
-impl Read {
-    /// What the reading differs by from the true moment.
-    fn found(&self) -> Option<i128> {
-        Some(signed_units(self.reading?).saturating_sub(signed_units(self.at)))
-    }
-
-    fn is_right(&self) -> bool {
-        let wanted = self.difference;
-        match self.found() {
-            Some(found) => found == wanted,
-            None => false,
-        }
-    }
-}
-
 impl Case<'_> {
     /// The journey of a message of the report.
     pub(crate) fn journey_of(&self, message: Message, leg: &Leg) -> Result<Journey, AllocError> {
@@ -69,7 +44,29 @@ impl Case<'_> {
             .event
             .heard_copy()
             .unwrap_or(leg.departed.number);
-        journey_to(self.alloc, self.record, message, leg.arrived.number, copy)
+        journey_to(self.alloc, self.known, message, leg.arrived.number, copy)
+    }
+
+    /// What is found first by a reason, where that is on this journey behind its departure, and before its stays that are
+    /// followed.
+    pub(crate) fn found_before(&self, why: Why, leg: &Leg, journey: &Journey) -> Option<Finding> {
+        let cut = journey.cut()?;
+        let departed = leg.departed.number;
+        let finding = self
+            .known
+            .evidence
+            .finding(self.known.checker, &self.reported.report, why)?;
+        let event = match finding {
+            Finding::WrongReading { event, .. } | Finding::OtherOctets { event } => event,
+            Finding::Falls { left, .. } => left,
+            _ => return None,
+        };
+        let is_before = departed < event && event < cut;
+        if is_before && self.known.origin_of(event) == Some(departed) {
+            Some(finding)
+        } else {
+            None
+        }
     }
 
     /// Appends the readings of the report that aren't those of the clocks.
@@ -85,6 +82,15 @@ impl Case<'_> {
         ] {
             self.push_reading(text, &mut told, leg.departed.number)?;
             let journey = self.journey_of(message, leg)?;
+            match self.found_before(Why::WrongReading, leg, &journey) {
+                Some(Finding::WrongReading { event, .. }) => {
+                    self.push_reading(text, &mut told, event)?;
+                }
+                Some(Finding::Falls { entered, left }) => {
+                    self.push_fall(text, &mut told, entered, left)?;
+                }
+                _ => {}
+            }
             journey.push_cut(text, message)?;
             for stay in journey.stays.iter().rev() {
                 self.push_reading(text, &mut told, stay.entered)?;
@@ -96,59 +102,49 @@ impl Case<'_> {
         told.push_rest(text)
     }
 
-    /// What was read at an event.
-    fn read_at(&self, recorded: &Recorded) -> Option<Read> {
-        Some(Read {
-            reading: recorded.line.reading,
-            at: recorded.line.event.true_moment()?,
-            difference: self.difference_at(recorded),
-        })
-    }
-
-    /// What the clock was set to differ by as an event happened.
-    fn difference_at(&self, recorded: &Recorded) -> i128 {
-        let set = recorded.clock_set.and_then(|number| self.record.at(number));
-        set.and_then(|set| set.line.event.named_difference())
-            .unwrap_or(0)
-    }
-
-    /// Appends a reading that isn't that of its clock.
+    /// Appends a reading that isn't that of its clock, and which event set that.
     fn push_reading(
         &self,
         text: &mut String,
         told: &mut Told,
         number: u64,
     ) -> Result<(), AllocError> {
-        let Some(recorded) = self.record.at(number) else {
+        let Some(wrong) = self.known.evidence.wrong_reading_at(number) else {
             return Ok(());
         };
-        let Some(read) = self.read_at(recorded) else {
+        let Some(at) = self.true_moment_at(number) else {
             return Ok(());
         };
-        if read.is_right() || !told.has_room() {
+        if !told.has_room() {
             return Ok(());
         }
-        text.push_str("    ")?;
-        push_event(text, self.record, number)?;
-        push_found(text, &read)?;
-        self.push_set(text, recorded, &read)
-    }
-
-    /// Appends what the difference is to be, and which event set the clock.
-    fn push_set(
-        &self,
-        text: &mut String,
-        recorded: &Recorded,
-        read: &Read,
-    ) -> Result<(), AllocError> {
-        let wanted = Length(read.difference);
-        match recorded.clock_set {
+        write!(text, "    {}", self.known.named(number))?;
+        push_found(text, wrong.reading, at)?;
+        match wrong.set {
             Some(set) => write!(
                 text,
-                "; wanted is {wanted}, which {} set\n",
-                self.record.place(set)
+                "; wanted is {}, which {} set\n",
+                Length(self.difference_set(set)),
+                self.known.place(set)
             ),
-            None => write!(text, "; wanted is {wanted}, since no event set the clock\n"),
+            None => write!(
+                text,
+                "; wanted is {}, since no event set the clock\n",
+                Length(0)
+            ),
+        }
+    }
+
+    /// The true moment of an event.
+    fn true_moment_at(&self, number: u64) -> Option<ScaledTime> {
+        self.known.event_at(number)?.true_moment()
+    }
+
+    /// What an event set its clock to differ by, in units of 2^-16 ns.
+    fn difference_set(&self, number: u64) -> i128 {
+        match self.known.event_at(number) {
+            Some(event) => event.named_difference().unwrap_or(0),
+            None => 0,
         }
     }
 
@@ -171,27 +167,37 @@ impl Case<'_> {
             text,
             "    the clock reads {} less at {} than at {}; wanted is no less\n",
             Length(fall),
-            self.record.place(left),
-            self.record.place(entered)
+            self.known.place(left),
+            self.known.place(entered)
         )
     }
 
+    /// What was read at an event that has a true moment.
     fn reading_at(&self, number: u64) -> Option<ScaledTime> {
-        self.record.at(number)?.line.reading
+        match self.known.evidence.wrong_reading_at(number) {
+            Some(wrong) => wrong.reading,
+            None => match self.known.checker.line_at(number) {
+                Some(line) => Some(line.reading),
+                None => None,
+            },
+        }
     }
 }
 
 /// Appends a reading, the true moment and their difference.
-fn push_found(text: &mut String, read: &Read) -> Result<(), AllocError> {
-    let at = Moment(read.at);
-    let Some(reading) = read.reading else {
-        return write!(text, ": no reading, the true moment is {at}");
-    };
-    let difference = signed_units(reading).saturating_sub(signed_units(read.at));
-    write!(
-        text,
-        ": read is {}, the true moment is {at}, and they differ by {}",
-        Moment(reading),
-        Length(difference)
-    )
+fn push_found(
+    text: &mut String,
+    reading: Option<ScaledTime>,
+    at: ScaledTime,
+) -> Result<(), AllocError> {
+    match reading {
+        Some(reading) => write!(
+            text,
+            ": read is {}, the true moment is {}, and they differ by {}",
+            Moment(reading),
+            Moment(at),
+            Length(signed_units(reading).saturating_sub(signed_units(at)))
+        ),
+        None => write!(text, ": no reading, the true moment is {}", Moment(at)),
+    }
 }

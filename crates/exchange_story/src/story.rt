@@ -6,22 +6,27 @@ ghost use Rattle.exchange_story.specs.Counts.{counts_of, has_octets, TellsCounts
 ghost use Rattle.exchange_story.specs.Report.{TellsReport};
 
 use crate::case::Case;
-use crate::completing::push_unreported;
-use crate::past::{Past, Pasts};
-use crate::record::Record;
+use crate::completing::{Completions, push_unreported};
+use crate::differing::Differing;
+use crate::known::{Known, index_of};
+use crate::past::Pasts;
 use crate::report::{Reported, is_sound, push_sound};
 use crate::tally::Tally;
-use crate::telling::by_messages;
-use exchange_check::{Checker, TraceLine};
-use network_model::{Name, NodeSpec};
+use exchange_check::{Checker, Evidence, KeptLine, TraceLine, TraceOut};
+use network_model::NodeSpec;
 use std::alloc::{AllocError, Global};
 use std::marker::Model;
 
-/// What was recorded of a transcript so far, and how many of its reports are sound; of a schedule its nodes alone.
+/// What is out of the ordinary in a transcript so far, and how many of its reports are sound; of a schedule its nodes alone.
 #[derive(Drop)]
 pub struct Story {
     alloc: Global,
-    record: Record,
+    /// The nodes, up to the first event that was recorded: from there on a checker has them.
+    nodes: Vec<NodeSpec>,
+    evidence: Evidence,
+    /// How many messages have other octets than are written.
+    differing: Differing,
+    completions: Completions,
     pasts: Pasts,
     tally: Tally,
 }
@@ -42,7 +47,10 @@ impl Story {
     {
         Story {
             alloc,
-            record: Record::new(alloc),
+            nodes: Vec::new(alloc),
+            evidence: Evidence::new(alloc),
+            differing: Differing::new(),
+            completions: Completions::new(alloc),
             pasts: Pasts::new(alloc),
             tally: Tally::new(),
         }
@@ -52,14 +60,43 @@ impl Story {
     pub fn push_node(&mut self, node: NodeSpec) -> Result<(), AllocError>
         ensures { self.new ≡ self.old }
     {
-        self.record.push_node(node)
+        self.nodes.push(node)?;
+        Ok(())
     }
 
     /// Takes what was recorded of one more event, the last that this checker was fed.
     pub fn push_event(&mut self, line: TraceLine, checker: &Checker) -> Result<(), AllocError>
         ensures { self.new ≡ self.old }
     {
-        self.record.push_event(self.alloc, line, checker)
+        if self.evidence.note(checker, &line).is_err() {
+            return Err(AllocError);
+        }
+        self.nodes = Vec::new(self.alloc);
+        let Some(number) = checker.len().checked_sub(1) else {
+            return Ok(());
+        };
+        match checker.line_at(number) {
+            Some(kept) => self.count_line(&kept, &line.out, checker),
+            None => Ok(()),
+        }
+    }
+
+    /// Counts what a line is that counts, and of which this came.
+    fn count_line(
+        &mut self,
+        line: &KeptLine,
+        out: &TraceOut,
+        checker: &Checker,
+    ) -> Result<(), AllocError>
+        ensures { self.new ≡ self.old }
+    {
+        let known = Known {
+            checker,
+            evidence: &self.evidence,
+        };
+        self.differing.count(known, line);
+        let reports = matches!(out, TraceOut::Report(_));
+        self.completions.count(known, line, reports)
     }
 
     /// Counts one more report, that of the last event that this checker was fed.
@@ -72,15 +109,13 @@ impl Story {
             → OnOk result (self.new ≡ counts_of (reported.now.judgement.reasons ∷ reports)) }
     {
         let right = self.is_right_by_messages(reported, checker);
-        let slave = self.record.index_of(&reported.node);
+        let slave = match checker {
+            Some(checker) => index_of(checker, &reported.node),
+            None => None,
+        };
         self.pasts.push(slave, reported)?;
         self.tally.count(&reported.judgement.reasons, right);
         Ok(())
-    }
-
-    /// What reports of a slave were like.
-    fn past_of(&self, slave: &Name) -> Option<&Past> {
-        self.pasts.of(self.record.index_of(slave)?)
     }
 
     /// Whether a report has the results by the messages. A sound one has: they are then those by the readings.
@@ -92,15 +127,15 @@ impl Story {
             return false;
         };
         let report = &reported.report;
-        match by_messages(&self.record, report, &checker.exchange(report)) {
+        match self.evidence.by_messages(checker, report) {
             Some(told) => told.offset2 == report.offset2 && told.path2 == report.path2,
             None => false,
         }
     }
 
-    /// The nodes, in their order.
+    /// The nodes, in their order; of a transcript up to its first event.
     pub fn nodes(&self) -> &[NodeSpec] {
-        self.record.nodes()
+        self.nodes.as_slice()
     }
 
     /// Appends what the report of the last event is judged to be; where it is refused, what the reasons against it met, its
@@ -120,12 +155,17 @@ impl Story {
         let exchange = checker.exchange(&reported.report);
         let case = Case {
             alloc: self.alloc,
-            checker,
-            record: &self.record,
+            known: Known {
+                checker,
+                evidence: &self.evidence,
+            },
             reported,
             exchange: &exchange,
-            by_messages: by_messages(&self.record, &reported.report, &exchange),
-            past: self.past_of(&reported.node),
+            by_messages: self.evidence.by_messages(checker, &reported.report),
+            past: match index_of(checker, &reported.node) {
+                Some(slave) => self.pasts.of(slave),
+                None => None,
+            },
         };
         case.push(text)
     }
@@ -138,10 +178,9 @@ impl Story {
         ensures { OnOk result ((told : List ℕ) × TellsCounts self.now told
             × (string_bytes text.new ≡ string_bytes text.old ++ told)) }
     {
-        self.tally
-            .push(text, self.record.messages_read_otherwise())?;
+        self.tally.push(text, self.differing.read())?;
         self.push_messages(text)?;
-        push_unreported(text, self.record.unreported())
+        push_unreported(text, self.completions.unreported())
     }
 
     /// Appends how many messages have other octets, where octets stand against a report.
@@ -152,8 +191,6 @@ impl Story {
         if !self.tally.has_octets() {
             return Ok(());
         }
-        let mut messages = String::new(self.alloc);
-        self.record.push_differing(&mut messages)?;
-        text.push_str(messages.as_str())
+        self.differing.push(self.alloc, text)
     }
 }

@@ -1,12 +1,12 @@
 //! What the messages tell that came to a slave, and which of them tells otherwise than clocks read.
 
 use crate::case::Case;
+use crate::known::Place;
 use crate::moments::{Length, signed, signed_units};
-use crate::octets::{fields_at, said_at};
-use crate::record::{Place, Record};
-use crate::wrong_field::{Fields, Kind};
-use exchange_check::{Exchange, Leg, Results, Why};
-use network_model::{Name, Report};
+use crate::octets::fields_at;
+use crate::wrong_field::Fields;
+use exchange_check::{Exchange, Leg, Why};
+use network_model::Name;
 use ptp_units::ScaledTime;
 use std::alloc::AllocError;
 use std::fmt;
@@ -28,48 +28,6 @@ impl Display for Came {
             self.name, self.fields.header.sequence.0, self.place
         )
     }
-}
-
-/// The two results of a report's exchange by the messages: by what those say that came to the slave, and by its own
-/// readings. None where there is no exchange, or where a message can't be read or is of another type.
-pub(crate) fn by_messages(
-    record: &Record,
-    report: &Report,
-    exchange: &Option<Exchange>,
-) -> Option<Results> {
-    let exchange = exchange.as_ref()?;
-    let a = sync_bracket_of(record, exchange)?;
-    let b = delay_bracket_of(record, report, exchange)?;
-    Some(Results {
-        offset2: a.saturating_sub(b),
-        path2: a.saturating_add(b),
-    })
-}
-
-/// t2 less the departure and the corrections that the slave was told: by the Follow_Up, or of a one-step Sync by itself.
-fn sync_bracket_of(record: &Record, exchange: &Exchange) -> Option<i128> {
-    let arrived = &exchange.sync.arrived;
-    let sync = said_at(record, arrived.event.heard_copy()?, Kind::Sync)?;
-    let departed = match exchange.follow {
-        Some(number) => {
-            let follow = said_at(record, number, Kind::FollowUp)?;
-            follow.time.saturating_add(follow.correction)
-        }
-        None => sync.time,
-    };
-    let elapsed = signed_units(arrived.reading).saturating_sub(departed);
-    Some(elapsed.saturating_sub(sync.correction))
-}
-
-/// The arrival of the Delay_Req that the slave was told, less what its clock read as the one that the report names left.
-fn delay_bracket_of(record: &Record, report: &Report, exchange: &Exchange) -> Option<i128> {
-    let response = said_at(record, exchange.request.arrived.number, Kind::DelayResp)?;
-    let departed = match record.at(report.request_tag)?.line.reading {
-        Some(reading) => signed_units(reading),
-        None => 0,
-    };
-    let arrived = response.time.saturating_sub(response.correction);
-    Some(arrived.saturating_sub(departed))
 }
 
 /// The fraction of a nanosecond of a moment, in units of 2^-16 ns.
@@ -114,8 +72,8 @@ impl Case<'_> {
     fn came(&self, name: &'static str, number: u64) -> Option<Came> {
         Some(Came {
             name,
-            place: self.record.place(number),
-            fields: fields_at(self.record, number)?,
+            place: self.known.place(number),
+            fields: fields_at(self.known, number)?,
         })
     }
 

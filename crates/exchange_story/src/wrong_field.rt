@@ -43,7 +43,7 @@ pub(crate) const READ_FIELDS: [ReadField; 10] = [
 
 /// What messageType says.
 #[derive(Clone, Copy, PartialEq, Eq)]
-pub(crate) enum Kind {
+enum Kind {
     Sync,
     DelayReq,
     FollowUp,
@@ -66,13 +66,6 @@ enum Value {
 pub(crate) struct Fields {
     pub(crate) header: Header,
     pub(crate) body: Body,
-}
-
-/// The timestamp and the correction of a message, in units of 2^-16 ns.
-#[derive(Clone, Copy)]
-pub(crate) struct Said {
-    pub(crate) time: i128,
-    pub(crate) correction: i128,
 }
 
 /// A field that says something else than it is to say.
@@ -173,17 +166,6 @@ fn is_two_step(header: &Header) -> bool {
 }
 
 impl Fields {
-    /// What its message says, where it is of this type.
-    pub(crate) fn said(&self, kind: Kind) -> Option<Said> {
-        if Kind::of(&self.body) != kind {
-            return None;
-        }
-        Some(Said {
-            time: self.time(),
-            correction: self.correction(),
-        })
-    }
-
     /// The timestamp, in units of 2^-16 ns.
     pub(crate) fn time(&self) -> i128 {
         match self.body {

@@ -110,15 +110,15 @@ impl Case<'_> {
             return write!(
                 text,
                 "    these are the results of the report before, {}, {whose}\n",
-                self.record.place(before.event)
+                self.known.place(before.event)
             );
         }
         match past.pair_giving(reported) {
             Some((sync, response)) => write!(
                 text,
                 "    these are the results by the readings of another pair: of the Sync of {} and of the Delay_Resp of {}\n",
-                self.record.place(sync.heard),
-                self.record.place(response.heard)
+                self.known.place(sync.heard),
+                self.known.place(response.heard)
             ),
             None => Ok(()),
         }

@@ -1,3 +1,4 @@
 pub mod ReadBack
 pub mod AsChecked
+pub mod Unread
 pub mod Worked

@@ -37,10 +37,13 @@ use Rattle.measured_json.specs.ReadBack.{IsOf128Bits, is_printed}
 use Rattle.measured_json.proofs.Figures.{all_of, escape_figures, printed_figures, figures_signed, figures_nanoseconds}
 use Rattle.measured_json.proofs.ReadBack.{tags_readable, ArePrinted, both, word, number_printed, ascii}
 use Rattle.exchange_explain.specs.declared.details.Details.{Details}
+use Rattle.exchange_explain.specs.declared.details.Octets.{Octets}
+use Rattle.exchange_explain.specs.declared.details.Octets.TheVariants.{Told, Other}
 use Rattle.exchange_explain.specs.Judged.{results_text, of_128_bits, difference, both_differences, errors_against, errors_text}
-use Rattle.exchange_explain.specs.Judged.{is_wrong, error_text, codes_text, follow_text, time_text, owed_text, reported_text}
+use Rattle.exchange_explain.specs.Judged.{is_wrong, error_text, codes_text, follow_text, octets_text, time_text, owed_text}
+use Rattle.exchange_explain.specs.Judged.{reported_text}
 use Rattle.explain_laws.specs.ReadBack.{AreOf128Bits, IsWithinRange, results_data, errors_data, error_data, time_data}
-use Rattle.explain_laws.specs.ReadBack.{codes_data, judged_data, EachJudgementIsJson}
+use Rattle.explain_laws.specs.ReadBack.{codes_data, octets_data, judged_data, EachJudgementIsJson}
 
 -- ---- the compact text of the value is read as the value
 
@@ -91,6 +94,11 @@ error_readable true (Some by_messages) None =
 error_readable true (Some by_messages) (Some by_readings) =
     record { same = refl; numbers = ((tt, (tt, tt)), ((tt, (tt, tt)), tt)); shallow = omega arith }
 
+octets_readable : (octets : Option Octets) → IsReadable (octets_data octets)
+octets_readable None = record { same = refl; numbers = tt; shallow = omega arith }
+octets_readable (Some Told) = text_readable (codes "told")
+octets_readable (Some Other) = text_readable (codes "other")
+
 time_readable : (time : Option ℕ) → IfSome time (λ time. time < bound) → IsReadable (time_data time)
 time_readable None h = record { same = refl; numbers = tt; shallow = omega arith }
 time_readable (Some time) h = moment_readable time h
@@ -109,6 +117,7 @@ fields judged details =
     ∷ (codes "event", Some (whole judged.event))
     ∷ (codes "line", Some (whole judged.line))
     ∷ (codes "node", Some (string judged.node))
+    ∷ (codes "octets", Some (octets_data details.octets))
     ∷ (codes "offset2", Some (difference_data judged.report.offset2))
     ∷ (codes "path2", Some (difference_data judged.report.path2))
     ∷ (codes "reasons", Some (array (codes_data judged.judgement.reasons)))
@@ -131,12 +140,15 @@ fields_readable judged details h = (
           (
             text_readable _,
             (
-              text_readable _,
+              octets_readable details.octets,
               (
                 text_readable _,
                 (
-                  codes_readable judged.judgement.reasons,
-                  (tags_readable judged.report h.tags, (time_readable details.time h.time, tt)),
+                  text_readable _,
+                  (
+                    codes_readable judged.judgement.reasons,
+                    (tags_readable judged.report h.tags, (time_readable details.time h.time, tt)),
+                  ),
                 ),
               ),
             ),
@@ -284,6 +296,12 @@ time_is None = refl
 time_is (Some time) =
     time_same (decimal (stamp_of time).seconds) (decimal (stamp_of time).nanos) (decimal (fraction_of time))
 
+octets_are : (octets : Option Octets) → compact_text (octets_data octets) ≡ octets_text octets
+unfolding escape_byte
+octets_are None = refl
+octets_are (Some Told) = refl
+octets_are (Some Other) = refl
+
 -- ---- the pieces of the text as a value's, by the texts of its members, and as they are written
 abbrev owed_pieces : (by_messages by_readings error rest : List ℕ) → List ℕ
 owed_pieces by_messages by_readings error rest =
@@ -299,25 +317,27 @@ same_owed : (by_messages by_readings error rest : List ℕ)
     → owed_pieces by_messages by_readings error rest ≡ owed_front by_messages by_readings error ++ rest
 same_owed by_messages by_readings error rest = simp append_assoc
 
-abbrev reported_pieces : (event line node offset2 path2 rest : List ℕ) → List ℕ
-reported_pieces event line node offset2 path2 rest =
+abbrev reported_pieces : (event line node octets offset2 path2 rest : List ℕ) → List ℕ
+reported_pieces event line node octets offset2 path2 rest =
     codes ",\"event\":" ++ (event
     ++ (codes ",\"line\":" ++ (line
     ++ (codes ",\"node\":" ++ ((34 ∷ (node ++ 34 ∷ []))
+    ++ (codes ",\"octets\":" ++ (octets
     ++ (codes ",\"offset2\":" ++ ((34 ∷ (offset2 ++ 34 ∷ []))
-    ++ (codes ",\"path2\":" ++ ((34 ∷ (path2 ++ 34 ∷ [])) ++ rest)))))))))
+    ++ (codes ",\"path2\":" ++ ((34 ∷ (path2 ++ 34 ∷ [])) ++ rest)))))))))))
 
-abbrev reported_front : (event line node offset2 path2 : List ℕ) → List ℕ
-reported_front event line node offset2 path2 =
+abbrev reported_front : (event line node octets offset2 path2 : List ℕ) → List ℕ
+reported_front event line node octets offset2 path2 =
     codes ",\"event\":" ++ event
     ++ codes ",\"line\":" ++ line
     ++ codes ",\"node\":\"" ++ node
-    ++ codes "\",\"offset2\":\"" ++ offset2
+    ++ codes "\",\"octets\":" ++ octets
+    ++ codes ",\"offset2\":\"" ++ offset2
     ++ codes "\",\"path2\":\"" ++ path2 ++ codes "\""
 
-same_reported : (event line node offset2 path2 rest : List ℕ)
-    → reported_pieces event line node offset2 path2 rest ≡ reported_front event line node offset2 path2 ++ rest
-same_reported event line node offset2 path2 rest = simp append_assoc
+same_reported : (event line node octets offset2 path2 rest : List ℕ)
+    → reported_pieces event line node octets offset2 path2 rest ≡ reported_front event line node octets offset2 path2 ++ rest
+same_reported event line node octets offset2 path2 rest = simp append_assoc
 
 abbrev reasons_pieces : (reasons sync follow request response time : List ℕ) → List ℕ
 reasons_pieces reasons sync follow request response time =
@@ -349,7 +369,7 @@ error_text_of judged details = error_text (is_wrong judged.report judged.judgeme
     (errors_against judged.report details.by_messages) (errors_against judged.report judged.judgement.by_readings)
 
 abbrev line_of : Judged → Details → List ℕ
-line_of judged details = owed_text judged details ++ (reported_text judged ++ (reasons_of judged details ++ codes "}"))
+line_of judged details = owed_text judged details ++ (reported_text judged details ++ (reasons_of judged details ++ codes "}"))
 
 compact_is : (judged : Judged) (details : Details) → IsWithinRange judged details
     → compact_text (judged_data judged details) ≡ line_of judged details
@@ -365,20 +385,22 @@ compact_is judged details h =
     let path2 = escape_figures (signed_decimal judged.report.path2) (figures_signed judged.report.path2 h.path2) in
     let reasons : List ℕ = reasons_of judged details ++ codes "}" in
     (λ i. owed_pieces (by_messages i) (by_readings i) (error i)
-    (reported_pieces (decimal judged.event) (decimal judged.line) (node i) (offset2 i) (path2 i)
+    (reported_pieces (decimal judged.event) (decimal judged.line) (node i) (octets_are details.octets i) (offset2 i) (path2 i)
     (reasons_pieces (codes_are judged.judgement.reasons i) (decimal judged.report.sync_tag) (follow_is judged.report.follow_tag i)
     (decimal judged.report.request_tag) (decimal judged.report.response_tag) (time_is details.time i))))
     ∙ ap (λ (r : List ℕ). owed_pieces (results_text details.by_messages) (results_text judged.judgement.by_readings)
     (error_text_of judged details)
-    (reported_pieces (decimal judged.event) (decimal judged.line) judged.node (signed_decimal judged.report.offset2)
+    (reported_pieces (decimal judged.event) (decimal judged.line) judged.node (octets_text details.octets)
+    (signed_decimal judged.report.offset2)
     (signed_decimal judged.report.path2) r))
     (same_reasons (codes_text judged.judgement.reasons) (decimal judged.report.sync_tag) (follow_text judged.report.follow_tag)
     (decimal judged.report.request_tag) (decimal judged.report.response_tag) (time_text details.time))
     ∙ ap (owed_pieces (results_text details.by_messages) (results_text judged.judgement.by_readings) (error_text_of judged details))
-    (same_reported (decimal judged.event) (decimal judged.line) judged.node (signed_decimal judged.report.offset2)
+    (same_reported (decimal judged.event) (decimal judged.line) judged.node (octets_text details.octets)
+    (signed_decimal judged.report.offset2)
     (signed_decimal judged.report.path2) reasons)
     ∙ same_owed (results_text details.by_messages) (results_text judged.judgement.by_readings) (error_text_of judged details)
-    (reported_text judged ++ reasons)
+    (reported_text judged details ++ reasons)
 
 -- ---- in octets that are printed
 signed_printed : (z : ℤ) → IsOf128Bits z → ArePrinted (signed_decimal z)
@@ -432,11 +454,16 @@ owed_printed : (by_messages by_readings error : List ℕ) → ArePrinted by_mess
 owed_printed by_messages by_readings error m r e =
     both (both (both (both (both (word (codes "{\"by_messages\":") refl) m) (word (codes ",\"by_readings\":") refl)) r) (word (codes ",\"error\":") refl)) e
 
-reported_printed : (event line node offset2 path2 : List ℕ)
-    → ArePrinted event → ArePrinted line → ArePrinted node → ArePrinted offset2 → ArePrinted path2
-    → ArePrinted (reported_front event line node offset2 path2)
-reported_printed event line node offset2 path2 e l n o p =
-    both (both (both (both (both (both (both (both (both (both (word (codes ",\"event\":") refl) e) (word (codes ",\"line\":") refl)) l) (word (codes ",\"node\":\"") refl)) n) (word (codes "\",\"offset2\":\"") refl)) o) (word (codes "\",\"path2\":\"") refl)) p) (word (codes "\"") refl)
+octets_printed : (octets : Option Octets) → ArePrinted (octets_text octets)
+octets_printed None = word (octets_text None) refl
+octets_printed (Some Told) = word (octets_text (Some Told)) refl
+octets_printed (Some Other) = word (octets_text (Some Other)) refl
+
+reported_printed : (event line node octets offset2 path2 : List ℕ)
+    → ArePrinted event → ArePrinted line → ArePrinted node → ArePrinted octets → ArePrinted offset2 → ArePrinted path2
+    → ArePrinted (reported_front event line node octets offset2 path2)
+reported_printed event line node octets offset2 path2 e l n t o p =
+    both (both (both (both (both (both (both (both (both (both (both (both (word (codes ",\"event\":") refl) e) (word (codes ",\"line\":") refl)) l) (word (codes ",\"node\":\"") refl)) n) (word (codes "\",\"octets\":") refl)) t) (word (codes ",\"offset2\":\"") refl)) o) (word (codes "\",\"path2\":\"") refl)) p) (word (codes "\"") refl)
 
 reasons_printed : (reasons sync follow request response time : List ℕ)
     → ArePrinted reasons → ArePrinted sync → ArePrinted follow → ArePrinted request → ArePrinted response → ArePrinted time
@@ -450,9 +477,9 @@ line_printed judged details h =
     (results_printed judged.judgement.by_readings h.by_readings)
     (error_printed (is_wrong judged.report judged.judgement.by_readings) _ _ (errors_fit judged.report details.by_messages)
     (errors_fit judged.report judged.judgement.by_readings)))
-    (both (reported_printed _ _ _ _ _ (number_printed judged.event h.event) (number_printed judged.line h.line)
+    (both (reported_printed _ _ _ _ _ _ (number_printed judged.event h.event) (number_printed judged.line h.line)
     (word _ (all_of is_name_octet is_printed name_printed judged.node (list_all-from_AllPass is_name_octet judged.node h.node.octets)))
-    (signed_printed judged.report.offset2 h.offset2) (signed_printed judged.report.path2 h.path2))
+    (octets_printed details.octets) (signed_printed judged.report.offset2 h.offset2) (signed_printed judged.report.path2 h.path2))
     (both (reasons_printed _ _ _ _ _ _ (codes_printed judged.judgement.reasons) (number_printed judged.report.sync_tag h.tags.sync)
     (follow_printed judged.report.follow_tag h.tags.follow) (number_printed judged.report.request_tag h.tags.request)
     (number_printed judged.report.response_tag h.tags.response) (time_printed details.time h.time)) (word (codes "}") refl)))
@@ -466,7 +493,7 @@ each_is_json judged details h =
     let line : List ℕ = line_of judged details in
     let printed = (line_printed judged details h).all in (
       line,
-      ended (owed_text judged details) (reported_text judged) (reasons_of judged details) (codes "}") (codes "\n"),
+      ended (owed_text judged details) (reported_text judged details) (reasons_of judged details) (codes "}") (codes "\n"),
       printed,
       value_read line (judged_data judged details) (IsUtf8-from_ascii line (ascii line printed))
           (ap read (sym (compact_is judged details h)) ∙ read_back judged details h),

@@ -18,6 +18,7 @@ use Rattle.trace_model.specs.declared.verdict.Why.TheVariants.{WrongValue, Bytes
 use Rattle.schedule_lines.proofs.Names.{IsName-from_test}
 use Rattle.schedule_reading.specs.declared.transcript.Judged.{Judged}
 use Rattle.exchange_explain.specs.declared.details.Details.{Details}
+use Rattle.exchange_explain.specs.declared.details.Octets.TheVariants.{Told}
 use Rattle.exchange_explain.specs.Judged.{judged_text}
 use Rattle.exchange_explain.specs.declared.explaining.Explained.TheVariants.{Flawed}
 use Rattle.exchange_explain.specs.declared.input.Found.{Found}
@@ -59,11 +60,12 @@ judged = record {
 abbrev details : Details
 details = record {
   by_messages = Some (record { offset2 = negsuc 3145727999; path2 = negsuc 3145727999 });
+  octets = Some Told;
   time = Some 131072065536003;
 }
 
 text_is : judged_text judged details
-    ≡ codes "{\"by_messages\":{\"offset2\":\"-3145728000\",\"path2\":\"-3145728000\"},\"by_readings\":{\"offset2\":\"131072000\",\"path2\":\"131072000\"},\"error\":{\"by_messages\":{\"offset\":\"25000.00000762939453125\",\"path\":\"25000\"},\"by_readings\":{\"offset\":\"0.00000762939453125\",\"path\":\"0\"}},\"event\":13,\"line\":17,\"node\":\"S\",\"offset2\":\"131072001\",\"path2\":\"131072000\",\"reasons\":[706,708],\"tags\":[2,6,8,11],\"time\":[2,1000,3]}\n"
+    ≡ codes "{\"by_messages\":{\"offset2\":\"-3145728000\",\"path2\":\"-3145728000\"},\"by_readings\":{\"offset2\":\"131072000\",\"path2\":\"131072000\"},\"error\":{\"by_messages\":{\"offset\":\"25000.00000762939453125\",\"path\":\"25000\"},\"by_readings\":{\"offset\":\"0.00000762939453125\",\"path\":\"0\"}},\"event\":13,\"line\":17,\"node\":\"S\",\"octets\":\"told\",\"offset2\":\"131072001\",\"path2\":\"131072000\",\"reasons\":[706,708],\"tags\":[2,6,8,11],\"time\":[2,1000,3]}\n"
 unfolding digits decimals
 text_is = refl
 

@@ -15,6 +15,8 @@ use Rattle.schedule_lines.specs.Written.{whole, moment_data, difference_data, ta
 use Rattle.schedule_reading.specs.declared.transcript.Judged.{Judged}
 use Rattle.measured_json.specs.ReadBack.{IsOf128Bits, is_printed}
 use Rattle.exchange_explain.specs.declared.details.Details.{Details}
+use Rattle.exchange_explain.specs.declared.details.Octets.{Octets}
+use Rattle.exchange_explain.specs.declared.details.Octets.TheVariants.{Told, Other}
 use Rattle.exchange_explain.specs.Judged.{errors_against, is_wrong, judged_text}
 
 -- results of 128 bits
@@ -53,6 +55,12 @@ error_data stands by_messages by_readings = if stands then
     object (member (codes "by_messages") (errors_data by_messages)
     (member (codes "by_readings") (errors_data by_readings) no_members)) else null
 
+-- in which fields octets differ as a value, or null
+abbrev pub octets_data : Option Octets → Data
+octets_data None = null
+octets_data (Some Told) = string (codes "told")
+octets_data (Some Other) = string (codes "other")
+
 -- a moment as a value, or null
 abbrev pub time_data : Option ℕ → Data
 time_data None = null
@@ -73,11 +81,12 @@ judged_data judged details = object
     (member (codes "event") (whole judged.event)
     (member (codes "line") (whole judged.line)
     (member (codes "node") (string judged.node)
+    (member (codes "octets") (octets_data details.octets)
     (member (codes "offset2") (difference_data judged.report.offset2)
     (member (codes "path2") (difference_data judged.report.path2)
     (member (codes "reasons") (array (codes_data judged.judgement.reasons))
     (member (codes "tags") (tags_data judged.report)
-    (member (codes "time") (time_data details.time) no_members)))))))))))
+    (member (codes "time") (time_data details.time) no_members))))))))))))
 
 -- the JSON of a judged report is one line, which is read as that value
 abbrev pub EachJudgementIsJson : Type 0

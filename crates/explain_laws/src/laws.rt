@@ -2,10 +2,11 @@
 
 ghost use Rattle.explain_laws.specs.AsChecked.{ExplainsAsChecked, JudgementsHaveOneAnswer, JudgesAsChecked};
 ghost use Rattle.explain_laws.specs.ReadBack.{EachJudgementIsJson};
+ghost use Rattle.explain_laws.specs.Unread.{EachOtherTellsTheReadings};
 
-/// What `explain --json` writes of a report is one line of printed octets, which is read as an object of eleven members:
-/// `by_messages`, `by_readings`, `error`, `event`, `line`, `node`, `offset2`, `path2`, `reasons`, `tags` and `time`, with the
-/// values of that judgement. This holds of all numbers of 64 bits, of results of 128 bits, of any name that a node may have,
+/// What `explain --json` writes of a report is one line of printed octets, which is read as an object of twelve members:
+/// `by_messages`, `by_readings`, `error`, `event`, `line`, `node`, `octets`, `offset2`, `path2`, `reasons`, `tags` and `time`,
+/// with the values of that judgement. This holds of all numbers of 64 bits, of results of 128 bits, of any name that a node may have,
 /// and of each moment.
 pub fn judgements_are_json()
     ensures { EachJudgementIsJson }
@@ -29,4 +30,10 @@ pub fn judges_as_checked()
 /// line before it: `explain` reads on behind its first fault.
 pub fn explains_as_checked()
     ensures { ExplainsAsChecked }
+{}
+
+/// What `"octets":"other"` of `explain --json` says of a report against which none of 701, 702, 704 and 707 stands: its two
+/// results by the messages are those by the readings, so that the slave was told nothing else than what the clocks read.
+pub fn other_octets_tell_the_readings()
+    ensures { EachOtherTellsTheReadings }
 {}

@@ -62,8 +62,10 @@ them, whoever wrote these; the lines tell which. Standard output says, as text f
                                   Delay_Req, and by how much its results differ from those of the readings;
                                   where the messages told the slave something else, the results by these,
                                   and which message does
-  at the end                      how many reports there are, how many each reason stands against, and the
-                                  verdict of 'ptpx check'
+  at the end                      how many reports there are, how many each reason stands against, how many
+                                  are right by the messages and how many by the readings, what is wrong
+                                  with octets, how many completions have no report, and the verdict of
+                                  'ptpx check'
 What is said of a line goes out before the next is read. The line
   event 13, line 17, slave S: refused, 706: the two results aren't those of the readings
 is of the report with n 13, at line 17 of the input; lines count from 1. With --first, of all reports only
@@ -73,21 +75,24 @@ With --json standard output has a line for each report, before the next line is 
 that report alone, and nothing else:
   {"by_messages":{"offset2":"131072000","path2":"131072000"},"by_readings":{"offset2":"131072000",
   "path2":"131072000"},"error":{"by_messages":{"offset":"0.5","path":"0"},"by_readings":{"offset":"0.5",
-  "path":"0"}},"event":13,"line":17,"node":"S","offset2":"131137536","path2":"131072000",
+  "path":"0"}},"event":13,"line":17,"node":"S","octets":null,"offset2":"131137536","path2":"131072000",
   "reasons":[706],"tags":[5,7,8,13],"time":[2,1000,0]}
 in one line. reasons are all that stand against the report, none where it is sound: 701 alone, or else 704
 alone, or else each that applies of 702, 703, 705, 707, 706 and 708, in this order. by_readings is what
 the results are by the readings, by_messages what they are by what the messages told the slave and its own
 readings; both are null where 701 or 704 stands, by_messages also where one of these messages can't be
 read. error is how many nanoseconds the results are too much against each of the two, null where 706
-doesn't stand. offset2 is twice offsetFromMaster and path2 twice meanPathDelay, in units of 2^-16 ns.
-time is what the slave read at the later of the Sync's arrival and the Delay_Req's departure.
+doesn't stand. octets is "told" where 708 stands and a field differs that a slave or a master reads, and
+"other" where only fields do that nobody here reads. offset2 is twice offsetFromMaster and path2 twice
+meanPathDelay, in units of 2^-16 ns. time is what the slave read at the later of the Sync's arrival and
+the Delay_Req's departure.
 
 Reasons and faults are those that 'ptpx check --help' lists, and of a schedule those of 'ptpx replay --help'.
 The first fault goes as 'ptpx: fault 806 at line 3' to standard error.
 
 Exit statuses:
-  0  each report of the transcript is sound, or each event of the schedule can happen
+  0  each report of the transcript is sound, or each event of the schedule can happen; or nobody reads any
+     more what is told, as with 'head', and then it is no verdict
   1  a report is refused
   2  the arguments aren't a command
   3  a fault

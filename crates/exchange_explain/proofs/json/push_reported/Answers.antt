@@ -1,7 +1,8 @@
-use Rattle.std.proofs.Common.{append_assoc}
 use Rattle.std.proofs.lemmas.Result.{IfOk-equal}
+use Rattle.exchange_explain.proofs.Joined.{reported_joined}
 use Rattle.exchange_explain.proofs.json.push_reported.Goals as goal
 
 pub returns : goal.returns
 returns c =
-    IfOk-equal c.write.result _ _ _ c.write.ensures.bytes (rw c.text.ensures.value (simp append_assoc))
+    IfOk-equal c.write-2.result _ _ _ c.write-2.ensures.bytes
+    (reported_joined c.args.judged.now c.args.details.now _ _ _ c.text.ensures.value c.in_ok-write.ensures.bytes)

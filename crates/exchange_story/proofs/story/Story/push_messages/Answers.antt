@@ -9,5 +9,5 @@ returns-then-not-has_octets c =
 
 pub returns : goal.returns
 returns c =
-    messages_told c.push_str.result _ _ _ c.as_str.result.now
-    (ap has_octets (sym c.self.view_is) ∙ sym c.has_octets.ensures ∙ c.if-not-has_octets.false) c.push_str.ensures.bytes
+    messages_told c.push.result _ _ _
+    (ap has_octets (sym c.self.view_is) ∙ sym c.has_octets.ensures ∙ c.if-not-has_octets.false) c.push.ensures
