@@ -6,6 +6,7 @@ import fractions
 import json
 import pathlib
 import re
+import statistics
 import sys
 import typing
 
@@ -20,6 +21,9 @@ TOO_BIG = 2**63 - 1
 
 # How many messages are kept until all is known, how many Syncs of a tap are looked at, and how many records count.
 KEPT, LOOKED_AT, RECORDS = 1024, 256, 256
+
+# Of how many crossings of a kind, at the most, there are medians: the last ones.
+RECENT = 4096
 
 NAME = re.compile(rb'[A-Za-z0-9_.-]{1,16}')
 LINE = re.compile(rb'([A-Za-z0-9_.-]{1,16}) (0|[1-9][0-9]*)(?:\.([0-9]{1,9}))? ((?:[0-9a-fA-F]{2})*)')
@@ -117,11 +121,12 @@ def is_beyond(crossings, limit):
 
 
 class Followed(typing.NamedTuple):
-    """What is owed: the status, the lines, what standard error says at its end, line by line, the fault (its number and its line, or its octet) and
-    the tap that is a third one."""
+    """What is owed: the status, the lines, what standard error says, line by line, but for the fault, how many of these lines it says at once, before the
+    fault and the rest, the fault (its number and its line, or its octet) and the tap that is a third one."""
     status: int
     crossings: list
     said: list
+    at_once: int = 0
     fault: tuple | None = None
     third: bytes | None = None
 
@@ -336,19 +341,46 @@ def rounded(nanoseconds):
     return f'{"-" if nanoseconds < 0 and parts else ""}{parts // 1000}.{parts % 1000:03}'
 
 
+def rate(crossings):
+    """By how many millionths of what Syncs were corrected by their rest grows, by least squares, and whether that explains half of how it varies; none of
+    fewer than 16, and where all were corrected by the same."""
+    corrected, rest = ([fractions.Fraction(it[name]) for it in crossings if it['kind'] == 'sync'] for name in ('corrected', 'rest'))
+    if len(rest) < 16 or len(set(corrected)) == 1:
+        return None
+    one, other = (sum(them) / len(them) for them in (corrected, rest))
+    run = sum((it - one) ** 2 for it in corrected)
+    rise = sum((it - one) * (its - other) for it, its in zip(corrected, rest))
+    return rise / run * 10**6, 2 * rise**2 >= run * sum((it - other) ** 2 for it in rest)
+
+
+def rate_lines(crossings):
+    """What is said of that, from 1 ppm on."""
+    ppm, explains_half = rate(crossings) or (0, False)
+    if abs(ppm) < 1:
+        return []
+    explained = 'half of how it varies, or more' if explains_half else 'less than half of how it varies'
+    return [f'rate: rest of Syncs grows by {rounded(ppm)} ppm of corrected, by least squares (rounded), which explains {explained}: by so much a clock between the taps '
+            'tells its residences too short, where its rate is the reason']
+
+
 def figures(crossings, start, end):
-    """What standard error tells of crossings, line by line. Means and the asymmetry are those of the sums, to 2^-16 ns."""
+    """What standard error tells of crossings, line by line. Means and the asymmetry are those of the sums, to 2^-16 ns, and medians those of the last
+    4,096 of a kind."""
     lines, exact = [], []
     for kind, word, first, second in (('sync', 'Sync', start, end), ('delay_req', 'Delay_Req', end, start)):
         those = [it for it in crossings if it['kind'] == kind]
         number = f'no {word}' if not those else f'1 {word}' if len(those) == 1 else f'{len(those)} {word}s'
-        lines.append(f'{number} crossed from {first} to {second}' + ('; in ns, rounded:' if those else ''))
+        medians = f', medians of the last {RECENT}' if len(those) > RECENT else ''
+        lines.append(f'{number} crossed from {first} to {second}' + (f'; in ns, rounded{medians}:' if those else ''))
         for name in ('taken', 'corrected', 'rest') if those else ():
             units = [fractions.Fraction(it[name]) for it in those]
             mean = fractions.Fraction(round(sum(units) / len(units)))
-            lines.append(f'  {name}: least {rounded(min(units) / UNITS)}, mean {rounded(mean / UNITS)}, greatest {rounded(max(units) / UNITS)}')
+            median = statistics.median(units[-RECENT:])
+            lines.append(f'  {name}: least {rounded(min(units) / UNITS)}, median {rounded(median / UNITS)}, mean {rounded(mean / UNITS)}, '
+                         f'greatest {rounded(max(units) / UNITS)}')
         if those:
             exact.append(fractions.Fraction(sum(it['rest'] for it in those), len(those)))
+    lines += rate_lines(crossings)
     if len(exact) == 2:
         asymmetry = fractions.Fraction(round(exact[0] - exact[1]), UNITS)
         lines.append(f'asymmetry {rounded(asymmetry)} ns: where both taps read one clock, offsets of a slave behind them are by half of it, '
@@ -357,7 +389,7 @@ def figures(crossings, start, end):
 
 
 def said(watch, follower):
-    """What standard error says at its end, without the name of the program in front."""
+    """What standard error says, without the name of the program in front."""
     names = [it.decode() for it in watch.taps if it is not None]
     if follower is None:
         if len(names) == 2:
@@ -411,6 +443,7 @@ def follow(octets, wanted=Wanted()):
     if third is None and fault is None and follower is None:
         follower = begin(True)
     crossings = follower.crossings if follower else []
+    told = said(watch, follower), 0 if follower is None else 4 if follower.slave else 3
     if third is not None:
-        return Followed(2, crossings, said(watch, follower), ('third', (809, third.line)), third.tap)
-    return Followed(3 if fault else 0, crossings, said(watch, follower), fault)
+        return Followed(2, crossings, *told, ('third', (809, third.line)), third.tap)
+    return Followed(3 if fault else 0, crossings, *told, fault)

@@ -103,7 +103,7 @@ def crossings_said(word, first, second, count=0, taken='', corrected='', rest=''
     """What standard error says of so many crossings of a kind that are alike."""
     if not count:
         return [f'no {word} crossed from {first} to {second}']
-    values = [f'  {name}: least {value}, mean {value}, greatest {value}' for name, value in (('taken', taken), ('corrected', corrected), ('rest', rest))]
+    values = [f'  {name}: least {value}, median {value}, mean {value}, greatest {value}' for name, value in (('taken', taken), ('corrected', corrected), ('rest', rest))]
     return [f'{count} {word}{"s" * (count > 1)} crossed from {first} to {second}; in ns, rounded:', *values]
 
 
@@ -235,8 +235,8 @@ def fault_text(fault):
 
 
 def see(name, octets, wanted=Wanted(), errors=(), csv=False, is_sum=False, limit=None, is_program=True):
-    """Compares an answer of the program with what is owed, and answers that. Standard error has these texts, and its last lines are those that are owed;
-    of lines there are no others but the fault, and of a whole capture the first one tells how many packets there are."""
+    """Compares an answer of the program with what is owed, and answers that. Standard error has these texts, and its first and last lines are those that
+    are owed; of lines there are no others but the fault, and of a whole capture the next one tells how many packets there are."""
     global cases
     owed = follow(octets, wanted)
     if not is_program:
@@ -249,15 +249,16 @@ def see(name, octets, wanted=Wanted(), errors=(), csv=False, is_sum=False, limit
     text = owed.text(csv, is_sum)
     expect(f'{name}: status {answer.returncode}, {said}', answer.returncode == status)
     expect(f'{name}: another output, {answer.stdout[:400]!r} and not {text[:400]!r}', answer.stdout == text)
-    expect(f'{name}: {said}', owed.fault is None or owed.fault[0] == 'third' or said.startswith(fault_text(owed.fault)))
+    first, last = (''.join(f'ptpx: {it}\n' for it in lines) for lines in (owed.said[:owed.at_once], owed.said[owed.at_once:]))
+    expect(f'{name}: {said!r} doesn\'t begin with {first!r}', said.startswith(first))
+    expect(f'{name}: {said}', owed.fault is None or owed.fault[0] == 'third' or said.startswith(first + fault_text(owed.fault)))
     expect(f'{name}: {said}', (owed.status == 2) == ('fault 809 ' in said))
-    last = ''.join(f'ptpx: {it}\n' for it in owed.said)
     expect(f'{name}: {said!r} doesn\'t end with {last!r}', said.endswith(last))
     if octets[:4] not in followed.MAGICS and owed.third is None:
-        expect(f'{name}: {said!r} says more than {last!r}', said == fault_text(owed.fault) + last)
+        expect(f'{name}: {said!r} says more than {first!r} and {last!r}', said == first + fault_text(owed.fault) + last)
     if octets[:4] in followed.MAGICS and owed.fault is None:
         found = followed.reading.read(octets)
-        expect(f'{name}: {said!r}, other packets', said.startswith(f'ptpx: {found.packets} packets, of which {len(found.rows)} have PTP\n'))
+        expect(f'{name}: {said!r}, other packets', said.startswith(f'{first}ptpx: {found.packets} packets, of which {len(found.rows)} have PTP\n'))
     for text in errors:
         expect(f'{name}: {text!r} is not in {said!r}', text in said)
     return owed
@@ -390,6 +391,31 @@ def see_sums(is_program):
         see(f'{name}, sums', octets, wanted, is_sum=True, limit=str(max(map(abs, [*syncs[1:3], *requests[1:3]])) - 1), is_program=is_program)
 
 
+# Of the rests of Syncs, in units, the median in nanoseconds: of 4,097 it is that of the last 4,096.
+MEDIANS = [((65536 * 3, 65536, 65536 * 2), '2.000'), ((0, 65536), '0.500'), ((-65536, 0), '-0.500'), ((3, 0, 0, 1), '0.000'), ((66, 33), '0.001'), ((65536 * 9,), '9.000'),
+           ((0, *[65536] * 2048, *[65536 * 3] * 2048), '2.000'), ((*[65536] * 2048, *[65536 * 3] * 2048), '2.000'), ((*[65536 * 3] * 2048, *[65536] * 2049), '1.000')]
+
+# How many Syncs there are, by how many nanoseconds the next of them is corrected more and takes more, and what is said of the rate, in ppm.
+RATES = [(16, 10_000, 10_001, '100.000'), (16, 10_000, 9_999, '-100.000'), (15, 10_000, 10_001, None), (16, 0, 1, None), (40, 10**7, 10**7 + 10, '1.000'),
+         (40, 10**7, 10**7 - 10, '-1.000'), (40, 10**7, 10**7 + 9, None), (40, 10**7, 10**7, None), (16, 1000, 0, '-1000000.000')]
+
+
+def see_figures(is_program):
+    for rests, median in MEDIANS:
+        name = f'the median of {len(rests)} rests'
+        owed = see(name, rested(*rests), is_program=is_program)
+        expect(f'{name}: {owed.said}', any(it.startswith('  rest: ') and f', median {median}, ' in it for it in owed.said))
+        expect(f'{name}: which', ', rounded, medians of the last 4096:' in ''.join(owed.said) or len(rests) <= 4096)
+    for count, corrected, taken, ppm in RATES:
+        name = f'the rate of {count} Syncs by {corrected} and {taken}'
+        rows = [row for it in range(count) for row in (('left', 10**9 * it, made(SYNC, MASTER, it)),
+                                                       ('right', 10**9 * it + taken * it, made(SYNC, MASTER, it, corrected * it * UNITS)))]
+        owed = see(name, told(*rows), is_program=is_program)
+        said = [it for it in owed.said if it.startswith('rate: ')]
+        expect(f'{name}: {said}', len(said) == (ppm is not None))
+        expect(f'{name}: {said}', ppm is None or f' grows by {ppm} ppm of corrected' in said[0] and 'explains half of how it varies, or more:' in said[0])
+
+
 MISTAKES = [['--sum', '--csv'], *[['--limit', it] for it in ('', '-1', '01', '1.', '1.0000000001', '1 ', ' 1', '1 0', '281474976710656', '1' * 16, '1e3', '0x1')],
             ['--limit', '1', '--limit', '2'], ['--from', 'left', '--to', 'left'], ['--from', 'left', '--from', 'right'], ['--from', ''], ['--to', 'a b'], ['--from', 'a' * 17], ['--domain', '256'],
             ['--csv=yes'], ['--interface', 'left'], ['capture.pcapng']]
@@ -480,6 +506,7 @@ def main():
     see_bent(is_program)
     see_third(is_program)
     see_sums(is_program)
+    see_figures(is_program)
     see_broken(is_program)
     if is_program:
         see_mistakes()

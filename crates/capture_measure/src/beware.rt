@@ -1,10 +1,10 @@
 //! What is told of the numbers of reports, and of what they are worth.
 
 use crate::others::{doubt_others, doubt_repeats, doubt_turn};
-use crate::rounded::{Signed, deviation, mean, slope};
 use crate::tally::{Counts, Kind, Why};
 use ptp_units::{Nanoseconds, ScaledTime};
 use recording_quality::{Point, Series, Spread, Statistics, Times};
+use rounded_series::{Signed, Thousandths, deviation, mean, slope};
 use std::fmt;
 use std::fmt::{Display, Formatter};
 use std::io::Write;
@@ -23,18 +23,6 @@ const OFFSETS: u64 = 16;
 
 /// From how many thousand-millionths on it is told that offsets run away.
 const SLOPE: u128 = 1000;
-
-/// A number of thousandths, with its sign.
-#[derive(Clone, Copy)]
-struct Thousandths(Signed);
-
-impl Display for Thousandths {
-    fn fmt<W: fmt::Write>(&self, f: &mut Formatter<W>) -> fmt::Result {
-        let Signed { is_negative, size } = self.0;
-        let sign = if is_negative && size > 0 { "-" } else { "" };
-        write!(f, "{sign}{}.{:03}", size / 1000, size % 1000)
-    }
-}
 
 /// A value that was measured, and the line or packet of which it is.
 #[derive(Clone, Copy)]
@@ -165,13 +153,14 @@ fn doubt_offsets<E: Write>(statistics: &Statistics, errors: &mut E) {
     }
     if offsets.count >= OFFSETS
         && let Some(slope) = slope(offsets, &statistics.trend)
-        && slope.size >= SLOPE
+        && slope.explains_half
+        && slope.rate.size >= SLOPE
     {
         let _ = writeln!(
             errors,
             "ptpx: beware: the offset runs away by {} ppm (rounded): the times are of a clock that doesn't follow this master, as \
              that of a tap or of another host, or that was set or was still settling",
-            Thousandths(slope)
+            Thousandths(slope.rate)
         );
     }
 }

@@ -13,7 +13,6 @@ mod others;
 mod packets;
 mod recording;
 mod reports;
-mod rounded;
 mod tally;
 mod watch;
 

@@ -18,7 +18,7 @@ use tap_following::Form;
 use tap_sums::Sums;
 use text_lines::{Cause, Counted, Numbered, Stopped};
 
-/// Follows messages between two taps, tells what came of them beside the crossings, and answers the exit status.
+/// Follows messages between two taps, tells whose they are and what came of them beside the crossings, and answers the exit status.
 pub(crate) fn run_follow<R: Read, W: Write, E: Write>(
     alloc: Global,
     options: FollowOptions,
@@ -36,7 +36,7 @@ pub(crate) fn run_follow<R: Read, W: Write, E: Write>(
         slave: options.slave,
     };
     let form = crossing_form(&options);
-    let (outcome, summary) = follow(alloc, &wanted, form, input, output);
+    let (outcome, summary) = follow(alloc, &wanted, form, input, output, errors);
     let status = finish_followed(errors, &summary.taps(), outcome);
     let are_asked = asks_sums(&options, &outcome);
     let status = end_with_sums(alloc, are_asked, &summary, status, output, errors);

@@ -25,25 +25,26 @@ use Rattle.tap_follow.specs.Inner.Outcomes.{AreLines, ArePackets}
 use Rattle.tap_follow.specs.Inner.Taking.{IsLeft, IsEnded}
 
 -- what is left of lines, and of packets
-abbrev pub LinesLeft : Lines → Lines → FollowFault → Type 0
-LinesLeft old new what = IsLeft old.taking.follower new.taking.follower what
+abbrev pub LinesLeft : {T : Type 0} → (T → Lines) → T → T → FollowFault → Type 0
+LinesLeft of old new what = IsLeft (of old).taking.follower (of new).taking.follower what
 
-abbrev pub LinesEnded : Lines → Lines → Type 0
-LinesEnded old new = IsEnded old.taking.follower new.taking.follower
+abbrev pub LinesEnded : {T : Type 0} → (T → Lines) → T → T → Type 0
+LinesEnded of old new = IsEnded (of old).taking.follower (of new).taking.follower
 
-abbrev pub PacketsLeft : Packets → Packets → FollowFault → Type 0
-PacketsLeft old new what = IsLeft old.taking.follower new.taking.follower what
+abbrev pub PacketsLeft : {T : Type 0} → (T → Packets) → T → T → FollowFault → Type 0
+PacketsLeft of old new what = IsLeft (of old).taking.follower (of new).taking.follower what
 
-abbrev pub PacketsEnded : Packets → Packets → Type 0
-PacketsEnded old new = IsEnded old.taking.follower new.taking.follower
+abbrev pub PacketsEnded : {T : Type 0} → (T → Packets) → T → T → Type 0
+PacketsEnded of old new = IsEnded (of old).taking.follower (of new).taking.follower
 
 -- ---- lines
-module _ (form : Form) (w : Wanted) (octets : List ℕ) (task : Lines) (summary : Summary)
-    (is : (c : Course) → IsFollower task.taking.follower c → IsSummaryOf c summary)
+-- of a task that has in it what follows
+module _ {T : Type 0} (of : T → Lines) (form : Form) (w : Wanted) (octets : List ℕ) (task : T) (summary : Summary)
+    (is : (c : Course) → IsFollower (of task).taking.follower c → IsSummaryOf c summary)
   where
     lines_until : (earlier line : ℕ) (what : Cause FollowFault) (state : LinesRead) (text : List ℕ) → line ≡ earlier + 1
         → lines.TakesLines line_rules 1 (take earlier (lines_of octets)) (nothing_read form w) state text
-        → lines.IsLeftAt AreLines LinesLeft state task what → OfLinesUntil form w octets line what summary
+        → lines.IsLeftAt (λ t. AreLines (of t)) (LinesLeft of) state task what → OfLinesUntil form w octets line what summary
     lines_until earlier line (Reading fault) state text numbered taken at =
         (earlier, numbered, state, text, taken, is state.course at.1)
     lines_until earlier line (Task Field) state text numbered taken (before, at, left) =
@@ -54,7 +55,7 @@ module _ (form : Form) (w : Wanted) (octets : List ℕ) (task : Lines) (summary 
     lines_until earlier line (Task Memory) state text numbered taken left = tt
 
     pub lines_left : (answer : Result ℕ (Stopped (Cause FollowFault)))
-        → lines.LeavesTask line_rules AreLines LinesLeft LinesEnded (nothing_read form w) octets task answer
+        → lines.LeavesTask line_rules (λ t. AreLines (of t)) (LinesLeft of) (LinesEnded of) (nothing_read form w) octets task answer
         → OfLines form w octets answer summary
     lines_left (Ok count) (state, text, taken, before, at, ends) =
         (state, text, taken, is (ended state.course) (ends state.course at.1))
@@ -62,12 +63,13 @@ module _ (form : Form) (w : Wanted) (octets : List ℕ) (task : Lines) (summary 
         lines_until earlier stop.line stop.what state text numbered taken left
 
 -- ---- packets
-module _ (form : Form) (w : Wanted) (octets : List ℕ) (task : Packets) (summary : Summary)
-    (is : (c : Course) → IsFollower task.taking.follower c → IsSummaryOf c summary)
+-- the same
+module _ {T : Type 0} (of : T → Packets) (form : Form) (w : Wanted) (octets : List ℕ) (task : T) (summary : Summary)
+    (is : (c : Course) → IsFollower (of task).taking.follower c → IsSummaryOf c summary)
   where
     packets_until : (count : ℕ) (what : CaptureCause FollowFault) (parts : List Part) (rest : List ℕ) (state : Course)
         (text : List ℕ) → packets.HasTaken packet_rules (begun form w) octets parts rest state text
-        → count ≡ length (packets_of parts) → packets.IsLeftAt ArePackets PacketsLeft state task what
+        → count ≡ length (packets_of parts) → packets.IsLeftAt (λ t. ArePackets (of t)) (PacketsLeft of) state task what
         → OfPacketsUntil form w octets count what summary
     packets_until count causes.Read parts rest state text has numbered at =
         (parts, rest, state, text, has, numbered, is state at)
@@ -82,7 +84,7 @@ module _ (form : Form) (w : Wanted) (octets : List ℕ) (task : Packets) (summar
     packets_until count (causes.Task Memory) parts rest state text has numbered left = tt
 
     pub packets_left : (answer : Result ℕ (CaptureStop FollowFault))
-        → packets.LeavesTask packet_rules ArePackets PacketsLeft PacketsEnded (begun form w) octets task answer
+        → packets.LeavesTask packet_rules (λ t. ArePackets (of t)) (PacketsLeft of) (PacketsEnded of) (begun form w) octets task answer
         → OfPackets form w octets answer summary
     packets_left (Ok count) (parts, state, text, has, before, at, ends) =
         (parts, state, text, has, is (ended state) (ends state at))

@@ -1,13 +1,21 @@
 //! What crossings come to, for people.
 
+use rounded_series::{Thousandths, slope};
 use std::fmt;
 use std::fmt::{Display, Formatter};
 use std::io::Write;
 use tap_crossing::Kind;
-use tap_sums::{Spread, Statistics, Sums};
+use tap_figures::{Figures, RECENT_MOST};
+use tap_sums::{Quantity, Spread, Statistics, Sums};
 
 /// Halves of 2^-16 ns of a nanosecond.
 const NANOSECOND: u128 = 131_072;
+
+/// From how many Syncs on it is told how much their rests grow with their corrections.
+const SYNCS: u64 = 16;
+
+/// From how many thousand-millionths on it is told.
+const RATE: u128 = 1000;
 
 /// A number of halves of 2^-16 ns, which shows as nanoseconds, rounded to a thousandth.
 #[derive(Clone, Copy)]
@@ -32,28 +40,47 @@ fn of_units(units: i128) -> Rounded {
     Rounded(units.saturating_mul(2))
 }
 
-/// Tells the least, the mean and the greatest.
-fn tell_spread<E: Write>(name: &str, spread: Option<Spread>, errors: &mut E) {
-    if let Some(
-        Spread {
-            least,
-            greatest,
-            mean,
-        },
-    ) = spread
-    {
-        let _ = writeln!(
-            errors,
-            "ptpx:   {name}: least {}, mean {}, greatest {}",
-            of_units(least),
-            of_units(mean),
-            of_units(greatest)
-        );
+/// The median of what the last crossings of a kind have, where there is memory to find it.
+fn median_of(figures: Option<&Figures>, kind: Kind, quantity: Quantity) -> Option<Rounded> {
+    let Some(figures) = figures else {
+        return None;
+    };
+    match figures.median(kind, quantity) {
+        Ok(Some(middle)) => Some(Rounded(middle.lower.saturating_add(middle.upper))),
+        Ok(None) | Err(_) => None,
     }
 }
 
+/// Tells the least, the median, the mean and the greatest.
+fn tell_spread<E: Write>(
+    name: &str,
+    spread: Option<Spread>,
+    median: Option<Rounded>,
+    errors: &mut E,
+) {
+    let Some(spread) = spread else {
+        return;
+    };
+    let _ = write!(errors, "ptpx:   {name}: least {}", of_units(spread.least));
+    if let Some(median) = median {
+        let _ = write!(errors, ", median {median}");
+    }
+    let _ = writeln!(
+        errors,
+        ", mean {}, greatest {}",
+        of_units(spread.mean),
+        of_units(spread.greatest)
+    );
+}
+
 /// Tells what the crossings of a kind come to.
-fn tell_statistics<E: Write>(statistics: &Statistics, first: &str, second: &str, errors: &mut E) {
+fn tell_statistics<E: Write>(
+    statistics: &Statistics,
+    figures: Option<&Figures>,
+    first: &str,
+    second: &str,
+    errors: &mut E,
+) {
     let (one, more) = match statistics.kind {
         Kind::Sync => ("Sync", "Syncs"),
         Kind::DelayReq => ("Delay_Req", "Delay_Reqs"),
@@ -64,20 +91,63 @@ fn tell_statistics<E: Write>(statistics: &Statistics, first: &str, second: &str,
             errors,
             "ptpx: 1 {one} crossed from {first} to {second}; in ns, rounded:"
         ),
+        count if count > RECENT_MOST as u64 => writeln!(
+            errors,
+            "ptpx: {count} {more} crossed from {first} to {second}; in ns, rounded, medians of the last {RECENT_MOST}:"
+        ),
         count => writeln!(
             errors,
             "ptpx: {count} {more} crossed from {first} to {second}; in ns, rounded:"
         ),
     };
-    tell_spread("taken", statistics.taken, errors);
-    tell_spread("corrected", statistics.corrected, errors);
-    tell_spread("rest", statistics.rest, errors);
+    for (name, spread, quantity) in [
+        ("taken", statistics.taken, Quantity::Taken),
+        ("corrected", statistics.corrected, Quantity::Corrected),
+        ("rest", statistics.rest, Quantity::Rest),
+    ] {
+        let median = median_of(figures, statistics.kind, quantity);
+        tell_spread(name, spread, median, errors);
+    }
+}
+
+/// Tells how much the rests of Syncs grow with their corrections, by least squares, where that is much. What can't be written is lost.
+fn tell_rate<E: Write>(figures: &Figures, errors: &mut E) {
+    let rests = &figures.rests;
+    if rests.count < SYNCS {
+        return;
+    }
+    let Some(growth) = slope(rests, &figures.trend) else {
+        return;
+    };
+    if growth.rate.size < RATE {
+        return;
+    }
+    let explained = if growth.explains_half {
+        "half of how it varies, or more"
+    } else {
+        "less than half of how it varies"
+    };
+    let _ = writeln!(
+        errors,
+        "ptpx: rate: rest of Syncs grows by {} ppm of corrected, by least squares (rounded), which explains {explained}: by so much a \
+         clock between the taps tells its residences too short, where its rate is the reason",
+        Thousandths(growth.rate)
+    );
 }
 
 /// Tells what the crossings of both kinds come to, in lines, and what the asymmetry means. What can't be written is lost.
-pub(crate) fn tell_figures<E: Write>(sums: &Sums, from: &str, to: &str, errors: &mut E) {
-    tell_statistics(&sums.statistics(Kind::Sync), from, to, errors);
-    tell_statistics(&sums.statistics(Kind::DelayReq), to, from, errors);
+pub(crate) fn tell_figures<E: Write>(
+    sums: &Sums,
+    figures: Option<&Figures>,
+    from: &str,
+    to: &str,
+    errors: &mut E,
+) {
+    tell_statistics(&sums.statistics(Kind::Sync), figures, from, to, errors);
+    tell_statistics(&sums.statistics(Kind::DelayReq), figures, to, from, errors);
+    if let Some(figures) = figures {
+        tell_rate(figures, errors);
+    }
     let Some(asymmetry) = sums.both_ways().asymmetry else {
         return;
     };

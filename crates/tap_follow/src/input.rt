@@ -5,16 +5,18 @@ ghost use Rattle.std.specs.Option.{ForSome};
 ghost use Rattle.std.specs.Io.KnownBytes.{Appends};
 ghost use Rattle.text_lines.specs.Counted.{device_of, HasFailed, HasNotFailed};
 ghost use Rattle.text_lines.specs.Lines.{line_limit, lfs_in};
-ghost use Rattle.tap_following.specs.Course.{begun};
+ghost use Rattle.tap_following.specs.Course.{Course, begun};
+ghost use Rattle.tap_following.specs.Held.{IsFollower};
 ghost use Rattle.tap_follow.specs.Rules.{nothing_read};
 ghost use Rattle.tap_follow.specs.Input.{FollowsInput, OutcomeFailed, head_text};
 ghost use Rattle.tap_follow.specs.Told.{IsSummaryOf, TellsInput};
 ghost use Rattle.tap_follow.specs.Inner.Outcomes.{LinesAnswer, PacketsAnswer, LinesTell, PacketsTell};
 
 use crate::fault::FollowFault;
-use crate::lines::Lines;
-use crate::packets::Packets;
+use crate::lines::{LineTelling, Lines};
+use crate::packets::{PacketTelling, Packets};
 use crate::summary::Summary;
+use crate::told::Told;
 use capture_file::{Beginning, CaptureStop, answer_packets_behind};
 use std::alloc::Global;
 use std::io::{Read, Write};
@@ -39,14 +41,18 @@ pub enum Outcome {
 /// What a packet or line brings goes out in one write before an octet behind it is read, but for a first line that is refused: where a
 /// magic begins with the first octet, four are read.
 ///
+/// Whose messages are followed, and between which taps, is told in lines as soon as that is known, before the first crossing. What
+/// can't be written there is lost.
+///
 /// The faults are those of reading and of a capture, 802 (the writer failed), 806 (a line that tells no datagram), 808 (memory was
 /// refused) and 809 (a third tap). What was told before is written then.
-pub fn follow<R: Read, W: Write>(
+pub fn follow<R: Read, W: Write, E: Write>(
     alloc: Global,
     wanted: &Wanted,
     form: Form,
     input: &mut Counted<R>,
     output: &mut Counted<W>,
+    errors: &mut E,
 ) -> (Outcome, Summary)
     ensures followed { FollowsInput form wanted.now R.remaining W.contents result.0
         input.old input.new output.old output.new }
@@ -62,12 +68,12 @@ pub fn follow<R: Read, W: Write>(
     };
     let start = beginning.octets();
     if beginning.is_capture() {
-        return follow_packets(alloc, wanted, form, start, input, output);
+        return follow_packets(alloc, wanted, form, start, input, output, errors);
     }
     if has_lf(start) {
         return stopped(alloc, wanted, form, 1, Cause::Task(FollowFault::Field));
     }
-    follow_lines(alloc, wanted, form, start, input, output)
+    follow_lines(alloc, wanted, form, start, input, output, errors)
 }
 
 /// What goes out before anything is read.
@@ -104,18 +110,19 @@ fn stopped(
     ensures outcome { result.0 ≡ Outcome.Lines (Err (record { line = line; what = what })) }
     ensures summary { IsSummaryOf (begun form wanted.now) result.1 }
 {
-    let summary = Summary::new(Follower::new(alloc, form, wanted), None);
+    let summary = Summary::new(Follower::new(alloc, form, wanted), Told::new(), None);
     (Outcome::Lines(Err(Stopped { line, what })), summary)
 }
 
 /// Follows lines, of which these octets were read.
-fn follow_lines<R: Read, W: Write>(
+fn follow_lines<R: Read, W: Write, E: Write>(
     alloc: Global,
     wanted: &Wanted,
     form: Form,
     start: &[u8],
     input: &mut Counted<R>,
     output: &mut Counted<W>,
+    errors: &mut E,
 ) -> (Outcome, Summary)
     requires unended { All (λ x. x ≢ 10) start.now }
     requires within { length start.now ≤ line_limit }
@@ -126,20 +133,30 @@ fn follow_lines<R: Read, W: Write>(
         LinesTell form wanted.now (start.now ++ octets) result.0 result.1) }
     ensures failures { OutcomeFailed result.0 input.old input.new output.old output.new }
 {
-    let mut lines = Lines::new(alloc, wanted, form);
-    let answer = answer_lines_behind(start, &mut lines, input, output);
-    let summary = Summary::new(lines.taking.follower, None);
+    let lines = Lines::new(alloc, wanted, form);
+    let mut task = LineTelling { lines, errors };
+    let answer = answer_lines_behind(start, &mut task, input, output);
+    of_lines(answer, task.lines)
+}
+
+/// What came of lines, and what is told of them.
+fn of_lines(answer: Result<u64, Stopped<Cause<FollowFault>>>, lines: Lines) -> (Outcome, Summary)
+    ensures outcome { result.0 ≡ Outcome.Lines answer }
+    ensures summary { (c : Course) → IsFollower lines.taking.follower c → IsSummaryOf c result.1 }
+{
+    let summary = Summary::new(lines.taking.follower, lines.taking.told, None);
     (Outcome::Lines(answer), summary)
 }
 
 /// Follows a capture, of which these octets were read.
-fn follow_packets<R: Read, W: Write>(
+fn follow_packets<R: Read, W: Write, E: Write>(
     alloc: Global,
     wanted: &Wanted,
     form: Form,
     start: &[u8],
     input: &mut Counted<R>,
     output: &mut Counted<W>,
+    errors: &mut E,
 ) -> (Outcome, Summary)
     requires { length start.now ≤ 4 }
     ensures answered { ForSome (R.remaining (device_of input.old)) (λ octets.
@@ -149,9 +166,18 @@ fn follow_packets<R: Read, W: Write>(
         PacketsTell form wanted.now (start.now ++ octets) result.0 result.1) }
     ensures failures { OutcomeFailed result.0 input.old input.new output.old output.new }
 {
-    let mut packets = Packets::new(alloc, wanted, form);
-    let answer = answer_packets_behind(alloc, start, &mut packets, input, output);
-    let counts = packets.counts;
-    let summary = Summary::new(packets.taking.follower, Some(counts));
+    let packets = Packets::new(alloc, wanted, form);
+    let mut task = PacketTelling { packets, errors };
+    let answer = answer_packets_behind(alloc, start, &mut task, input, output);
+    of_packets(answer, task.packets)
+}
+
+/// What came of a capture, and what is told of it.
+fn of_packets(answer: Result<u64, CaptureStop<FollowFault>>, packets: Packets) -> (Outcome, Summary)
+    ensures outcome { result.0 ≡ Outcome.Capture answer }
+    ensures summary { (c : Course) → IsFollower packets.taking.follower c → IsSummaryOf c result.1 }
+{
+    let Packets { taking, counts } = packets;
+    let summary = Summary::new(taking.follower, taking.told, Some(counts));
     (Outcome::Capture(answer), summary)
 }

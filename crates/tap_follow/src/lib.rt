@@ -9,6 +9,7 @@ mod lines;
 mod packets;
 mod summary;
 mod task;
+mod told;
 
 pub use fault::FollowFault;
 pub use input::{Outcome, follow};

@@ -112,7 +112,15 @@ impl Lines {
     }
 }
 
-impl LineTask for Lines {
+/// Follows the messages of lines, and tells whose these are.
+#[derive(Drop)]
+pub(crate) struct LineTelling<'errors, E> {
+    pub(crate) lines: Lines,
+    /// What can't be written here is lost, and changes nothing of what is followed.
+    pub(crate) errors: &'errors mut E,
+}
+
+impl<E: Write> LineTask for LineTelling<'_, E> {
     type Answer = u64;
 
     type Fault = FollowFault;
@@ -121,11 +129,11 @@ impl LineTask for Lines {
 
     ghost rules = { line_rules };
 
-    ghost is_at = { AreLines };
+    ghost is_at = { λ task. AreLines task.lines };
 
-    ghost is_left = { λ old new what. IsLeft old.taking.follower new.taking.follower what };
+    ghost is_left = { λ old new what. IsLeft old.lines.taking.follower new.lines.taking.follower what };
 
-    ghost is_ended = { λ old new. IsEnded old.taking.follower new.taking.follower };
+    ghost is_ended = { λ old new. IsEnded old.lines.taking.follower new.lines.taking.follower };
 
     fn lines_limit() -> u64 {
         u64::MAX - 1
@@ -133,10 +141,10 @@ impl LineTask for Lines {
 
     fn take<W: Write>(&mut self, line: &[u8], output: &mut Counted<W>) -> Result<(), FollowFault> {
         let mut room = [0; DATAGRAM_LIMIT];
-        match read_line(self.count, line, &mut room) {
+        match read_line(self.lines.count, line, &mut room) {
             Ok(datagram) => {
-                self.taking.take(&datagram, output)?;
-                self.count = datagram.line;
+                self.lines.taking.take(&datagram, output, self.errors)?;
+                self.lines.count = datagram.line;
                 Ok(())
             }
             Err(fault) => Err(fault),
@@ -149,7 +157,7 @@ impl LineTask for Lines {
         lines: u64,
         output: &mut Counted<W>,
     ) -> Result<u64, FollowFault> {
-        self.taking.finish(output)?;
+        self.lines.taking.finish(output, self.errors)?;
         Ok(lines)
     }
 }

@@ -69,11 +69,12 @@ impl Packets {
     }
 
     /// Takes a packet, if it carries a datagram.
-    fn take_captured<W: Write>(
+    fn take_captured<W: Write, E: Write>(
         &mut self,
         number: u64,
         captured: &Captured<'_>,
         output: &mut Counted<W>,
+        errors: &mut E,
     ) -> Result<(), FollowFault>
         ensures taken { (c : Course) → IsFollower self.old.taking.follower c →
             PacketTakenAs result number (packet_of (Packet.Captured captured.now)) c self.new.taking.follower
@@ -99,11 +100,19 @@ impl Packets {
             time: ScaledTime::join(captured.time, 0),
             said: message_in(octets),
         };
-        self.taking.take(&datagram, output)
+        self.taking.take(&datagram, output, errors)
     }
 }
 
-impl PacketTask for Packets {
+/// Follows the messages of packets, and tells whose these are.
+#[derive(Drop)]
+pub(crate) struct PacketTelling<'errors, E> {
+    pub(crate) packets: Packets,
+    /// What can't be written here is lost, and changes nothing of what is followed.
+    pub(crate) errors: &'errors mut E,
+}
+
+impl<E: Write> PacketTask for PacketTelling<'_, E> {
     type Answer = u64;
 
     type Fault = FollowFault;
@@ -112,11 +121,11 @@ impl PacketTask for Packets {
 
     ghost rules = { packet_rules };
 
-    ghost is_at = { ArePackets };
+    ghost is_at = { λ task. ArePackets task.packets };
 
-    ghost is_left = { λ old new what. IsLeft old.taking.follower new.taking.follower what };
+    ghost is_left = { λ old new what. IsLeft old.packets.taking.follower new.packets.taking.follower what };
 
-    ghost is_ended = { λ old new. IsEnded old.taking.follower new.taking.follower };
+    ghost is_ended = { λ old new. IsEnded old.packets.taking.follower new.packets.taking.follower };
 
     fn take<W: Write>(
         &mut self,
@@ -125,13 +134,16 @@ impl PacketTask for Packets {
         output: &mut Counted<W>,
     ) -> Result<(), FollowFault> {
         match packet {
-            Packet::Captured(captured) => self.take_captured(number, captured, output),
+            Packet::Captured(captured) => {
+                self.packets
+                    .take_captured(number, captured, output, self.errors)
+            }
             Packet::Timeless => {
-                self.counts.count_timeless();
+                self.packets.counts.count_timeless();
                 Ok(())
             }
             Packet::Simple => {
-                self.counts.count_simple();
+                self.packets.counts.count_simple();
                 Ok(())
             }
         }
@@ -143,7 +155,7 @@ impl PacketTask for Packets {
         packets: u64,
         output: &mut Counted<W>,
     ) -> Result<u64, FollowFault> {
-        self.taking.finish(output)?;
+        self.packets.taking.finish(output, self.errors)?;
         Ok(packets)
     }
 }

@@ -11,8 +11,8 @@ ghost use Rattle.tap_follow.specs.Summed.{WritesSums};
 
 use crate::fault::FollowFault;
 use crate::figures::tell_figures;
+use crate::told::Told;
 use capture_extract::Summary as PacketCounts;
-use datagram_text::Identity;
 use std::alloc::Global;
 use std::io::Write;
 use tap_choice::{Sides, TapName};
@@ -25,16 +25,21 @@ use text_lines::{Counted, write_text};
 #[derive(Drop)]
 pub struct Summary {
     follower: Follower,
+    told: Told,
     /// Of a capture.
     packets: Option<PacketCounts>,
 }
 
 impl Summary {
-    /// What is left of what followed, and of a capture how many packets there were.
-    pub(crate) fn new(follower: Follower, packets: Option<PacketCounts>) -> Summary
+    /// What is left of what followed, what was told of that, and of a capture how many packets there were.
+    pub(crate) fn new(follower: Follower, told: Told, packets: Option<PacketCounts>) -> Summary
         ensures { (c : Course) → IsFollower follower c → IsSummaryOf c result }
     {
-        Summary { follower, packets }
+        Summary {
+            follower,
+            told,
+            packets,
+        }
     }
 
     /// The names of the two taps, as far as they are known.
@@ -83,7 +88,7 @@ impl Summary {
         write_text(text.as_str(), output)
     }
 
-    /// Tells it, in lines. What can't be written is lost.
+    /// Tells it, in lines, but for what was told before. What can't be written is lost.
     pub fn tell<E: Write>(&self, errors: &mut E) {
         if let Some(packets) = &self.packets {
             packets.tell_packets(errors);
@@ -94,23 +99,15 @@ impl Summary {
         }
     }
 
-    /// Tells whose messages were followed, and which of them were lost.
+    /// Tells what the crossings come to, and which messages were lost.
     fn tell_followed<E: Write>(&self, followed: &Followed, errors: &mut E) {
-        let Followed {
-            watched,
-            from_name,
-            to_name,
-            ..
-        } = followed;
-        let (from, to) = (from_name.text(), to_name.text());
-        let _ = writeln!(errors, "ptpx: from {from} to {to}");
-        let _ = writeln!(errors, "ptpx: domain {}", watched.domain);
-        let _ = writeln!(errors, "ptpx: master {}", Identity(&watched.master));
-        let _ = match &watched.slave {
-            Some(slave) => writeln!(errors, "ptpx: slave {}", Identity(slave)),
-            None => writeln!(errors, "ptpx: no Delay_Req at {to} tells the slave"),
-        };
-        tell_figures(&self.sums(), from, to, errors);
+        let mut told = self.told;
+        told.tell(&self.follower, errors);
+        let (from, to) = (followed.from_name.text(), followed.to_name.text());
+        if followed.watched.slave.is_none() {
+            let _ = writeln!(errors, "ptpx: no Delay_Req at {to} tells the slave");
+        }
+        tell_figures(&self.sums(), self.follower.figures(), from, to, errors);
         self.tell_lost(Kind::Sync, from, to, errors);
         self.tell_lost(Kind::DelayReq, to, from, errors);
     }

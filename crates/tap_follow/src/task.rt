@@ -11,6 +11,7 @@ ghost use Rattle.tap_follow.specs.Inner.Taking.{datagram_of, reading_of, Changes
 ghost use Rattle.event_codec.specs.Reading.{Reading, IsReading};
 
 use crate::fault::FollowFault;
+use crate::told::Told;
 use event_codec::{DecodeRefusal, Message, decode};
 use ptp_units::ScaledTime;
 use std::alloc::Global;
@@ -34,6 +35,7 @@ pub(crate) struct Datagram<'room> {
 #[derive(Drop)]
 pub(crate) struct Taking {
     pub(crate) follower: Follower,
+    pub(crate) told: Told,
     /// What goes out of the last one, in the one text that all share.
     text: String,
 }
@@ -55,15 +57,17 @@ impl Taking {
     {
         Taking {
             follower: Follower::new(alloc, form, wanted),
+            told: Told::new(),
             text: String::new(alloc),
         }
     }
 
-    /// Takes a datagram, and what is told of it goes out in one write.
-    pub(crate) fn take<W: Write>(
+    /// Takes a datagram, and what is told of it goes out in one write. Whose messages are followed is told before, once that is known.
+    pub(crate) fn take<W: Write, E: Write>(
         &mut self,
         datagram: &Datagram<'_>,
         output: &mut Counted<W>,
+        errors: &mut E,
     ) -> Result<(), FollowFault>
         ensures taken { (c : Course) → IsFollower self.old.follower c →
             TakesAs result (datagram_of datagram.now) c self.new.follower
@@ -74,18 +78,19 @@ impl Taking {
             (λ fault. HasFailedIf (is_write fault) output.old output.new) }
     {
         match self.follower.arrive(datagram.tap) {
-            Arrival::At(side) => self.take_at(side, datagram, output),
+            Arrival::At(side) => self.take_at(side, datagram, output, errors),
             Arrival::Elsewhere => Ok(()),
             Arrival::Third => Err(FollowFault::ThirdTap(datagram.tap)),
         }
     }
 
     /// Takes a datagram that was met at one of the two taps.
-    fn take_at<W: Write>(
+    fn take_at<W: Write, E: Write>(
         &mut self,
         side: Side,
         datagram: &Datagram<'_>,
         output: &mut Counted<W>,
+        errors: &mut E,
     ) -> Result<(), FollowFault>
         ensures taken { (c : Course) → IsFollower self.old.follower c →
             ChangesAs result (met_in side (datagram_of datagram.now)) c self.new.follower
@@ -106,11 +111,16 @@ impl Taking {
         };
         self.text.clear();
         self.follower.take(&met, &mut self.text)?;
+        self.told.tell(&self.follower, errors);
         self.write(output)
     }
 
     /// What is told at the end goes out.
-    pub(crate) fn finish<W: Write>(&mut self, output: &mut Counted<W>) -> Result<(), FollowFault>
+    pub(crate) fn finish<W: Write, E: Write>(
+        &mut self,
+        output: &mut Counted<W>,
+        errors: &mut E,
+    ) -> Result<(), FollowFault>
         ensures ended { (c : Course) → IsFollower self.old.follower c → EndsAs result c (end_text c)
             (W.contents (device_of output.old)) (W.contents (device_of output.new)) }
         ensures kept { OnOk result (IsEnded self.old.follower self.new.follower) }
@@ -121,6 +131,7 @@ impl Taking {
     {
         self.text.clear();
         self.follower.finish(&mut self.text)?;
+        self.told.tell(&self.follower, errors);
         self.write(output)
     }
 

@@ -9,6 +9,8 @@ use Rattle.tap_crossing.specs.Records.{records}
 use Rattle.tap_following.specs.declared.followed.Followed.{Followed}
 use Rattle.tap_sums.specs.declared.sums.Sums.{Sums}
 use Rattle.tap_sums.specs.Held.{AreSums}
+use Rattle.tap_figures.specs.declared.figures.Figures.{Figures}
+use Rattle.tap_figures.specs.Figures.{AreFigures}
 use Rattle.tap_following.specs.Written.{records_most, placed_in, crossings_in}
 use Rattle.tap_following.specs.Course.{Course}
 use Rattle.tap_following.specs.Held.{Held, Holding, IsFollower}
@@ -56,3 +58,16 @@ pub sums-unknown : (c : Course) (task : Holding) (result : Sums) → IsFollower 
 sums-unknown c task result at never none =
     let (unknown, nothing, known, keeps, empty) = unknown_of c.followed c task at.stage never in
     subst (λ (k : Option Followed). AreSums (option_map_or (λ g. crossings_in g c.met) k []) result) (sym unknown) none
+
+pub figures-known : (c : Course) (task : Holding) (held : Held) (result : Figures) → IsFollower task c
+    → task.following ≡ Some held → result ≡ held.figures → AreFigures (crossings_so_far c) result
+figures-known c task held result at is told =
+    let (f, known, follows) = known_of c.followed c task held at.stage is in
+    subst (λ (k : Option Followed). AreFigures (option_map_or (λ g. crossings_in g c.met) k []) result) (sym known)
+    (subst (AreFigures (crossings_in f c.met)) (sym told) follows.figures)
+
+pub none-unknown : (c : Course) (task : Holding) → IsFollower task c
+    → ((held : Held) → task.following ≡ Some held → ⊥) → crossings_so_far c ≡ []
+none-unknown c task at never =
+    let (unknown, nothing, known, keeps, empty) = unknown_of c.followed c task at.stage never in
+    rw unknown refl

@@ -11,15 +11,18 @@ use Rattle.tap_following.specs.Course.{Course, kept_most, first_followed}
 use Rattle.tap_following.specs.Followed.{watched_in}
 use Rattle.tap_sums.specs.declared.sums.Sums.{Sums}
 use Rattle.tap_sums.specs.Held.{AreSums}
+use Rattle.tap_figures.specs.declared.figures.Figures.{Figures}
+use Rattle.tap_figures.specs.Figures.{AreFigures}
 use Rattle.tap_following.specs.Written.{records_most, placed_in, crossings_in}
 
--- how crossings are written, whose messages are followed, the slave once it is known, the tables of their records, and the
--- sums over the crossings
+-- how crossings are written, whose messages are followed, the slave once it is known, the tables of their records, the
+-- sums over the crossings, and what people are told of these beside
 pub record Held : Type 0 where
   pub form : Form
   pub followed : Followed
   pub tables : Tables
   pub sums : Sums
+  pub figures : Figures
 
 -- what is held is that of these messages
 pub record IsFollowing (form : Form) (f : Followed) (met : List Met) (task : Held) : Type 0 where
@@ -30,6 +33,7 @@ pub record IsFollowing (form : Form) (f : Followed) (met : List Met) (task : Hel
   pub to_name : task.followed.to_name ≡ f.to_name
   pub stands : StandsFor records_most task.tables (placed_in f met)
   pub sums : AreSums (crossings_in f met) task.sums
+  pub figures : AreFigures (crossings_in f met) task.figures
 
 -- what is asked for, the taps and what is known of whom; the messages that are kept, the oldest in front, and how many
 -- there were; what is held of those that are followed, once it is known which

@@ -1,5 +1,5 @@
 //! Messages from the first on: kept until it is known which of them are followed, and then followed.
-ghost use Rattle.std.specs.Prelude.{◌≡◌, ◌==◌, ◌++◌, ◌∷◌, List, [], OnOk, reverse, unwrap_or, ◌≤◌, length};
+ghost use Rattle.std.specs.Prelude.{◌≡◌, ◌==◌, ◌++◌, ◌∷◌, List, [], OnOk, MatchOption, reverse, unwrap_or, ◌≤◌, length};
 ghost use Rattle.std.specs.String.{string_bytes};
 ghost use Rattle.tap_choice.specs.Sides.{side_of, sides_after, both_named};
 ghost use Rattle.tap_following.specs.Followed.{slave_in};
@@ -7,6 +7,7 @@ ghost use Rattle.tap_following.specs.Written.{written};
 ghost use Rattle.tap_following.specs.Course.{Course, begun, name_at, followed_by, arrival_of, with_tap, after, ended, new_text, end_text};
 ghost use Rattle.tap_following.specs.SoFar.{followed_so_far, crossings_so_far, open_so_far};
 ghost use Rattle.tap_sums.specs.Held.{AreSums};
+ghost use Rattle.tap_figures.specs.Figures.{AreFigures};
 ghost use Rattle.tap_following.specs.Held.{IsFollower, IsKept, KeepsFor};
 
 use crate::followed::{Followed, requester};
@@ -18,6 +19,7 @@ use std::alloc::{AllocError, Global};
 use std::marker::Model;
 use tap_choice::{Choice, Met, Pair, Side, Sides, TapName, Wanted};
 use tap_crossing::{Filled, Kind, Watched};
+use tap_figures::Figures;
 use tap_sums::Sums;
 
 /// How many messages are kept until it is known which are followed.
@@ -163,6 +165,17 @@ impl Follower {
         match &self.following {
             Some(following) => following.sums(),
             None => Sums::new(),
+        }
+    }
+
+    /// What people are told of the crossings so far beside their sums, once it is known which messages are followed.
+    pub fn figures(&self) -> Option<&Figures>
+        ensures { (c : Course) → IsFollower self.now c
+            → MatchOption result (crossings_so_far c ≡ []) (λ figures. AreFigures (crossings_so_far c) figures.now) }
+    {
+        match &self.following {
+            Some(following) => Some(following.figures()),
+            None => None,
         }
     }
 

@@ -20,6 +20,7 @@ use std::fmt::Write;
 use std::marker::Model;
 use tap_choice::Met;
 use tap_crossing::{Crossing, Filled, Kind, Outcome, Record, Taps};
+use tap_figures::Figures;
 use tap_lines::{Crossed, push_json, push_row};
 use tap_sums::Sums;
 
@@ -46,6 +47,8 @@ pub(crate) struct Following {
     taps: Taps<RingTable<Record, RECORDS_MOST>>,
     /// The sums over the crossings.
     sums: Sums,
+    /// What people are told of the crossings beside these.
+    figures: Figures,
     /// The time of the last crossing, in the one text that all share.
     time: String,
 }
@@ -55,7 +58,7 @@ impl Model for Following {
 
     ghost Value = { Held };
 
-    ghost view = { λ f. record { form = f.form; followed = f.followed; tables = f.taps; sums = f.sums } };
+    ghost view = { λ f. record { form = f.form; followed = f.followed; tables = f.taps; sums = f.sums; figures = f.figures } };
 }
 
 /// Puts the text of a time in place of what `text` holds: seconds, a point, and nine decimals.
@@ -76,6 +79,7 @@ impl Following {
             followed: *followed,
             taps: Taps::new(),
             sums: Sums::new(),
+            figures: Figures::new(alloc),
             time: String::new(alloc),
         }
     }
@@ -100,6 +104,13 @@ impl Following {
         ensures { result ≡ self.now.sums }
     {
         self.sums
+    }
+
+    /// What people are told of the crossings beside their sums.
+    pub(crate) fn figures(&self) -> &Figures
+        ensures { result.now ≡ self.now.figures }
+    {
+        &self.figures
     }
 
     /// Takes who the slave is, where that isn't known and the message tells it.
@@ -153,6 +164,7 @@ impl Following {
         match self.taps.meet(placed) {
             Outcome::Crossed(crossing) => {
                 self.sums.take(&crossing);
+                self.figures.take(&crossing)?;
                 self.push(&crossing, text)
             }
             Outcome::Waits | Outcome::Spoils | Outcome::IsSpoiled | Outcome::Closed(_) => Ok(()),

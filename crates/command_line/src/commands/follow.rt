@@ -175,11 +175,11 @@ A PORT is a portIdentity: 16 hexadecimal digits, '/' and the number, as 'ptpx sh
 of linuxptp does, 00aabb.fffe.ccddee-1. Number and domain may have zeros in front. NS is nanoseconds, written
 as the time of a line is.
 
-At the end standard error tells of a capture how many packets there are, then the two taps, the domain, the
-master and the slave, of the crossings of each kind the least, the mean and the greatest of each number, the
-asymmetry and what that means, and how many Syncs and Delay_Reqs were met at one tap and not at the other,
-those among them that came again when all was told, or behind 256 others, and how many lack a Follow_Up or a
-Delay_Resp.
+Standard error tells the two taps, the domain, the master and the slave as soon as they are known, before the
+first crossing. At the end it tells of a capture how many packets there are, then of the crossings of each
+kind the least, the mean and the greatest of each number, the asymmetry and what that means, and how many
+Syncs and Delay_Reqs were met at one tap and not at the other, those among them that came again when all was
+told, or behind 256 others, and how many lack a Follow_Up or a Delay_Resp.
 
 Faults, each of which ends the run with 'ptpx: fault 806 at line 3' on standard error, or of a capture with
 'ptpx: fault 1006 at octet 6300, after 41 packets: the capture ends within a packet or a block'. Lines count

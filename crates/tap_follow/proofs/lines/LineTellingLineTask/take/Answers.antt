@@ -3,7 +3,7 @@ use Rattle.std.proofs.lemmas.Result.{err_from_is_err_and}
 use Rattle.tap_follow.specs.Datagram.{IsDatagramLine}
 use Rattle.tap_follow.specs.Inner.Taking.{datagram_of}
 use Rattle.tap_follow.proofs.LineTakings.{line_stops, unread}
-use Rattle.tap_follow.proofs.lines.LinesLineTask.take.Goals as goal
+use Rattle.tap_follow.proofs.lines.LineTellingLineTask.take.Goals as goal
 
 pub returns-in_err-take-in-Ok-clause-taken : goal.returns-in_err-take-in-Ok-clause-taken
 returns-in_err-take-in-Ok-clause-taken g c = λ r at.
@@ -22,4 +22,4 @@ returns-in_ok-take-in-Ok-clause-taken g c = λ r at.
 
 pub returns-in-Err-clause-taken : goal.returns-in-Err-clause-taken
 returns-in-Err-clause-taken g c = λ r at.
-    unread c.in-Err.fault (c.args.self.now.count + 1) c.args.line.now r _ (ap (λ (n : ℕ). n + 1) at.0) c.in-Err.ensures
+    unread c.in-Err.fault (c.args.self.now.lines.count + 1) c.args.line.now r _ (ap (λ (n : ℕ). n + 1) at.0) c.in-Err.ensures

@@ -1,6 +1,8 @@
 //! Means, deviations and slopes, rounded. Each is None where a sum is too big to divide.
 
 use recording_quality::{Series, Trend, Wide};
+use std::fmt;
+use std::fmt::{Display, Formatter};
 
 /// The parts of a nanosecond that are told: a thousand.
 const PARTS: u128 = 1000;
@@ -16,9 +18,32 @@ const SMALL: u128 = 1 << 90;
 
 /// A number and its sign.
 #[derive(Clone, Copy)]
-pub(crate) struct Signed {
-    pub(crate) is_negative: bool,
-    pub(crate) size: u128,
+pub struct Signed {
+    /// Whether it is below 0, or is rounded from below.
+    pub is_negative: bool,
+    /// Its size.
+    pub size: u128,
+}
+
+/// A number of thousandths, which shows with three decimals.
+#[derive(Clone, Copy)]
+pub struct Thousandths(pub Signed);
+
+/// How much values grow by their times.
+#[derive(Clone, Copy)]
+pub struct Growth {
+    /// In thousand-millionths.
+    pub rate: Signed,
+    /// Whether a line of this slope explains half of how the values vary, or more.
+    pub explains_half: bool,
+}
+
+impl Display for Thousandths {
+    fn fmt<W: fmt::Write>(&self, f: &mut Formatter<W>) -> fmt::Result {
+        let Signed { is_negative, size } = self.0;
+        let sign = if is_negative && size > 0 { "-" } else { "" };
+        write!(f, "{sign}{}.{:03}", size / 1000, size % 1000)
+    }
 }
 
 /// A sum of two, where it is below 2^256.
@@ -80,12 +105,12 @@ fn total(series: &Series) -> Option<Signed> {
 }
 
 /// In thousandths of a nanosecond, of a size in 2^-17 ns.
-fn thousandths(size: u128) -> Option<u128> {
+fn in_thousandths(size: u128) -> Option<u128> {
     Some(size.checked_mul(PARTS)?.checked_add(NANOSECOND / 2)? / NANOSECOND)
 }
 
 /// The mean of a series, in thousandths of a nanosecond.
-pub(crate) fn mean(series: &Series) -> Option<Signed> {
+pub fn mean(series: &Series) -> Option<Signed> {
     let count = u128::from(series.count);
     let total = total(series)?;
     let fine = total.size.checked_mul(PARTS)?;
@@ -123,11 +148,11 @@ fn quotient(dividend: Wide, divisor: u128) -> Option<u128> {
 }
 
 /// The standard deviation of a series, in thousandths of a nanosecond; None of fewer than two values, and from 39 hours on.
-pub(crate) fn deviation(series: &Series) -> Option<u128> {
+pub fn deviation(series: &Series) -> Option<u128> {
     let count = u128::from(series.count);
     let pairs = count.checked_mul(count.checked_sub(1)?)?;
     let spread = spread(series.count, total(series)?.size, series.squares)?;
-    thousandths(quotient(spread, pairs)?.isqrt())
+    in_thousandths(quotient(spread, pairs)?.isqrt())
 }
 
 /// The front of a number, below 2^63, and how many of its bits are left out behind that.
@@ -165,9 +190,9 @@ fn explains(rise: Wide, run: Wide, varied: Wide) -> bool {
         >= doubled(wanted, others_behind.saturating_sub(behind))
 }
 
-/// How much the values of a series grow by their times, in thousand-millionths; None of fewer than two values, and where a line
-/// explains less than half of how they vary.
-pub(crate) fn slope(series: &Series, trend: &Trend) -> Option<Signed> {
+/// How much the values of a series, in halves of the unit of their times, grow by these; None of fewer than two values, and where all
+/// times are one.
+pub fn slope(series: &Series, trend: &Trend) -> Option<Growth> {
     let count = series.count;
     let span = narrow(trend.times)?;
     let total = total(series)?;
@@ -180,11 +205,13 @@ pub(crate) fn slope(series: &Series, trend: &Trend) -> Option<Signed> {
         difference(above, sum(below, straight)?)
     };
     let run = spread(count, span, trend.squares)?;
-    if !explains(rise, run, spread(count, total.size, series.squares)?) {
-        return None;
-    }
+    let explains_half = explains(rise, run, spread(count, total.size, series.squares)?);
     let size = rounded_quotient(rise, run)?;
-    Some(Signed { is_negative, size })
+    let rate = Signed { is_negative, size };
+    Some(Growth {
+        rate,
+        explains_half,
+    })
 }
 
 /// Half of a quotient, in thousand-millionths.
