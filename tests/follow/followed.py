@@ -358,9 +358,9 @@ def rate_lines(crossings):
     ppm, explains_half = rate(crossings) or (0, False)
     if abs(ppm) < 1:
         return []
-    explained = 'half of how it varies, or more' if explains_half else 'less than half of how it varies'
-    return [f'rate: rest of Syncs grows by {rounded(ppm)} ppm of corrected, by least squares (rounded), which explains {explained}: by so much a clock between the taps '
-            'tells its residences too short, where its rate is the reason']
+    meaning = ('half of how it varies, or more: by so much a clock between the taps tells its residences too short, where its rate is the reason' if explains_half
+               else 'less than half of how it varies: stamps or the load of a clock are a likelier reason than its rate')
+    return [f'rate: rest of Syncs grows by {rounded(ppm)} ppm of corrected, by least squares (rounded), which explains {meaning}']
 
 
 def figures(crossings, start, end):

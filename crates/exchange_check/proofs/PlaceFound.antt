@@ -33,7 +33,7 @@ use Rattle.exchange_check.specs.Inner.Machine.{IsKept, machine, facts_of, stamps
 use Rattle.exchange_check.specs.Inner.PlaceFinding.{line_found_by, tag_found_by, copy_found_by, sender_found_by, sync_found_by}
 use Rattle.exchange_check.specs.Inner.PlaceFinding.{follow_found_by, follow_tag_by, response_found_by}
 use Rattle.exchange_check.specs.Inner.PlaceFinding.{stamp_before, stamp_finding_by, tags_finding_by, line_finding_by}
-use Rattle.exchange_check.specs.Inner.PlaceFinding.{line_finding, place_finding_by}
+use Rattle.exchange_check.specs.Inner.PlaceFinding.{place_finding_at, place_finding_by}
 use Rattle.exchange_check.proofs.Inside.{facts-kept, stamps-kept}
 use Rattle.exchange_check.proofs.Noted.{stamps_at}
 use Rattle.exchange_check.proofs.Told.{fact_of, facts_at}
@@ -265,14 +265,14 @@ module _ (network : Network) where
               (findings.Unstamped (first_stamp network report.request_tag earlier))) None)))))
 
       at_line : (b : Bool) → counts network line ≡ b
-          → line_finding (facts_at network fed) (stamps_at network fed) (length fed) report (facts_at network fed (length earlier))
+          → place_finding_at (facts_at network fed) (stamps_at network fed) (length fed) report (facts_at network fed (length earlier))
           ≡ place_finding network slave e report
       at_line true counted =
-          ap (λ (o : Option LinePlace). line_finding (facts_at network fed) (stamps_at network fed) (length fed) report
+          ap (λ (o : Option LinePlace). place_finding_at (facts_at network fed) (stamps_at network fed) (length fed) report
           (option_map (fact_of network) o)) (line_at-here network line earlier counted)
           ∙ line_found_is counted
       at_line false counted =
-          (λ i. line_finding (facts_at network fed) (stamps_at network fed) (length fed) report
+          (λ i. place_finding_at (facts_at network fed) (stamps_at network fed) (length fed) report
           (option_map (fact_of network) (cond (eq-eqb (length earlier) (length earlier) refl i)
           (cond (counted i) (Some e) None) (line_at network earlier (length earlier)))))
           ∙ sym (λ i. first_found (broken (counted i) findings.CantReport))
@@ -296,7 +296,7 @@ module _ (network : Network) (report : Report) where
   place_at (line ∷ earlier) =
       let some : eqb (length (line ∷ earlier)) 0 ≡ false = grind (arith, nat_tests) in
       let last : length (line ∷ earlier) - 1 ≡ length earlier = omega arith in
-      (λ i. cond (some i) None (line_finding (facts_at network (line ∷ earlier)) (stamps_at network (line ∷ earlier))
+      (λ i. cond (some i) None (place_finding_at (facts_at network (line ∷ earlier)) (stamps_at network (line ∷ earlier))
       (length (line ∷ earlier)) report (facts_at network (line ∷ earlier) (last i))))
       ∙ at_line network line earlier report (counts network line) refl
 

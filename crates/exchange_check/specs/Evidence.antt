@@ -98,7 +98,8 @@ abbrev pub journey_octets : Network → LineJourney → Option Finding
 journey_octets network journey =
     option_or (octets_finding network journey.origin) (stays_finding (λ s. octets_finding network s.left) journey.stays)
 
--- a line made a message whose octets tell otherwise: in a field that a slave or a master reads
+-- a line made a message whose octets tell otherwise than those that its port or its clock writes, in a field that a slave
+-- or a master reads, or that writes no message there
 abbrev pub tells_otherwise : Network → LinePlace → Bool
 tells_otherwise network e = is_made e.line.out && not (tells_right network e)
 
@@ -217,7 +218,7 @@ abbrev pub last_by_messages : Network → Lines → Report → Option Results
 last_by_messages network [] report = None
 last_by_messages network (line ∷ earlier) report = by_messages network (line_place line earlier) report
 
--- the first message of the exchange of a report of the last of these lines whose octets tell otherwise
+-- the first message of the exchange of a report of the last of these lines, newest first, whose octets tell otherwise
 abbrev pub last_otherwise : Network → Lines → Report → Option Finding
 last_otherwise network [] report = None
 last_otherwise network (line ∷ earlier) report =

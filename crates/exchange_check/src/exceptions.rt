@@ -7,7 +7,7 @@ ghost use Rattle.event_codec.specs.Profile.{contents_of};
 ghost use Rattle.network_model.specs.Kinds.{named_transit};
 ghost use Rattle.trace_model.specs.Line.{Lines};
 ghost use Rattle.trace_model.specs.ByMessages.{tells_message};
-ghost use Rattle.exchange_check.specs.Evidence.{octets_in, octets_told, stops_in, came_of, told_by, noted};
+ghost use Rattle.exchange_check.specs.Evidence.{octets_told, stops_in, came_of, told_by, noted};
 ghost use Rattle.exchange_check.specs.Inner.Machine.{IsKept, machine};
 ghost use Rattle.exchange_check.specs.Inner.Machine.{facts_of, firsts_of};
 ghost use Rattle.exchange_check.specs.Inner.Noting.{with_entry, octets_entry, reading_entry, is_left_again, seconds_with};

@@ -1,7 +1,7 @@
 //! What is found wrong with a report: of each reason the first thing that breaks its condition, of 701 and of 704 by
 //! `place_finding` and `way_finding`.
 
-ghost use Rattle.std.specs.Prelude.{◌≡◌, true, nat_lt, option_map, reverse};
+ghost use Rattle.std.specs.Prelude.{◌≡◌, true, nat_lt, reverse};
 ghost use Rattle.std.specs.BTreeMap.{get};
 ghost use Rattle.std.specs.Ordering.{nat_cmp};
 ghost use Rattle.std.specs.Option.{option_or, option_map_or};

@@ -90,9 +90,9 @@ impl Exceptions {
 
 impl Evidence {
     /// The first message of the exchange of a report of the line that was noted last whose octets tell otherwise than those
-    /// that its port or its clock writes, in a field that a slave or a master reads (708): the Sync as it was sent and as it
-    /// left each clock, its Follow_Up, the Delay_Req in the same way, the Delay_Resp. None where 701 or 704 stands against
-    /// the report.
+    /// that its port or its clock writes, in a field that a slave or a master reads, or that are there though the port writes
+    /// no message (708): the Sync as it was sent and as it left each clock, its Follow_Up, the Delay_Req in the same way, the
+    /// Delay_Resp. None where 701 or 704 stands against the report.
     pub fn first_otherwise(&self, checker: &Checker, report: &Report) -> Option<Finding>
         ensures { Evidences self.now checker.now
             → result ≡ last_otherwise checker.now.network (reverse checker.now.lines) report.now }

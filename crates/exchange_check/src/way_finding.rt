@@ -159,10 +159,7 @@ impl Exceptions {
             (facts_of kept.now) (firsts_of kept.now) (once_in kept.now.stays) (get nat_cmp self.now.seconds)
             (stops_in (get nat_cmp self.now.stops))) number report.now }
     {
-        let Some(fact) = kept.at(number) else {
-            return None;
-        };
-        match kept.found(&fact.event.node(), fact.line, report) {
+        match kept.found_at(number, report) {
             Some(found) => self.ways_finding(kept, &found),
             None => None,
         }

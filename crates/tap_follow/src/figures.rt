@@ -110,7 +110,8 @@ fn tell_statistics<E: Write>(
     }
 }
 
-/// Tells how much the rests of Syncs grow with their corrections, by least squares, where that is much. What can't be written is lost.
+/// Tells how much the rests of Syncs grow with their corrections, by least squares, where that is much. What can't be written
+/// is lost.
 fn tell_rate<E: Write>(figures: &Figures, errors: &mut E) {
     let rests = &figures.rests;
     if rests.count < SYNCS {
@@ -122,15 +123,15 @@ fn tell_rate<E: Write>(figures: &Figures, errors: &mut E) {
     if growth.rate.size < RATE {
         return;
     }
-    let explained = if growth.explains_half {
-        "half of how it varies, or more"
+    let meaning = if growth.explains_half {
+        "half of how it varies, or more: by so much a clock between the taps tells its residences too short, where its rate is the \
+         reason"
     } else {
-        "less than half of how it varies"
+        "less than half of how it varies: stamps or the load of a clock are a likelier reason than its rate"
     };
     let _ = writeln!(
         errors,
-        "ptpx: rate: rest of Syncs grows by {} ppm of corrected, by least squares (rounded), which explains {explained}: by so much a \
-         clock between the taps tells its residences too short, where its rate is the reason",
+        "ptpx: rate: rest of Syncs grows by {} ppm of corrected, by least squares (rounded), which explains {meaning}",
         Thousandths(growth.rate)
     );
 }

@@ -1,5 +1,5 @@
--- What is found wrong with a report, by what is kept and noted: a definition `x_by` is `x` of trace_model's `Finding` by
--- these, as proofs/Findings and what it stands on show.
+-- What is found wrong with a report, by what is kept and noted: where trace_model's `Finding` has an `x`, `x_by` is that by
+-- these, as proofs/FoundFindings and what it stands on show.
 use Rattle.std.specs.Prelude.{ℕ, ◌==◌}
 use Rattle.std.specs.Prelude.{Option, Some, None, option_and_then}
 use Rattle.std.specs.Option.{option_or}

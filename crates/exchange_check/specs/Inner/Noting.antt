@@ -1,5 +1,5 @@
 -- What is noted of lines by what is kept of them. This crate's own functions cite these; what its callers are told is
--- said by the lines alone, as proofs/NotedLines and what it stands on show.
+-- said by the lines alone, as proofs/Noted and what it stands on show.
 use Rattle.std.specs.Prelude.{◌≡◌, ℕ, Bool, true, false, ◌||◌, ◌&&◌, not, List, nat_lt, ◌==◌, is_some, if◌then◌else◌}
 use Rattle.std.specs.Prelude.{Option, Some, None, option_map, option_and_then}
 use Rattle.std.specs.Option.{option_or, option_map_or}

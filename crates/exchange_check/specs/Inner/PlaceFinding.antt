@@ -1,5 +1,5 @@
--- 701: what is found of the lines of a report, by what is kept. A definition `x_by` is `x` of trace_model's `Finding` by
--- that, as proofs/PlaceFound shows.
+-- 701: what is found of the lines of a report, by what is kept. Where trace_model's `Finding` has an `x`, `x_by` is that by
+-- what is kept, as proofs/PlaceFound shows.
 use Rattle.std.specs.Prelude.{ℕ, ◌-◌, Bool, false, ◌&&◌, ◌||◌, nat_lt, ◌==◌, is_some, if◌then◌else◌}
 use Rattle.std.specs.Prelude.{Option, Some, None, option_map, Result, Err, ok_or}
 use Rattle.std.specs.Option.{option_or, option_map_or}
@@ -102,11 +102,11 @@ line_finding_by facts stamps count report fact = option_or
     (option_or (tags_finding_by facts count (site_of fact.event) report) (stamp_finding_by stamps fact.line report))
 
 -- at any line
-abbrev pub line_finding : Facts → Stamps → (count : ℕ) → Report → Option Fact → Option Finding
-line_finding facts stamps count report None = Some findings.CantReport
-line_finding facts stamps count report (Some fact) = line_finding_by facts stamps count report fact
+abbrev pub place_finding_at : Facts → Stamps → (count : ℕ) → Report → Option Fact → Option Finding
+place_finding_at facts stamps count report None = Some findings.CantReport
+place_finding_at facts stamps count report (Some fact) = line_finding_by facts stamps count report fact
 
 -- at the last of so many lines
 abbrev pub place_finding_by : Facts → Stamps → (count : ℕ) → Report → Option Finding
 place_finding_by facts stamps count report =
-    if count == 0 then None else line_finding facts stamps count report (facts (count - 1))
+    if count == 0 then None else place_finding_at facts stamps count report (facts (count - 1))

@@ -1,5 +1,5 @@
--- 704: what is found of the journeys of a report, by what is kept and noted. A definition `x_by` is `x` of trace_model's
--- `Finding` by these, as proofs/WaysFound shows.
+-- 704: what is found of the journeys of a report, by what is kept and noted. Where trace_model's `Finding` has an `x`,
+-- `x_by` is that by these, as proofs/WaysFound shows.
 use Rattle.std.specs.Prelude.{ℕ, zero, suc, ◌+◌, Bool, nat_lt, if◌then◌else◌, Option, Some, None, option_map, option_and_then}
 use Rattle.std.specs.Option.{option_or, option_map_or}
 use Rattle.network_model.specs.declared.event.Event.{Event}
