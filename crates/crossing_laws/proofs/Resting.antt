@@ -22,7 +22,8 @@ use Rattle.tap_crossing.specs.declared.sighting.Sighting.{Sighting}
 use Rattle.tap_crossing.specs.declared.places.Places.{Places}
 use Rattle.tap_crossing.specs.declared.crossing.NoCrossing.TheVariants as reasons
 use Rattle.tap_crossing.specs.Record.{complete, complete_with}
-use Rattle.tap_crossing.specs.Crossing.{is_too_big, is_any_too_big, is_same_timestamp, timestamp_told, is_other_timestamp, taken, corrected}
+use Rattle.tap_crossing.specs.Changes.{is_same_timestamp}
+use Rattle.tap_crossing.specs.Crossing.{is_too_big, is_any_too_big, timestamp_told, is_other_timestamp, taken, corrected}
 use Rattle.tap_crossing.specs.Told.{crossed_unless, closes, closes_or_waits}
 use Rattle.crossing_laws.specs.Told.{message_at, Passage, IsEven, Keeps, Tells, AreOf, Rests}
 use Rattle.crossing_laws.specs.Way.{Leg, Clock, IsWay, cables}

@@ -23,6 +23,7 @@ use Rattle.tap_crossing.specs.declared.sighting.Tap.TheVariants as taps
 use Rattle.tap_crossing.specs.declared.watched.Watched.{Watched}
 use Rattle.tap_crossing.specs.declared.crossing.Outcome.{Outcome}
 use Rattle.tap_crossing.specs.declared.crossing.Outcome.TheVariants as outcomes
+use Rattle.tap_crossing.specs.Changes.{no_changes}
 use Rattle.tap_crossing.specs.Placed.{needs_other}
 use Rattle.tap_crossing.specs.Told.{told}
 use Rattle.crossing_laws.specs.Told.{Moved, Passage, IsEven, message_at}
@@ -128,6 +129,8 @@ exact kind number time kept first_line second_line from_line to_line = Some (out
   second_line = second_line;
   from_line = Some from_line;
   to_line = Some to_line;
+  event_changes = no_changes;
+  other_changes = no_changes;
 }))
 
 abbrev waits : Option Outcome
@@ -273,6 +276,8 @@ resting kind number time kept rest first_line second_line from_line to_line = So
   second_line = second_line;
   from_line = Some from_line;
   to_line = Some to_line;
+  event_changes = no_changes;
+  other_changes = no_changes;
 }))
 
 -- 1,400 ns rest of the Sync, and 2,619 ns of the Delay_Req: the cables

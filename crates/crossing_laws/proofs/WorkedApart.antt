@@ -16,6 +16,7 @@ use Rattle.tap_crossing.specs.declared.sighting.Placed.{Placed}
 use Rattle.tap_crossing.specs.declared.crossing.NoCrossing.TheVariants as reasons
 use Rattle.tap_crossing.specs.declared.crossing.Outcome.{Outcome}
 use Rattle.tap_crossing.specs.declared.crossing.Outcome.TheVariants as outcomes
+use Rattle.tap_crossing.specs.Changes.{no_changes}
 use Rattle.crossing_laws.specs.Told.{Passage, Tells}
 use Rattle.crossing_laws.specs.Lines.{Met, EachIs, AreApart, IsReadAt, by_passages, own, waiting, newest_of}
 use Rattle.crossing_laws.proofs.Worked.{message, line, watched, network, outcomes_of, none_moved}
@@ -37,6 +38,8 @@ crossed first_line second_line first taken corrected rest = Some (outcomes.Cross
   second_line = second_line;
   from_line = None;
   to_line = None;
+  event_changes = no_changes;
+  other_changes = no_changes;
 }))
 
 -- all that the law asks of a line, but that its passage is a stay in the clock
@@ -138,6 +141,8 @@ again_rests : outcomes_of same_again ≡ Some (outcomes.Crossed (record {
   second_line = 3;
   from_line = Some 2;
   to_line = Some 4;
+  event_changes = no_changes;
+  other_changes = no_changes;
 })) ∷ Some outcomes.Waits ∷ Some outcomes.Waits ∷ Some outcomes.Waits ∷ []
 again_rests = refl
 

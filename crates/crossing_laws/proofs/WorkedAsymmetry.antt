@@ -1,6 +1,6 @@
 -- A worked case: the report of a slave behind a clock, and the crossings of its Sync and its Delay_Req between the ports of master and
 -- slave, which one clock stamps that is 100 ns ahead.
-use Rattle.std.proofs.Common.{◌≡◌, ℕ, ℤ, ◌*◌, ◌+◌, pos, negsuc, ◌+ℤ◌, ◌-ℤ◌, Bool, true, false, refl, arith, Some}
+use Rattle.std.proofs.Common.{◌≡◌, ℕ, ℤ, ◌*◌, ◌+◌, pos, negsuc, ◌+ℤ◌, ◌-ℤ◌, Bool, true, false, [], ◌∷◌, refl, arith, Some}
 use Rattle.ptp_units.specs.Moment.{Stamp, stamp}
 use Rattle.slave_port.specs.declared.heard.Report.{Report}
 use Rattle.network_model.specs.declared.event.Event.TheVariants.{Sync, Arrive, Request, Hear}
@@ -13,12 +13,14 @@ use Rattle.network_model.proofs.Accepted.{IsNetwork-test}
 use Rattle.network_model.proofs.Reach.{for_slave}
 use Rattle.network_model.proofs.Short.{IsFresh-short, IsTicked-short}
 use Rattle.network_model.proofs.Worked.{m, s, at}
+use Rattle.tap_crossing.specs.declared.sighting.Fields.{Fields}
 use Rattle.tap_crossing.specs.declared.sighting.Kind.{Kind}
 use Rattle.tap_crossing.specs.declared.sighting.Kind.TheVariants as kinds
 use Rattle.tap_crossing.specs.declared.sighting.Place.TheVariants as places
 use Rattle.tap_crossing.specs.declared.sighting.Sighting.{Sighting}
 use Rattle.tap_crossing.specs.declared.places.Places.{Places}
 use Rattle.tap_crossing.specs.declared.crossing.Crossing.{Crossing}
+use Rattle.tap_crossing.specs.Changes.{no_changes}
 use Rattle.crossing_laws.specs.Asymmetry.{IsCrossingOn}
 use Rattle.crossing_laws.proofs.Asymmetry.{shows_asymmetry}
 use Rattle.crossing_laws.proofs.Worked.{network, run, accepted, event, whole, ways, way_there, way_back, evenly_moved}
@@ -45,6 +47,18 @@ report = record {
 abbrev reported : ReportedIn network run s report
 reported = record { answered = event (Hear s 10) 12; there = refl; site = refl; reports = refl }
 
+-- the other fields, as they are at both taps
+abbrev alike : Fields
+alike = record {
+  major_sdo = 0;
+  minor_sdo = 0;
+  minor_version = 0;
+  flags = 0 ∷ 0 ∷ [];
+  specific = 0 ∷ 0 ∷ 0 ∷ 0 ∷ [];
+  control = 0;
+  log = pos 0;
+}
+
 abbrev sighting : (line time correction : ℕ) → Stamp → Bool → Sighting
 sighting line time correction timestamp needs_other = record {
   line = line;
@@ -52,6 +66,7 @@ sighting line time correction timestamp needs_other = record {
   correction = record { 0 = pos (correction * 65536) };
   timestamp = timestamp;
   needs_other = needs_other;
+  fields = alike;
 }
 
 abbrev sync_met : Places
@@ -82,6 +97,8 @@ crossing_of kind number time kept rest first_line second_line from_line to_line 
   second_line = second_line;
   from_line = Some from_line;
   to_line = Some to_line;
+  event_changes = no_changes;
+  other_changes = no_changes;
 }
 
 abbrev sync : Crossing

@@ -20,6 +20,7 @@ use Rattle.tap_crossing.specs.declared.sighting.Tap.TheVariants as taps
 use Rattle.tap_crossing.specs.declared.watched.Watched.{Watched}
 use Rattle.tap_crossing.specs.declared.crossing.Outcome.{Outcome}
 use Rattle.tap_crossing.specs.declared.crossing.Outcome.TheVariants as outcomes
+use Rattle.tap_crossing.specs.Changes.{no_changes}
 use Rattle.crossing_laws.specs.Told.{Passage, IsEven, message_at}
 use Rattle.crossing_laws.specs.Way.{IsWay, Leg, Clock, cables}
 use Rattle.crossing_laws.specs.Lines.{Met, EachIs, EachRests, IsOfWay, first_tap, second_tap}
@@ -75,6 +76,8 @@ crossed kind number time taken corrected first_line second_line from_line to_lin
   second_line = second_line;
   from_line = Some from_line;
   to_line = Some to_line;
+  event_changes = no_changes;
+  other_changes = no_changes;
 }))
 
 abbrev waits : Option Outcome

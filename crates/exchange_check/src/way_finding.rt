@@ -159,7 +159,10 @@ impl Exceptions {
             (facts_of kept.now) (firsts_of kept.now) (once_in kept.now.stays) (get nat_cmp self.now.seconds)
             (stops_in (get nat_cmp self.now.stops))) number report.now }
     {
-        match kept.found_at(number, report) {
+        let Some(fact) = kept.at(number) else {
+            return None;
+        };
+        match kept.found(&fact.event.node(), fact.line, report) {
             Some(found) => self.ways_finding(kept, &found),
             None => None,
         }

@@ -3,15 +3,29 @@
 use Rattle.std.proofs.Common.{◌≡◌, ℕ, ℤ, pos, negsuc, Bool, true, false, List, [], ◌∷◌, Some, refl, arith}
 use Rattle.std.specs.Prelude.{Contains}
 use Rattle.ptp_units.specs.Moment.{Stamp, stamp}
+use Rattle.tap_crossing.specs.declared.sighting.Fields.{Fields}
 use Rattle.tap_crossing.specs.declared.sighting.Kind.TheVariants as kinds
 use Rattle.tap_crossing.specs.declared.sighting.Place.{Place}
 use Rattle.tap_crossing.specs.declared.sighting.Place.TheVariants as places
 use Rattle.tap_crossing.specs.declared.sighting.Placed.{Placed}
 use Rattle.tap_crossing.specs.declared.crossing.Crossing.{Crossing}
+use Rattle.tap_crossing.specs.Changes.{no_changes}
 use Rattle.following_laws.specs.Sound.{crossings_of, IsMadeOf}
 use Rattle.following_laws.specs.Complete.{AreSingle, is_free, opened_by}
 use Rattle.following_laws.proofs.Tracks.{each_made}
 use Rattle.following_laws.proofs.Waiting.{each_complete}
+
+-- the other fields, as they are at both taps
+abbrev alike : Fields
+alike = record {
+  major_sdo = 0;
+  minor_sdo = 0;
+  minor_version = 0;
+  flags = 0 ∷ 0 ∷ [];
+  specific = 0 ∷ 0 ∷ 0 ∷ 0 ∷ [];
+  control = 0;
+  log = pos 0;
+}
 
 -- a message of a Sync with this number: its place, line, time, correction, timestamp, and whether another tells that
 abbrev met_at : (number : ℕ) → Place → (line time : ℕ) → (correction : ℤ) → Stamp → Bool → Placed
@@ -25,6 +39,7 @@ met_at number place line time correction timestamp needs_other = record {
     correction = record { 0 = correction };
     timestamp = timestamp;
     needs_other = needs_other;
+    fields = alike;
   };
 }
 
@@ -55,6 +70,8 @@ clock_sync = record {
   second_line = 6;
   from_line = Some 4;
   to_line = Some 7;
+  event_changes = no_changes;
+  other_changes = no_changes;
 }
 
 -- it keeps to the premises, so it is told

@@ -6,6 +6,7 @@ use Rattle.capture_file.specs.declared.fault.CaptureCause.TheVariants as capture
 use Rattle.capture_file.specs.declared.fault.CaptureFault.TheVariants.{CutOff}
 use Rattle.tap_crossing.specs.declared.crossing.Crossing.{Crossing}
 use Rattle.tap_crossing.specs.declared.sighting.Kind.TheVariants as kinds
+use Rattle.tap_crossing.specs.Changes.{no_changes}
 use Rattle.tap_follow.specs.declared.fault.FollowFault.TheVariants.{Field, Memory, ThirdTap}
 use Rattle.tap_follow.specs.declared.input.Outcome.TheVariants.{Lines, Capture}
 use Rattle.schedule_replay.specs.Follow.{is_beyond_limit, leaves_sums, limited}
@@ -49,6 +50,8 @@ rested rest = record {
   second_line = 2;
   from_line = None;
   to_line = None;
+  event_changes = no_changes;
+  other_changes = no_changes;
 }
 
 -- 1000 ns as a limit: 1000 s in these units

@@ -2,13 +2,27 @@
 -- and a slave, by linuxptp with software stamps.
 use Rattle.std.proofs.Common.{◌≡◌, ℕ, ℤ, pos, negsuc, Bool, true, false, [], ◌∷◌, Some, refl}
 use Rattle.ptp_units.specs.Moment.{Stamp, stamp}
+use Rattle.tap_crossing.specs.declared.sighting.Fields.{Fields}
 use Rattle.tap_crossing.specs.declared.sighting.Kind.{Kind}
 use Rattle.tap_crossing.specs.declared.sighting.Kind.TheVariants as kinds
 use Rattle.tap_crossing.specs.declared.sighting.Place.{Place}
 use Rattle.tap_crossing.specs.declared.sighting.Place.TheVariants as places
 use Rattle.tap_crossing.specs.declared.sighting.Placed.{Placed}
 use Rattle.tap_crossing.specs.declared.crossing.Outcome.TheVariants as outcomes
+use Rattle.tap_crossing.specs.Changes.{no_changes}
 use Rattle.tap_crossing.specs.Told.{told}
+
+-- the other fields, as they are at both taps
+abbrev alike : Fields
+alike = record {
+  major_sdo = 0;
+  minor_sdo = 0;
+  minor_version = 0;
+  flags = 0 ∷ 0 ∷ [];
+  specific = 0 ∷ 0 ∷ 0 ∷ 0 ∷ [];
+  control = 0;
+  log = pos 0;
+}
 
 -- a message of this number: its place, line, time, correction, timestamp, and whether another tells that
 abbrev met_at : Kind → (number : ℕ) → Place → (line time : ℕ) → (correction : ℤ) → Stamp → Bool → Placed
@@ -22,6 +36,7 @@ met_at kind number place line time correction timestamp needs_other = record {
     correction = record { 0 = correction };
     timestamp = timestamp;
     needs_other = needs_other;
+    fields = alike;
   };
 }
 
@@ -41,6 +56,8 @@ clock_sync : told 256 (met_at kinds.Sync 0 places.AtTo 7 11767939493904513630208
       second_line = 6;
       from_line = (Some 4);
       to_line = (Some 7);
+      event_changes = no_changes;
+      other_changes = no_changes;
     })
 clock_sync = refl
 
@@ -59,6 +76,8 @@ clock_sync_later : told 256 (met_at kinds.Sync 31 places.AtTo 313 11767939697076
       second_line = 312;
       from_line = (Some 310);
       to_line = (Some 313);
+      event_changes = no_changes;
+      other_changes = no_changes;
     })
 clock_sync_later = refl
 
@@ -78,6 +97,8 @@ clock_request : told 256 (met_at kinds.DelayReq 0 places.AtTo 30 117679395183062
       second_line = 27;
       from_line = (Some 28);
       to_line = (Some 30);
+      event_changes = no_changes;
+      other_changes = no_changes;
     })
 clock_request = refl
 
@@ -96,6 +117,8 @@ clock_request_later : told 256 (met_at kinds.DelayReq 40 places.AtTo 406 1176793
       second_line = 403;
       from_line = (Some 404);
       to_line = (Some 406);
+      event_changes = no_changes;
+      other_changes = no_changes;
     })
 clock_request_later = refl
 
@@ -115,6 +138,8 @@ bridge_sync : told 256 (met_at kinds.Sync 5 places.AtTo 43 117679395169275794161
       second_line = 42;
       from_line = (Some 40);
       to_line = (Some 43);
+      event_changes = no_changes;
+      other_changes = no_changes;
     })
 bridge_sync = refl
 
@@ -133,6 +158,8 @@ bridge_request : told 256 (met_at kinds.DelayReq 5 places.AtTo 88 11767939530900
       second_line = 81;
       from_line = (Some 82);
       to_line = (Some 88);
+      event_changes = no_changes;
+      other_changes = no_changes;
     })
 bridge_request = refl
 
@@ -152,6 +179,8 @@ longer_way_sync : told 256 (met_at kinds.Sync 10 places.AtTo 122 117679431054967
       second_line = 119;
       from_line = (Some 120);
       to_line = (Some 122);
+      event_changes = no_changes;
+      other_changes = no_changes;
     })
 longer_way_sync = refl
 
@@ -170,6 +199,8 @@ longer_way_request : told 256 (met_at kinds.DelayReq 10 places.AtTo 242 11767943
       second_line = 239;
       from_line = (Some 240);
       to_line = (Some 242);
+      event_changes = no_changes;
+      other_changes = no_changes;
     })
 longer_way_request = refl
 
@@ -188,6 +219,8 @@ longer_way_sync_later : told 256 (met_at kinds.Sync 100 places.AtTo 1688 1176794
       second_line = 1683;
       from_line = (Some 1684);
       to_line = (Some 1688);
+      event_changes = no_changes;
+      other_changes = no_changes;
     })
 longer_way_sync_later = refl
 
@@ -206,5 +239,7 @@ longer_way_request_later : told 256 (met_at kinds.DelayReq 100 places.AtTo 1746 
       second_line = 1743;
       from_line = (Some 1744);
       to_line = (Some 1746);
+      event_changes = no_changes;
+      other_changes = no_changes;
     })
 longer_way_request_later = refl

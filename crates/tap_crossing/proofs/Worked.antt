@@ -1,6 +1,7 @@
 -- Worked cases: messages that are met at two taps, in units.
 use Rattle.std.proofs.Common.{◌≡◌, ℕ, ℤ, pos, negsuc, Bool, true, false, List, [], ◌∷◌, Some, None, Option, refl}
 use Rattle.ptp_units.specs.Moment.{stamp}
+use Rattle.tap_crossing.specs.declared.sighting.Fields.{Fields}
 use Rattle.tap_crossing.specs.declared.sighting.Kind.{Kind}
 use Rattle.tap_crossing.specs.declared.sighting.Kind.TheVariants as kinds
 use Rattle.tap_crossing.specs.declared.sighting.Place.{Place}
@@ -9,9 +10,22 @@ use Rattle.tap_crossing.specs.declared.sighting.Placed.{Placed}
 use Rattle.tap_crossing.specs.declared.crossing.Crossing.{Crossing}
 use Rattle.tap_crossing.specs.declared.crossing.NoCrossing.TheVariants as reasons
 use Rattle.tap_crossing.specs.declared.crossing.Outcome.TheVariants as outcomes
+use Rattle.tap_crossing.specs.Changes.{no_changes}
 use Rattle.tap_crossing.specs.Open.{number_of, open_count}
 use Rattle.tap_crossing.specs.Records.{records}
 use Rattle.tap_crossing.specs.Told.{told}
+
+-- the other fields, unless they change
+abbrev alike : Fields
+alike = record {
+  major_sdo = 0;
+  minor_sdo = 0;
+  minor_version = 0;
+  flags = 0 ∷ 0 ∷ [];
+  specific = 0 ∷ 0 ∷ 0 ∷ 0 ∷ [];
+  control = 0;
+  log = pos 0;
+}
 
 -- a message of this number: its place, line, time, correction, the seconds of its timestamp, and whether another tells that
 abbrev message : Kind → (number : ℕ) → Place → (line time : ℕ) → (correction : ℤ) → (seconds : ℕ) → Bool → Placed
@@ -25,6 +39,7 @@ message kind number place line time correction seconds needs_other = record {
     correction = record { 0 = correction };
     timestamp = stamp seconds 0;
     needs_other = needs_other;
+    fields = alike;
   };
 }
 
@@ -50,6 +65,8 @@ crossed kind time taken corrected rest first_line second_line from_line to_line 
   second_line = second_line;
   from_line = from_line;
   to_line = to_line;
+  event_changes = no_changes;
+  other_changes = no_changes;
 }
 
 -- a clock of two steps that tells 1 less than it should
@@ -79,7 +96,8 @@ of_one_step = refl
 -- a clock of two steps behind a master of one step: its Follow_Up counts whole
 of_one_step_at_from : told 256 (follow_up 7 places.AtTo 6 (pos 2010) 5) (two_step 7 places.Second 5 4000 (pos 4)
     ∷ one_step 7 places.First 3 1000 (pos 4) ∷ [])
-    ≡ outcomes.Crossed (crossed kinds.Sync 1000 (pos 3000) (pos 2010) (pos 990) 3 5 None (Some 6))
+    ≡ outcomes.Crossed (record (crossed kinds.Sync 1000 (pos 3000) (pos 2010) (pos 990) 3 5 None (Some 6))
+    { event_changes = record no_changes { timestamp = true } })
 of_one_step_at_from = refl
 
 of_two_steps_at_from_alone : told 256 (one_step 7 places.Second 5 4000 (pos 4)) (two_step 7 places.First 3 1000 (pos 4) ∷ [])
@@ -91,6 +109,20 @@ another_timestamp = refl
 
 too_big : told 256 (follow_up 7 places.AtTo 6 (pos 9223372036854775807) 6) met ≡ outcomes.Closed reasons.TooBig
 too_big = refl
+
+-- the same message with these fields
+abbrev with_fields : Fields → Placed → Placed
+with_fields fields p = record p { sighting = record p.sighting { fields = fields } }
+
+-- a clock that sets a flag and a log interval in its Sync, and puts its Follow_Up into another sdoId
+of_other_fields : told 256 (with_fields (record alike { minor_sdo = 1 }) (follow_up 7 places.AtTo 6 (pos 2009) 5))
+    (with_fields (record alike { flags = 4 ∷ 0 ∷ []; log = negsuc 0 }) (two_step 7 places.Second 5 4000 (pos 0))
+    ∷ follow_up 7 places.AtFrom 4 (pos 10) 5 ∷ two_step 7 places.First 3 1000 (pos 0) ∷ [])
+    ≡ outcomes.Crossed (record (crossed kinds.Sync 1000 (pos 3000) (pos 1999) (pos 1001) 3 5 (Some 4) (Some 6)) {
+      event_changes = record no_changes { flags = true; log = true };
+      other_changes = record no_changes { sdo = true };
+    })
+of_other_fields = refl
 
 -- the second tap's clock is behind: what was taken is below 0
 behind : told 256 (one_step 7 places.Second 5 400 (pos 0)) (one_step 7 places.First 3 1000 (pos 0) ∷ [])

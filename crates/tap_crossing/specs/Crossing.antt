@@ -1,11 +1,12 @@
 -- A crossing: what a message took from tap to tap, by how much it was corrected, and what rests; and why a record that has
 -- what it needs is none. Numbers are in units of 2^-16 ns.
-use Rattle.std.specs.Prelude.{◌≡◌, ℕ, ℤ, pos, ◌+ℤ◌, ◌-ℤ◌, Bool, false, not, ◌&&◌, ◌||◌, ◌==◌, Option, Some, None, is_none}
+use Rattle.std.specs.Prelude.{◌≡◌, ℕ, ℤ, pos, ◌+ℤ◌, ◌-ℤ◌, Bool, false, not, ◌&&◌, ◌||◌, Option, Some, None, is_none}
 use Rattle.std.specs.Prelude.{if◌then◌else◌}
 use Rattle.ptp_units.specs.Moment.{Stamp}
 use Rattle.ptp_units.specs.Exchange.{IsBracket}
 use Rattle.ptp_units.specs.Interval.{exact}
 use Rattle.ptp_units.specs.declared.sequence.Seq.{Seq}
+use Rattle.tap_crossing.specs.Changes.{is_same_timestamp, changes_between, changes_of}
 use Rattle.tap_crossing.specs.declared.sighting.Kind.{Kind}
 use Rattle.tap_crossing.specs.declared.sighting.Kind.TheVariants as kinds
 use Rattle.tap_crossing.specs.declared.sighting.Sighting.{Sighting}
@@ -22,10 +23,6 @@ is_too_big (Some s) = is_none (exact s.correction.0)
 -- a correction of what is needed is
 abbrev pub is_any_too_big : Complete → Bool
 is_any_too_big c = is_too_big (Some c.first) || is_too_big (Some c.second) || is_too_big c.at_from || is_too_big c.at_to
-
--- whether two timestamps are one
-abbrev pub is_same_timestamp : Stamp → Stamp → Bool
-is_same_timestamp a b = a.seconds == b.seconds && a.nanos == b.nanos
 
 -- the timestamp that is told of an event message at a tap: its own, unless another message is needed there
 abbrev pub timestamp_told : (event : Sighting) → (other : Option Sighting) → Stamp
@@ -83,6 +80,8 @@ crossing kind number c = record {
   second_line = c.second.line;
   from_line = line_of c.at_from;
   to_line = line_of c.at_to;
+  event_changes = changes_between c.first c.second;
+  other_changes = changes_of c.at_from c.at_to;
 }
 
 -- what was taken and what was corrected lies between -2^96 and 2^96, and what rests is their difference

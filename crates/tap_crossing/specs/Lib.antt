@@ -1,4 +1,5 @@
 pub mod Placed
+pub mod Changes
 pub mod Record
 pub mod Crossing
 pub mod Records

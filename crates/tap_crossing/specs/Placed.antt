@@ -8,6 +8,7 @@ use Rattle.event_codec.specs.Layout.{stamp_in}
 use Rattle.event_codec.specs.Packet.{Contents}
 use Rattle.event_codec.specs.Port.{is_same_port}
 use Rattle.slave_port.specs.Usable.{is_two_step}
+use Rattle.tap_crossing.specs.declared.sighting.Fields.{Fields}
 use Rattle.tap_crossing.specs.declared.sighting.Kind.{Kind}
 use Rattle.tap_crossing.specs.declared.sighting.Kind.TheVariants as kinds
 use Rattle.tap_crossing.specs.declared.sighting.Place.{Place}
@@ -56,6 +57,18 @@ needs_other header (bodies.DelayReq origin) = true
 needs_other header (bodies.FollowUp precise) = false
 needs_other header (bodies.DelayResp receive requesting) = false
 
+-- the fields that are compared
+abbrev pub fields_of : Header → Fields
+fields_of header = record {
+  major_sdo = header.major_sdo;
+  minor_sdo = header.minor_sdo;
+  minor_version = header.minor_version;
+  flags = header.flags;
+  specific = header.specific;
+  control = header.control;
+  log = header.log;
+}
+
 -- the record and the place of a message that was met at this tap, where it is followed
 abbrev pub placed : Watched → Tap → (line time : ℕ) → Contents → Option Placed
 placed watched tap line time m =
@@ -70,6 +83,7 @@ placed watched tap line time m =
         correction = m.header.correction;
         timestamp = stamp_in m.body;
         needs_other = needs_other m.header m.body;
+        fields = fields_of m.header;
       };
     })
     else None

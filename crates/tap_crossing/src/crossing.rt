@@ -1,11 +1,12 @@
 ghost use Rattle.std.specs.Prelude.{◌≡◌, ◌<◌, ◌^◌, pos, negsuc, ◌<ℤ◌};
 ghost use Rattle.ptp_units.specs.Moment.{bound};
 ghost use Rattle.ptp_units.specs.Exchange.{IsBracket};
-ghost use Rattle.tap_crossing.specs.Crossing.{is_too_big, is_any_too_big, is_same_timestamp, timestamp_told};
+ghost use Rattle.tap_crossing.specs.Crossing.{is_too_big, is_any_too_big, timestamp_told};
 ghost use Rattle.tap_crossing.specs.Crossing.{is_other_timestamp, no_crossing, correction_of, growth, taken, corrected};
 ghost use Rattle.tap_crossing.specs.Crossing.{line_of, crossing, IsWithin};
 ghost use Rattle.tap_crossing.specs.Told.{closes, comes_to, IfCrossed};
 
+use crate::changes::{Changes, changes_between, changes_of, is_same_timestamp};
 use crate::places::{Complete, Record};
 use crate::sighting::{Kind, Placed, Sighting};
 use ptp_units::{ScaledTime, Seq, Timestamp};
@@ -33,6 +34,10 @@ pub struct Crossing {
     pub from_line: Option<u64>,
     /// The line of its Follow_Up or Delay_Resp at `to`, where it needs that.
     pub to_line: Option<u64>,
+    /// Which fields of the event message are others at its second tap than at its first.
+    pub event_changes: Changes,
+    /// Which fields of its Follow_Up or Delay_Resp are others at `to` than at `from`, where it needs both.
+    pub other_changes: Changes,
 }
 
 /// Why a record that closed is no crossing: the first reason that applies.
@@ -116,12 +121,6 @@ fn timestamp_told(event: Sighting, other: Option<Sighting>) -> Timestamp
     }
 }
 
-fn is_same_timestamp(a: Timestamp, b: Timestamp) -> bool
-    ensures { result ≡ is_same_timestamp a b }
-{
-    a.seconds() == b.seconds() && a.nanos() == b.nanos()
-}
-
 impl Complete {
     fn is_any_too_big(&self) -> bool
         ensures { result ≡ is_any_too_big self.now }
@@ -189,6 +188,8 @@ impl Complete {
             second_line: self.second.line,
             from_line: line_of(self.at_from),
             to_line: line_of(self.at_to),
+            event_changes: changes_between(&self.first, &self.second),
+            other_changes: changes_of(self.at_from, self.at_to),
         }
     }
 

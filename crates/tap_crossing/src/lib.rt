@@ -4,14 +4,16 @@
 //! What is told of a message is a function of the list of those that were met before (`specs/Told.antt`).
 #![tactic(auto)]
 
+mod changes;
 mod crossing;
 mod places;
 mod sighting;
 mod taps;
 mod watched;
 
+pub use changes::Changes;
 pub use crossing::{Crossing, NoCrossing, Outcome};
 pub use places::{Filled, Places, Record};
-pub use sighting::{Kind, Place, Placed, Sighting, Tap};
+pub use sighting::{Fields, Kind, Place, Placed, Sighting, Tap};
 pub use taps::Taps;
 pub use watched::Watched;

@@ -1,3 +1,4 @@
+use event_codec::Nibble;
 use ptp_units::{Interval, ScaledTime, Seq, Timestamp};
 
 /// Which of the two taps a message was met at.
@@ -31,6 +32,25 @@ pub enum Place {
     AtTo,
 }
 
+/// The fields of a message by which it isn't followed, and by which nothing is told of its crossing but whether they changed.
+#[derive(Clone, Copy, Debug, PartialEq, Eq)]
+pub struct Fields {
+    /// majorSdoId.
+    pub major_sdo: Nibble,
+    /// minorSdoId.
+    pub minor_sdo: u8,
+    /// minorVersionPTP.
+    pub minor_version: Nibble,
+    /// flagField.
+    pub flags: [u8; 2],
+    /// messageTypeSpecific.
+    pub specific: [u8; 4],
+    /// controlField.
+    pub control: u8,
+    /// logMessageInterval.
+    pub log: i8,
+}
+
 /// What a record keeps of a message that was met.
 #[derive(Clone, Copy, Debug, PartialEq, Eq)]
 pub struct Sighting {
@@ -45,6 +65,8 @@ pub struct Sighting {
     /// Whether another message tells its timestamp: a Sync with twoStepFlag has a Follow_Up, and a Delay_Req
     /// a Delay_Resp.
     pub needs_other: bool,
+    /// Its other fields.
+    pub fields: Fields,
 }
 
 /// A message that belongs to a record.

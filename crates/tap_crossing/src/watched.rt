@@ -1,9 +1,9 @@
 ghost use Rattle.std.specs.Prelude.{◌≡◌};
 ghost use Rattle.event_codec.specs.Packet.{contents};
 ghost use Rattle.slave_port.specs.Usable.{is_two_step};
-ghost use Rattle.tap_crossing.specs.Placed.{is_slave, belongs, kind_of, place_of, needs_other, placed};
+ghost use Rattle.tap_crossing.specs.Placed.{is_slave, belongs, kind_of, place_of, needs_other, fields_of, placed};
 
-use crate::sighting::{Kind, Place, Placed, Sighting, Tap};
+use crate::sighting::{Fields, Kind, Place, Placed, Sighting, Tap};
 use event_codec::{Body, Header, Message, PortIdentity, TWO_STEP};
 use ptp_units::ScaledTime;
 
@@ -45,6 +45,7 @@ impl Watched {
                 correction: header.correction,
                 timestamp: body.timestamp(),
                 needs_other: needs_other(header, body),
+                fields: fields_of(header),
             },
         })
     }
@@ -91,6 +92,21 @@ fn place_of(tap: Tap, body: &Body) -> Place
         (Body::Sync { .. }, Tap::To) | (Body::DelayReq { .. }, Tap::From) => Place::Second,
         (Body::FollowUp { .. } | Body::DelayResp { .. }, Tap::From) => Place::AtFrom,
         (Body::FollowUp { .. } | Body::DelayResp { .. }, Tap::To) => Place::AtTo,
+    }
+}
+
+/// The fields that are compared.
+fn fields_of(header: &Header) -> Fields
+    ensures { result ≡ fields_of header.now }
+{
+    Fields {
+        major_sdo: header.major_sdo,
+        minor_sdo: header.minor_sdo,
+        minor_version: header.minor_version,
+        flags: header.flags,
+        specific: header.specific,
+        control: header.control,
+        log: header.log,
     }
 }
 

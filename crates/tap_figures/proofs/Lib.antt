@@ -1,3 +1,4 @@
 mod Counted
+mod Counts
 mod Kept
 mod Worked

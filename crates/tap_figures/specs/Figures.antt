@@ -9,6 +9,7 @@ use Rattle.tap_sums.specs.declared.spread.Quantity.TheVariants as quantities
 use Rattle.tap_sums.specs.Sums.{of_kind, value_of}
 use Rattle.tap_figures.specs.declared.figures.Figures.{Figures}
 use Rattle.tap_figures.specs.declared.figures.KindFigures.{KindFigures}
+use Rattle.tap_figures.specs.Changed.{AreChanged, changes_in}
 use Rattle.tap_figures.specs.Median.{IsRecent}
 
 -- a rest, doubled, by the correction, which is raised by 2^97 and stands in the place of a time
@@ -25,9 +26,10 @@ pub record AreRecent (all : List Crossing) (k : KindFigures) : Type 0 where
   pub corrected : IsRecent (map (value_of quantities.Corrected) all) k.corrected
   pub rest : IsRecent (map (value_of quantities.Rest) all) k.rest
 
--- this is kept of these crossings: the last of each kind, and the sums over the rests of Syncs
+-- this is kept of these crossings: the last of each kind, the sums over the rests of Syncs, and what changed
 pub record AreFigures (all : List Crossing) (f : Figures) : Type 0 where
   pub syncs : AreRecent (of_kind kinds.Sync all) f.syncs
   pub requests : AreRecent (of_kind kinds.DelayReq all) f.requests
   pub rests : IsSeries (map point_of (of_kind kinds.Sync all)) f.rests
   pub trend : IsTrend (map point_of (of_kind kinds.Sync all)) f.trend
+  pub changed : AreChanged (changes_in all) f.changed

@@ -5,6 +5,7 @@ ghost use Rattle.tap_sums.specs.Sums.{of_kind, value_of};
 ghost use Rattle.tap_figures.specs.Figures.{AreFigures, AreRecent, point_of};
 ghost use Rattle.tap_figures.specs.Median.{IsMedian, IsRecent, last};
 
+use crate::changed::Changed;
 use crate::recent::{Middle, Recent};
 use recording_quality::{Point, Series, Trend};
 use std::alloc::{AllocError, Global};
@@ -32,6 +33,8 @@ pub struct Figures {
     pub rests: Series,
     /// The sums of these beside, by which a line through them is drawn.
     pub trend: Trend,
+    /// How many messages had other fields changed between the taps than their corrections.
+    pub changed: Changed,
 }
 
 /// The rest of a crossing, doubled, by its correction.
@@ -92,6 +95,7 @@ impl Figures {
             requests: KindFigures::new(alloc),
             rests: Series::new(),
             trend: Trend::new(),
+            changed: Changed::new(),
         }
     }
 
@@ -101,6 +105,8 @@ impl Figures {
         ensures { (earlier : List Crossing) → AreFigures earlier self.old
             → OnOk result (AreFigures (crossing.now ∷ earlier) self.new) }
     {
+        self.changed.take(&crossing.event_changes);
+        self.changed.take(&crossing.other_changes);
         match crossing.kind {
             Kind::Sync => {
                 let point = point_of(crossing);

@@ -1,9 +1,14 @@
-//! What people are told of crossings beside their sums: medians of the last ones of each kind, and what a line through the rests of
-//! Syncs is drawn by.
+//! What people are told of crossings beside their sums: medians of the last ones of each kind, what a line through the rests of
+//! Syncs is drawn by, and which fields changed between the taps; and of which records nothing is told.
 #![tactic(auto)]
 
+mod changed;
+mod counting;
 mod figures;
 mod recent;
+mod untold;
 
+pub use changed::Changed;
 pub use figures::Figures;
 pub use recent::{Middle, RECENT_MOST};
+pub use untold::Untold;

@@ -5,7 +5,7 @@ use std::fmt;
 use std::fmt::{Display, Formatter};
 use std::io::Write;
 use tap_crossing::Kind;
-use tap_figures::{Figures, RECENT_MOST};
+use tap_figures::{Changed, Figures, RECENT_MOST};
 use tap_sums::{Quantity, Spread, Statistics, Sums};
 
 /// Halves of 2^-16 ns of a nanosecond.
@@ -136,7 +136,38 @@ fn tell_rate<E: Write>(figures: &Figures, errors: &mut E) {
     );
 }
 
-/// Tells what the crossings of both kinds come to, in lines, and what the asymmetry means. What can't be written is lost.
+/// Tells how many messages had other fields changed between the taps than their corrections, if any had. What can't be written
+/// is lost.
+fn tell_changed<E: Write>(changed: &Changed, errors: &mut E) {
+    let messages = match changed.messages {
+        0 => return,
+        1 => "message",
+        _ => "messages",
+    };
+    let _ = write!(
+        errors,
+        "ptpx: beside corrections, {} {messages} changed between the taps",
+        changed.messages
+    );
+    let mut mark = ':';
+    for (field, count) in [
+        ("sdoId", changed.sdo),
+        ("minorVersionPTP", changed.minor_version),
+        ("flagField", changed.flags),
+        ("messageTypeSpecific", changed.specific),
+        ("controlField", changed.control),
+        ("logMessageInterval", changed.log),
+        ("originTimestamp", changed.timestamp),
+    ] {
+        if count > 0 {
+            let _ = write!(errors, "{mark} {field} in {count}");
+            mark = ',';
+        }
+    }
+    let _ = writeln!(errors);
+}
+
+/// Tells what the crossings of both kinds come to, in lines. What can't be written is lost.
 pub(crate) fn tell_figures<E: Write>(
     sums: &Sums,
     figures: Option<&Figures>,
@@ -149,6 +180,14 @@ pub(crate) fn tell_figures<E: Write>(
     if let Some(figures) = figures {
         tell_rate(figures, errors);
     }
+    tell_asymmetry(sums, to, errors);
+    if let Some(figures) = figures {
+        tell_changed(&figures.changed, errors);
+    }
+}
+
+/// Tells the asymmetry and what it means, where there is one. What can't be written is lost.
+fn tell_asymmetry<E: Write>(sums: &Sums, to: &str, errors: &mut E) {
     let Some(asymmetry) = sums.both_ways().asymmetry else {
         return;
     };

@@ -6,6 +6,7 @@ mod figures;
 mod input;
 pub mod laws;
 mod lines;
+mod lost;
 mod packets;
 mod summary;
 mod task;

@@ -1,22 +1,25 @@
 //! What is told of an input beside its crossings.
 ghost use Rattle.std.specs.Prelude.{◌≡◌, MatchResult};
 ghost use Rattle.text_lines.specs.Counted.{device_of, HasNotFailed, HasFailedIf};
+ghost use Rattle.tap_figures.specs.Untold.{AreUntold};
 ghost use Rattle.tap_sums.specs.Held.{AreSums};
 ghost use Rattle.tap_following.specs.Course.{Course};
 ghost use Rattle.tap_following.specs.Held.{IsFollower};
-ghost use Rattle.tap_following.specs.SoFar.{followed_so_far, crossings_so_far, open_so_far};
+ghost use Rattle.tap_following.specs.SoFar.{followed_so_far, crossings_so_far, open_so_far, outcomes_so_far};
 ghost use Rattle.tap_follow.specs.Told.{IsSummaryOf};
 ghost use Rattle.tap_follow.specs.Fault.{is_write};
 ghost use Rattle.tap_follow.specs.Summed.{WritesSums};
 
 use crate::fault::FollowFault;
 use crate::figures::tell_figures;
+use crate::lost::{tell_lost, tell_untold};
 use crate::told::Told;
 use capture_extract::Summary as PacketCounts;
 use std::alloc::Global;
 use std::io::Write;
 use tap_choice::{Sides, TapName};
 use tap_crossing::{Filled, Kind};
+use tap_figures::Untold;
 use tap_following::{Followed, Follower};
 use tap_sums::{Sums, push_sums};
 use text_lines::{Counted, write_text};
@@ -64,6 +67,13 @@ impl Summary {
         self.follower.open_records(kind, filled)
     }
 
+    /// Of how many records of a kind nothing is told, and why.
+    pub fn untold(&self, kind: Kind) -> Untold
+        ensures { (c : Course) → IsSummaryOf c self.now → AreUntold (outcomes_so_far kind c) result }
+    {
+        self.follower.untold(kind)
+    }
+
     /// The sums over the crossings.
     pub fn sums(&self) -> Sums
         ensures { (c : Course) → IsSummaryOf c self.now → AreSums (crossings_so_far c) result }
@@ -99,7 +109,7 @@ impl Summary {
         }
     }
 
-    /// Tells what the crossings come to, and which messages were lost.
+    /// Tells what the crossings come to, which messages were lost, and of which records nothing is told.
     fn tell_followed<E: Write>(&self, followed: &Followed, errors: &mut E) {
         let mut told = self.told;
         told.tell(&self.follower, errors);
@@ -108,45 +118,11 @@ impl Summary {
             let _ = writeln!(errors, "ptpx: no Delay_Req at {to} tells the slave");
         }
         tell_figures(&self.sums(), self.follower.figures(), from, to, errors);
-        self.tell_lost(Kind::Sync, from, to, errors);
-        self.tell_lost(Kind::DelayReq, to, from, errors);
-    }
-
-    /// Tells how many event messages of a kind were met at one tap alone, and how many at both without another message of theirs.
-    fn tell_lost<E: Write>(&self, kind: Kind, first: &str, second: &str, errors: &mut E) {
-        tell_count(kind, self.lost(kind, true), first, second, errors);
-        tell_count(kind, self.lost(kind, false), second, first, errors);
-        tell_unanswered(kind, self.unanswered(kind), errors);
-    }
-
-    /// How many open records of a kind have the event message at one tap alone: at the first, or at the second.
-    fn lost(&self, kind: Kind, at_first: bool) -> u64 {
-        let mut count = 0_u64;
-        for (at_from, at_to) in [(false, false), (false, true), (true, false), (true, true)] {
-            let filled = Filled {
-                first: at_first,
-                second: !at_first,
-                at_from,
-                at_to,
-            };
-            count = count.wrapping_add(self.open_records(kind, filled).unwrap_or(0));
+        tell_lost(self, Kind::Sync, from, to, errors);
+        tell_lost(self, Kind::DelayReq, to, from, errors);
+        for kind in [Kind::Sync, Kind::DelayReq] {
+            tell_untold(&self.untold(kind), kind, from, errors);
         }
-        count
-    }
-
-    /// How many open records of a kind have the event message at both taps.
-    fn unanswered(&self, kind: Kind) -> u64 {
-        let mut count = 0_u64;
-        for (at_from, at_to) in [(false, false), (false, true), (true, false)] {
-            let filled = Filled {
-                first: true,
-                second: true,
-                at_from,
-                at_to,
-            };
-            count = count.wrapping_add(self.open_records(kind, filled).unwrap_or(0));
-        }
-        count
     }
 
     /// Tells what is known where it isn't known which messages are followed.
@@ -170,39 +146,4 @@ impl Summary {
             (None, None) => writeln!(errors, "ptpx: nothing was met at a tap"),
         };
     }
-}
-
-/// Tells how many event messages of a kind were met here and not there.
-fn tell_count<E: Write>(kind: Kind, count: u64, here: &str, there: &str, errors: &mut E) {
-    let (one, more) = match kind {
-        Kind::Sync => ("Sync", "Syncs"),
-        Kind::DelayReq => ("Delay_Req", "Delay_Reqs"),
-    };
-    let _ = match count {
-        0 => Ok(()),
-        1 => writeln!(errors, "ptpx: 1 {one} was met at {here} and not at {there}"),
-        _ => writeln!(
-            errors,
-            "ptpx: {count} {more} were met at {here} and not at {there}"
-        ),
-    };
-}
-
-/// Tells how many event messages of a kind were met at both taps, where the message that belongs to them wasn't.
-fn tell_unanswered<E: Write>(kind: Kind, count: u64, errors: &mut E) {
-    let (one, more, other) = match kind {
-        Kind::Sync => ("Sync", "Syncs", "Follow_Up"),
-        Kind::DelayReq => ("Delay_Req", "Delay_Reqs", "Delay_Resp"),
-    };
-    let _ = match count {
-        0 => Ok(()),
-        1 => writeln!(
-            errors,
-            "ptpx: 1 {one} was met at both taps, and a {other} of it is missing"
-        ),
-        _ => writeln!(
-            errors,
-            "ptpx: {count} {more} were met at both taps, and a {other} of each is missing"
-        ),
-    };
 }

@@ -1,4 +1,5 @@
 mod Reversed
 mod Courses
+mod Coming
 mod SoFar
 mod Worked

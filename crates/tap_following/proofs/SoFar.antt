@@ -1,20 +1,25 @@
 -- What is told of a course beside its crossings, by what is kept of it.
-use Rattle.std.proofs.Common.{◌≡◌, ◌∙◌, ℕ, [], Option, Some, None, refl, sym, ap, subst}
+use Rattle.std.proofs.Common.{◌≡◌, ◌∙◌, ℕ, List, [], Option, Some, None, refl, sym, ap, subst}
 use Rattle.std.specs.Option.{option_map_or}
 use Rattle.std.specs.Prelude.{◌%◌, ◌^◌}
 use Rattle.tap_crossing.specs.declared.places.Filled.{Filled}
 use Rattle.tap_crossing.specs.declared.sighting.Kind.{Kind}
+use Rattle.tap_crossing.specs.declared.sighting.Kind.TheVariants as kinds
 use Rattle.tap_crossing.specs.Open.{number_of, open_count}
 use Rattle.tap_crossing.specs.Records.{records}
+use Rattle.tap_choice.specs.declared.met.Met.{Met}
+use Rattle.tap_following.specs.declared.following.Form.{Form}
 use Rattle.tap_following.specs.declared.followed.Followed.{Followed}
 use Rattle.tap_sums.specs.declared.sums.Sums.{Sums}
 use Rattle.tap_sums.specs.Held.{AreSums}
 use Rattle.tap_figures.specs.declared.figures.Figures.{Figures}
+use Rattle.tap_figures.specs.declared.untold.Untold.{Untold}
 use Rattle.tap_figures.specs.Figures.{AreFigures}
-use Rattle.tap_following.specs.Written.{records_most, placed_in, crossings_in}
+use Rattle.tap_figures.specs.Untold.{AreUntold}
+use Rattle.tap_following.specs.Written.{records_most, placed_in, outcomes_in, crossings_in}
 use Rattle.tap_following.specs.Course.{Course}
-use Rattle.tap_following.specs.Held.{Held, Holding, IsFollower}
-use Rattle.tap_following.specs.SoFar.{with_slave, followed_so_far, crossings_so_far, open_so_far}
+use Rattle.tap_following.specs.Held.{Held, Holding, IsFollowing, IsFollower, untold_of}
+use Rattle.tap_following.specs.SoFar.{with_slave, followed_so_far, crossings_so_far, open_so_far, outcomes_so_far}
 use Rattle.tap_following.proofs.Courses.{known_of, unknown_of}
 
 pub followed-known : (c : Course) (task : Holding) (held : Held) (result : Followed) → IsFollower task c
@@ -71,3 +76,21 @@ pub none-unknown : (c : Course) (task : Holding) → IsFollower task c
 none-unknown c task at never =
     let (unknown, nothing, known, keeps, empty) = unknown_of c.followed c task at.stage never in
     rw unknown refl
+
+untold-held : (kind : Kind) (form : Form) (f : Followed) (met : List Met) (held : Held) → IsFollowing form f met held
+    → AreUntold (outcomes_in kind f met) (untold_of kind held)
+untold-held kinds.Sync form f met held follows = follows.untold_syncs
+untold-held kinds.DelayReq form f met held follows = follows.untold_requests
+
+pub untold-known : (kind : Kind) (c : Course) (task : Holding) (held : Held) (result : Untold) → IsFollower task c
+    → task.following ≡ Some held → result ≡ untold_of kind held → AreUntold (outcomes_so_far kind c) result
+untold-known kind c task held result at is told =
+    let (f, known, follows) = known_of c.followed c task held at.stage is in
+    subst (λ (k : Option Followed). AreUntold (option_map_or (λ g. outcomes_in kind g c.met) k []) result) (sym known)
+    (subst (AreUntold (outcomes_in kind f c.met)) (sym told) (untold-held kind c.form f c.met held follows))
+
+pub untold-unknown : (kind : Kind) (c : Course) (task : Holding) (result : Untold) → IsFollower task c
+    → ((held : Held) → task.following ≡ Some held → ⊥) → AreUntold [] result → AreUntold (outcomes_so_far kind c) result
+untold-unknown kind c task result at never none =
+    let (unknown, nothing, known, keeps, empty) = unknown_of c.followed c task at.stage never in
+    subst (λ (k : Option Followed). AreUntold (option_map_or (λ g. outcomes_in kind g c.met) k []) result) (sym unknown) none

@@ -4,6 +4,8 @@ use Rattle.tap_choice.specs.declared.met.Met.{Met}
 use Rattle.tap_choice.specs.declared.sides.Sides.{Sides}
 use Rattle.tap_choice.specs.declared.wanted.Wanted.{Wanted}
 use Rattle.tap_choice.specs.Known.{Known}
+use Rattle.tap_crossing.specs.declared.sighting.Kind.{Kind}
+use Rattle.tap_crossing.specs.declared.sighting.Kind.TheVariants as kinds
 use Rattle.tap_crossing.specs.StandsFor.{Tables, StandsFor}
 use Rattle.tap_following.specs.declared.followed.Followed.{Followed}
 use Rattle.tap_following.specs.declared.following.Form.{Form}
@@ -12,17 +14,26 @@ use Rattle.tap_following.specs.Followed.{watched_in}
 use Rattle.tap_sums.specs.declared.sums.Sums.{Sums}
 use Rattle.tap_sums.specs.Held.{AreSums}
 use Rattle.tap_figures.specs.declared.figures.Figures.{Figures}
+use Rattle.tap_figures.specs.declared.untold.Untold.{Untold}
 use Rattle.tap_figures.specs.Figures.{AreFigures}
-use Rattle.tap_following.specs.Written.{records_most, placed_in, crossings_in}
+use Rattle.tap_figures.specs.Untold.{AreUntold}
+use Rattle.tap_following.specs.Written.{records_most, placed_in, outcomes_in, crossings_in}
 
 -- how crossings are written, whose messages are followed, the slave once it is known, the tables of their records, the
--- sums over the crossings, and what people are told of these beside
+-- sums over the crossings, what people are told of these beside, and of how many records nothing is told
 pub record Held : Type 0 where
   pub form : Form
   pub followed : Followed
   pub tables : Tables
   pub sums : Sums
   pub figures : Figures
+  pub untold_syncs : Untold
+  pub untold_requests : Untold
+
+-- of how many records of a kind nothing is told
+abbrev pub untold_of : Kind → Held → Untold
+untold_of kinds.Sync held = held.untold_syncs
+untold_of kinds.DelayReq held = held.untold_requests
 
 -- what is held is that of these messages
 pub record IsFollowing (form : Form) (f : Followed) (met : List Met) (task : Held) : Type 0 where
@@ -34,6 +45,8 @@ pub record IsFollowing (form : Form) (f : Followed) (met : List Met) (task : Hel
   pub stands : StandsFor records_most task.tables (placed_in f met)
   pub sums : AreSums (crossings_in f met) task.sums
   pub figures : AreFigures (crossings_in f met) task.figures
+  pub untold_syncs : AreUntold (outcomes_in kinds.Sync f met) task.untold_syncs
+  pub untold_requests : AreUntold (outcomes_in kinds.DelayReq f met) task.untold_requests
 
 -- what is asked for, the taps and what is known of whom; the messages that are kept, the oldest in front, and how many
 -- there were; what is held of those that are followed, once it is known which

@@ -2,6 +2,7 @@
 use Rattle.std.specs.Prelude.{ℕ, ◌%◌, ◌^◌, List, [], Option, option_map}
 use Rattle.std.specs.Option.{option_map_or}
 use Rattle.tap_crossing.specs.declared.crossing.Crossing.{Crossing}
+use Rattle.tap_crossing.specs.declared.crossing.Outcome.{Outcome}
 use Rattle.tap_choice.specs.declared.met.Met.{Met}
 use Rattle.tap_crossing.specs.declared.places.Filled.{Filled}
 use Rattle.tap_crossing.specs.declared.sighting.Kind.{Kind}
@@ -9,7 +10,7 @@ use Rattle.tap_crossing.specs.Open.{number_of, open_count}
 use Rattle.tap_crossing.specs.Records.{records}
 use Rattle.tap_following.specs.declared.followed.Followed.{Followed}
 use Rattle.tap_following.specs.Followed.{watched_in}
-use Rattle.tap_following.specs.Written.{records_most, placed_in, crossings_in}
+use Rattle.tap_following.specs.Written.{records_most, placed_in, outcomes_in, crossings_in}
 use Rattle.tap_following.specs.Course.{Course}
 
 -- whose messages are followed, with the slave as far as these tell it
@@ -28,3 +29,7 @@ crossings_so_far c = option_map_or (λ f. crossings_in f c.met) c.followed []
 abbrev pub open_so_far : Kind → Filled → Course → Option ℕ
 open_so_far kind filled c =
     option_map (λ f. open_count (number_of filled) (records records_most kind (placed_in f c.met)) % 2 ^ 64) c.followed
+
+-- what the messages of a kind brought so far, the newest in front
+abbrev pub outcomes_so_far : Kind → Course → List Outcome
+outcomes_so_far kind c = option_map_or (λ f. outcomes_in kind f c.met) c.followed []

@@ -1,5 +1,5 @@
 -- What is told of messages that are followed: the crossings, in the order in which their records close.
-use Rattle.std.specs.Prelude.{ℕ, List, [], ◌∷◌, ◌++◌, Option, Some, None, option_to_list, option_and_then}
+use Rattle.std.specs.Prelude.{ℕ, List, [], ◌∷◌, ◌++◌, Option, Some, None, option_to_list, option_and_then, if◌then◌else◌}
 use Rattle.std.specs.Option.{option_map_or}
 use Rattle.ptp_units.specs.Moment.{stamp_of}
 use Rattle.datagram_text.specs.Shown.{stamp_text}
@@ -7,8 +7,10 @@ use Rattle.tap_choice.specs.declared.met.Met.{Met}
 use Rattle.tap_crossing.specs.declared.crossing.Crossing.{Crossing}
 use Rattle.tap_crossing.specs.declared.crossing.Outcome.{Outcome}
 use Rattle.tap_crossing.specs.declared.crossing.Outcome.TheVariants as outcomes
+use Rattle.tap_crossing.specs.declared.sighting.Kind.{Kind}
 use Rattle.tap_crossing.specs.declared.sighting.Placed.{Placed}
 use Rattle.tap_crossing.specs.Placed.{placed}
+use Rattle.tap_crossing.specs.Records.{is_same_kind}
 use Rattle.tap_crossing.specs.Told.{told}
 use Rattle.tap_lines.specs.Crossed.{Told, json_text, row_text}
 use Rattle.tap_following.specs.declared.followed.Followed.{Followed}
@@ -37,6 +39,20 @@ crossing_in outcomes.Spoils = None
 crossing_in outcomes.IsSpoiled = None
 crossing_in (outcomes.Crossed x) = Some x
 crossing_in (outcomes.Closed reason) = None
+
+-- an outcome, where it is of this kind
+abbrev pub outcome_of : (wanted kind : Kind) → Outcome → Option Outcome
+outcome_of wanted kind outcome = if is_same_kind wanted kind then Some outcome else None
+
+-- what the newest message brings, where it is one of those that are followed and of this kind
+abbrev pub outcome_at : Kind → Followed → Met → (earlier : List Met) → Option Outcome
+outcome_at kind f m earlier =
+    option_and_then (λ p. outcome_of kind p.kind (told records_most p (placed_in f earlier))) (placed_at f m earlier)
+
+-- what all that are followed and of this kind brought, the newest in front
+abbrev pub outcomes_in : Kind → Followed → List Met → List Outcome
+outcomes_in kind f [] = []
+outcomes_in kind f (m ∷ earlier) = option_to_list (outcome_at kind f m earlier) ++ outcomes_in kind f earlier
 
 -- what the newest message completes
 abbrev pub crossing_at : Followed → Met → (earlier : List Met) → Option Crossing

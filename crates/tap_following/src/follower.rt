@@ -5,9 +5,10 @@ ghost use Rattle.tap_choice.specs.Sides.{side_of, sides_after, both_named};
 ghost use Rattle.tap_following.specs.Followed.{slave_in};
 ghost use Rattle.tap_following.specs.Written.{written};
 ghost use Rattle.tap_following.specs.Course.{Course, begun, name_at, followed_by, arrival_of, with_tap, after, ended, new_text, end_text};
-ghost use Rattle.tap_following.specs.SoFar.{followed_so_far, crossings_so_far, open_so_far};
+ghost use Rattle.tap_following.specs.SoFar.{followed_so_far, crossings_so_far, open_so_far, outcomes_so_far};
 ghost use Rattle.tap_sums.specs.Held.{AreSums};
 ghost use Rattle.tap_figures.specs.Figures.{AreFigures};
+ghost use Rattle.tap_figures.specs.Untold.{AreUntold};
 ghost use Rattle.tap_following.specs.Held.{IsFollower, IsKept, KeepsFor};
 
 use crate::followed::{Followed, requester};
@@ -19,7 +20,7 @@ use std::alloc::{AllocError, Global};
 use std::marker::Model;
 use tap_choice::{Choice, Met, Pair, Side, Sides, TapName, Wanted};
 use tap_crossing::{Filled, Kind, Watched};
-use tap_figures::Figures;
+use tap_figures::{Figures, Untold};
 use tap_sums::Sums;
 
 /// How many messages are kept until it is known which are followed.
@@ -176,6 +177,16 @@ impl Follower {
         match &self.following {
             Some(following) => Some(following.figures()),
             None => None,
+        }
+    }
+
+    /// Of how many records of a kind nothing is told so far, and why.
+    pub fn untold(&self, kind: Kind) -> Untold
+        ensures { (c : Course) → IsFollower self.now c → AreUntold (outcomes_so_far kind c) result }
+    {
+        match &self.following {
+            Some(following) => following.untold(kind),
+            None => Untold::new(),
         }
     }
 

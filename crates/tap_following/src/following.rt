@@ -1,15 +1,18 @@
 //! Messages that are followed, and what is told of them.
-ghost use Rattle.std.specs.Prelude.{◌≡◌, ◌∷◌, ◌++◌, ◌%◌, ◌^◌, ℕ, List, [], OnOk};
+ghost use Rattle.std.specs.Prelude.{◌≡◌, ◌∷◌, ◌++◌, ◌%◌, ◌^◌, ℕ, List, [], option_to_list, OnOk};
 ghost use Rattle.std.specs.String.{string_bytes};
 ghost use Rattle.datagram_text.specs.Shown.{stamp_text};
 ghost use Rattle.tap_crossing.specs.Crossing.{IsWithin};
 ghost use Rattle.tap_crossing.specs.Open.{number_of, open_count};
 ghost use Rattle.tap_crossing.specs.Records.{records};
 ghost use Rattle.tap_crossing.specs.StandsFor.{StandsFor};
+ghost use Rattle.tap_crossing.specs.declared.crossing.Outcome.{Outcome};
+ghost use Rattle.tap_crossing.specs.declared.sighting.Kind.TheVariants as kinds;
 ghost use Rattle.tap_crossing.specs.declared.sighting.Placed.{Placed};
+ghost use Rattle.tap_figures.specs.Untold.{AreUntold};
 ghost use Rattle.tap_following.specs.Followed.{watched_in};
-ghost use Rattle.tap_following.specs.Written.{text_as, text_at, told_of};
-ghost use Rattle.tap_following.specs.Held.{IsFollowing};
+ghost use Rattle.tap_following.specs.Written.{text_as, text_at, told_of, outcome_of};
+ghost use Rattle.tap_following.specs.Held.{IsFollowing, untold_of};
 ghost use Rattle.tap_following.specs.Inner.Learned.{learned};
 
 use crate::followed::{Followed, message_of, requester, tap_at};
@@ -20,7 +23,7 @@ use std::fmt::Write;
 use std::marker::Model;
 use tap_choice::Met;
 use tap_crossing::{Crossing, Filled, Kind, Outcome, Record, Taps};
-use tap_figures::Figures;
+use tap_figures::{Figures, Untold};
 use tap_lines::{Crossed, push_json, push_row};
 use tap_sums::Sums;
 
@@ -49,6 +52,10 @@ pub(crate) struct Following {
     sums: Sums,
     /// What people are told of the crossings beside these.
     figures: Figures,
+    /// Of how many records of Syncs nothing is told.
+    untold_syncs: Untold,
+    /// The same of Delay_Reqs.
+    untold_requests: Untold,
     /// The time of the last crossing, in the one text that all share.
     time: String,
 }
@@ -58,7 +65,15 @@ impl Model for Following {
 
     ghost Value = { Held };
 
-    ghost view = { λ f. record { form = f.form; followed = f.followed; tables = f.taps; sums = f.sums; figures = f.figures } };
+    ghost view = { λ f. record {
+      form = f.form;
+      followed = f.followed;
+      tables = f.taps;
+      sums = f.sums;
+      figures = f.figures;
+      untold_syncs = f.untold_syncs;
+      untold_requests = f.untold_requests;
+    } };
 }
 
 /// Puts the text of a time in place of what `text` holds: seconds, a point, and nine decimals.
@@ -80,6 +95,8 @@ impl Following {
             taps: Taps::new(),
             sums: Sums::new(),
             figures: Figures::new(alloc),
+            untold_syncs: Untold::new(),
+            untold_requests: Untold::new(),
             time: String::new(alloc),
         }
     }
@@ -111,6 +128,33 @@ impl Following {
         ensures { result.now ≡ self.now.figures }
     {
         &self.figures
+    }
+
+    /// Of how many records of a kind nothing is told, and why.
+    pub(crate) fn untold(&self, kind: Kind) -> Untold
+        ensures { result ≡ untold_of kind self.now }
+    {
+        match kind {
+            Kind::Sync => self.untold_syncs,
+            Kind::DelayReq => self.untold_requests,
+        }
+    }
+
+    /// Counts what a message of a kind brings.
+    fn count(&mut self, kind: Kind, outcome: &Outcome)
+        ensures syncs { (earlier : List Outcome) → AreUntold earlier self.old.untold_syncs
+            → AreUntold (option_to_list (outcome_of kinds.Sync kind outcome.now) ++ earlier) self.new.untold_syncs }
+        ensures requests { (earlier : List Outcome) → AreUntold earlier self.old.untold_requests
+            → AreUntold (option_to_list (outcome_of kinds.DelayReq kind outcome.now) ++ earlier) self.new.untold_requests }
+        ensures others { self.new ≡ record self.old {
+            untold_syncs = self.new.untold_syncs;
+            untold_requests = self.new.untold_requests;
+        } }
+    {
+        match kind {
+            Kind::Sync => self.untold_syncs.take(outcome),
+            Kind::DelayReq => self.untold_requests.take(outcome),
+        }
     }
 
     /// Takes who the slave is, where that isn't known and the message tells it.
@@ -161,7 +205,10 @@ impl Following {
         else {
             return Ok(());
         };
-        match self.taps.meet(placed) {
+        let kind = placed.kind;
+        let outcome = self.taps.meet(placed);
+        self.count(kind, &outcome);
+        match outcome {
             Outcome::Crossed(crossing) => {
                 self.sums.take(&crossing);
                 self.figures.take(&crossing)?;

@@ -4,6 +4,7 @@ use Rattle.std.specs.Fmt.{digits}
 use Rattle.ptp_units.specs.Nanoseconds.{decimals}
 use Rattle.tap_crossing.specs.declared.crossing.Crossing.{Crossing}
 use Rattle.tap_crossing.specs.declared.sighting.Kind.TheVariants as kinds
+use Rattle.tap_crossing.specs.Changes.{no_changes}
 use Rattle.tap_lines.specs.Crossed.{json_text, row_text}
 
 crossing : Crossing
@@ -18,6 +19,8 @@ crossing = record {
   second_line = 5;
   from_line = Some 4;
   to_line = Some 6;
+  event_changes = no_changes;
+  other_changes = no_changes;
 }
 
 json : json_text (record { crossing = crossing; time = codes "1.000000500"; from = codes "left"; to = codes "right" })
