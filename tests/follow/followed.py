@@ -236,6 +236,7 @@ class Records:
 
     def __init__(self):
         self.opened = []
+        self.spoiled = 0
 
     def take(self, place, message, number, complete):
         """The places of the record that this message closes, or None."""
@@ -248,6 +249,7 @@ class Records:
         places = record['places']
         if place in places:
             record['state'] = 'spoiled'
+            self.spoiled += 1
             return None
         places[place] = message
         needed = complete(places)
@@ -278,20 +280,36 @@ def needs(kind):
     return complete
 
 
-def crossing_of(kind, number, places):
-    """What is told of a closed record, or None where it is no crossing."""
+def why_none(kind, places):
+    """Why a closed record is no crossing, or None where it is one."""
     first, second, at_from, at_to = places
     if any(it is not None and it.correction == TOO_BIG for it in places):
-        return None
+        return 'too big'
     if kind == 'sync' and first.is_two_step and not second.is_two_step:
-        return None
+        return 'two-step'
     event_from, event_to = (first, second) if kind == 'sync' else (second, first)
-    if (at_from or event_from).timestamp != (at_to or event_to).timestamp:
-        return None
+    return 'timestamp' if (at_from or event_from).timestamp != (at_to or event_to).timestamp else None
+
+
+# The fields that are compared, by the octets in which they are, each with the bits that count.
+COMPARED = {'sdoId': {0: 0xf0, 5: 0xff}, 'minorVersionPTP': {1: 0xf0}, 'flagField': {6: 0xff, 7: 0xff}, 'messageTypeSpecific': dict.fromkeys(range(16, 20), 0xff),
+            'controlField': {32: 0xff}, 'logMessageInterval': {33: 0xff}, 'originTimestamp': dict.fromkeys(range(34, 44), 0xff)}
+
+
+def changed(one, other):
+    """The fields that differ of two messages."""
+    if one is None or other is None:
+        return []
+    return [field for field, octets in COMPARED.items() if any((one.octets[place] ^ other.octets[place]) & bits for place, bits in octets.items())]
+
+
+def crossing_of(kind, number, places):
+    """What is told of a closed record that is a crossing."""
+    first, second, at_from, at_to = places
     taken = (second.time - first.time) * UNITS
     corrected = second.correction - first.correction + (at_to.correction if at_to else 0) - (at_from.correction if at_from else 0)
     return {'kind': kind, 'number': number, 'taken': taken, 'corrected': corrected, 'rest': taken - corrected, 'time': first.time,
-            'lines': [it.line if it else None for it in places]}
+            'lines': [it.line if it else None for it in places], 'changed': [changed(first, second), changed(at_from, at_to)]}
 
 
 class Follower:
@@ -302,6 +320,7 @@ class Follower:
         self.start, self.end = watch.taps[watch.first], watch.taps[1 - watch.first]
         self.records = {'sync': Records(), 'delay_req': Records()}
         self.crossings = []
+        self.untold = {'sync': [], 'delay_req': []}
 
     def placed(self, message):
         """The kind and the place of a message, or None where it isn't followed."""
@@ -325,9 +344,13 @@ class Follower:
             return
         kind, place = placed
         closed = self.records[kind].take(place, message, message.number, needs(kind))
-        crossing = closed and crossing_of(kind, message.number, closed)
-        if crossing:
-            self.crossings.append(crossing | {'from': self.start.decode(), 'to': self.end.decode()})
+        if closed is None:
+            return
+        why = why_none(kind, closed)
+        if why:
+            self.untold[kind].append(why)
+        else:
+            self.crossings.append(crossing_of(kind, message.number, closed) | {'from': self.start.decode(), 'to': self.end.decode()})
 
 
 def counted(count, word, rest_of_one, rest_of_more):
@@ -388,6 +411,26 @@ def figures(crossings, start, end):
     return lines
 
 
+def changed_lines(crossings):
+    """What is said of other fields than corrections that changed."""
+    messages = [fields for it in crossings for fields in it['changed'] if fields]
+    if not messages:
+        return []
+    by_field = [(field, sum(field in fields for fields in messages)) for field in COMPARED]
+    number = '1 message' if len(messages) == 1 else f'{len(messages)} messages'
+    return [f'beside corrections, {number} changed between the taps: ' + ', '.join(f'{field} in {count}' for field, count in by_field if count)]
+
+
+def untold_lines(follower, kind, word):
+    """Of how many nothing is told, by why."""
+    why = follower.untold[kind]
+    counts = [(follower.records[kind].spoiled, 'of which a message came twice to a tap'),
+              (why.count('too big'), 'with a correction that is too big to be represented'),
+              (why.count('two-step'), f'with twoStepFlag only at {follower.start.decode()}'),
+              (why.count('timestamp'), 'with timestamps that differ between the taps')]
+    return [f'nothing is told of {count} {word}{"s" * (count > 1)} {which}' for count, which in counts if count]
+
+
 def said(watch, follower):
     """What standard error says, without the name of the program in front."""
     names = [it.decode() for it in watch.taps if it is not None]
@@ -398,13 +441,13 @@ def said(watch, follower):
     start, end = follower.start.decode(), follower.end.decode()
     slave = f'slave {port_text(follower.slave)}' if follower.slave else f'no Delay_Req at {end} tells the slave'
     lines = [f'from {start} to {end}', f'domain {watch.domain}', f'master {port_text(watch.master)}', slave]
-    lines += figures(follower.crossings, start, end)
+    lines += figures(follower.crossings, start, end) + changed_lines(follower.crossings)
     for kind, word, other, first, second in (('sync', 'Sync', 'Follow_Up', start, end), ('delay_req', 'Delay_Req', 'Delay_Resp', end, start)):
         records = follower.records[kind]
         for count, here, there in ((records.lost('first', 'second'), first, second), (records.lost('second', 'first'), second, first)):
             lines += counted(count, word, *[f'met at {here} and not at {there}'] * 2)
         lines += counted(records.unfinished(), word, f'met at both taps, and a {other} of it is missing', f'met at both taps, and a {other} of each is missing')
-    return lines
+    return lines + untold_lines(follower, 'sync', 'Sync') + untold_lines(follower, 'delay_req', 'Delay_Req')
 
 
 def follow(octets, wanted=Wanted()):

@@ -170,14 +170,21 @@ WORKED = {
         ONE_STEP + REQUEST + BAD, ['sync 0 3000 1999 1001 [1, 2, None, None]', 'delay_req 7 1000 900 100 [3, 4, 5, 6]'], of_master(OF_SLAVE, **BOTH)),
     'a Sync that is two-step at the second tap alone': (
         told(('left', 0, made(SYNC, MASTER, 3, stamp=9)), ('right', 50, made(SYNC, MASTER, 3, two_step=True)), ('right', 60, made(FOLLOW_UP, MASTER, 3, 3 * UNITS, stamp=9))),
-        ['sync 3 50 3 47 [1, 2, None, 3]'], of_master(NO_SLAVE, syncs=(1, '50.000', '3.000', '47.000'))),
+        ['sync 3 50 3 47 [1, 2, None, 3]'], of_master(NO_SLAVE, 'beside corrections, 1 message changed between the taps: flagField in 1, originTimestamp in 1',
+                                                      syncs=(1, '50.000', '3.000', '47.000'))),
     'a Sync that is two-step at the first tap alone': (
-        told(('left', 0, made(SYNC, MASTER, 3, two_step=True)), ('left', 10, made(FOLLOW_UP, MASTER, 3)), ('right', 50, made(SYNC, MASTER, 3))), [], of_master(NO_SLAVE)),
-    'another timestamp': (told(('left', 0, made(SYNC, MASTER, 3, stamp=1)), ('right', 50, made(SYNC, MASTER, 3, stamp=2))), [], of_master(NO_SLAVE)),
-    'a correction that is too big': (told(('left', 0, made(SYNC, MASTER, 3)), ('right', 50, made(SYNC, MASTER, 3, 2**63 - 1))), [], of_master(NO_SLAVE)),
+        told(('left', 0, made(SYNC, MASTER, 3, two_step=True)), ('left', 10, made(FOLLOW_UP, MASTER, 3)), ('right', 50, made(SYNC, MASTER, 3))), [],
+        of_master(NO_SLAVE, 'nothing is told of 1 Sync with twoStepFlag only at left')),
+    'another timestamp': (told(('left', 0, made(SYNC, MASTER, 3, stamp=1)), ('right', 50, made(SYNC, MASTER, 3, stamp=2))), [],
+                          of_master(NO_SLAVE, 'nothing is told of 1 Sync with timestamps that differ between the taps')),
+    'a correction that is too big': (told(('left', 0, made(SYNC, MASTER, 3)), ('right', 50, made(SYNC, MASTER, 3, 2**63 - 1))), [],
+                                     of_master(NO_SLAVE, 'nothing is told of 1 Sync with a correction that is too big to be represented')),
     'a Sync that came twice': (
         told(('left', 0, made(SYNC, MASTER, 3)), ('left', 1, made(SYNC, MASTER, 3)), ('right', 50, made(SYNC, MASTER, 3)), ('right', 60, made(SYNC, MASTER, 3))),
-        [], of_master(NO_SLAVE)),
+        [], of_master(NO_SLAVE, 'nothing is told of 1 Sync of which a message came twice to a tap')),
+    'Delay_Reqs that came twice, and a Sync': (
+        syncs(('left', 3), ('right', 3)) + told(*[(tap, 0, made(DELAY_REQ, SLAVE, number)) for number in (1, 2) for tap in ('right', 'right', 'left', 'left')]),
+        ['sync 3 50 0 50 [1, 2, None, None]'], of_master(OF_SLAVE, 'nothing is told of 2 Delay_Reqs of which a message came twice to a tap', **alike(1))),
     'a number that comes again': (
         told(*[row for time in (0, 100) for row in (('left', time, made(SYNC, MASTER, 3)), ('right', time + 50, made(SYNC, MASTER, 3)))]),
         ['sync 3 50 0 50 [1, 2, None, None]', 'sync 3 50 0 50 [3, 4, None, None]'], of_master(NO_SLAVE, **alike(2))),
@@ -304,6 +311,38 @@ def see_bent(is_program):
                          ('a tap that is not met', Wanted(b'left', b'middle')), ('a master that is not met', Wanted(master=OTHER)),
                          ('a slave that is not met', Wanted(slave=OTHER)), ('a domain that is not met', Wanted(domain=7))):
         see(name, CLOCK, wanted, is_program=is_program)
+
+
+# Of an octet of a message the bits that are changed, and the field of which it is.
+CHANGES = [(0, 0x10, 'sdoId'), (1, 0x10, 'minorVersionPTP'), (5, 0xff, 'sdoId'), (6, 0x04, 'flagField'), (7, 0x08, 'flagField'), (16, 0x80, 'messageTypeSpecific'),
+           (19, 0x01, 'messageTypeSpecific'), (32, 0x07, 'controlField'), (33, 0xff, 'logMessageInterval'), (39, 0x01, 'originTimestamp'), (43, 0x01, 'originTimestamp')]
+
+
+def with_change(message, place, bits):
+    octets = message.octets
+    return message._replace(octets=octets[:place] + bytes([octets[place] ^ bits]) + octets[place + 1:])
+
+
+def see_changes(is_program):
+    """Other fields than corrections that a clock changed: of one Sync, of one Follow_Up, and of all Delay_Reqs and their Delay_Resps."""
+    messages, plain = messages_of(CLOCK), follow(CLOCK)
+    expect('a clock that changes corrections alone', not any('changed between' in it for it in plain.said))
+
+    def sees(name, bent, sentence):
+        owed = see(name, lines_of(bent), errors=[sentence], is_program=is_program)
+        expect(f'{name}: {owed.said}', sentence in owed.said)
+        expect(f'{name}: other crossings', without_lines(owed.crossings) == without_lines(plain.crossings))
+
+    for octet, bits, field in CHANGES:
+        for kind in (SYNC, FOLLOW_UP):
+            if (kind, field) == (FOLLOW_UP, 'originTimestamp'):
+                continue
+            place = [place for place, it in enumerate(messages) if (it.kind, it.tap) == (kind, b'right')][5]
+            bent = [*messages[:place], with_change(messages[place], octet, bits), *messages[place + 1:]]
+            sees(f'octet {octet} of a message of type {kind}', bent, f'beside corrections, 1 message changed between the taps: {field} in 1')
+    bent = [with_change(it, 33, 0xff) if (it.kind, it.tap) == (DELAY_RESP, b'right') else with_change(it, 6, 0x04) if (it.kind, it.tap) == (DELAY_REQ, b'left') else it
+            for it in messages]
+    sees('all Delay_Reqs and their Delay_Resps', bent, 'beside corrections, 126 messages changed between the taps: flagField in 63, logMessageInterval in 63')
 
 
 def see_third(is_program):
@@ -504,6 +543,7 @@ def main():
                                        b'"time":"1.000000500","to":"right"}\n'))
     see_real(is_program)
     see_bent(is_program)
+    see_changes(is_program)
     see_third(is_program)
     see_sums(is_program)
     see_figures(is_program)
