@@ -18,7 +18,8 @@ use Rattle.tap_figures.specs.Figures.{AreFigures}
 use Rattle.tap_figures.specs.Untold.{AreUntold}
 use Rattle.tap_following.specs.Written.{records_most, placed_in, outcomes_in, crossings_in}
 use Rattle.tap_following.specs.Course.{Course}
-use Rattle.tap_following.specs.Held.{Held, Holding, IsFollowing, IsFollower, untold_of}
+use Rattle.tap_following.specs.Held.{Held, Holding, IsFollowing, IsFollower}
+use Rattle.tap_following.specs.Inner.OfKind.{untold_of}
 use Rattle.tap_following.specs.SoFar.{with_slave, followed_so_far, crossings_so_far, open_so_far, outcomes_so_far}
 use Rattle.tap_following.proofs.Courses.{known_of, unknown_of}
 

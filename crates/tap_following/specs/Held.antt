@@ -4,7 +4,6 @@ use Rattle.tap_choice.specs.declared.met.Met.{Met}
 use Rattle.tap_choice.specs.declared.sides.Sides.{Sides}
 use Rattle.tap_choice.specs.declared.wanted.Wanted.{Wanted}
 use Rattle.tap_choice.specs.Known.{Known}
-use Rattle.tap_crossing.specs.declared.sighting.Kind.{Kind}
 use Rattle.tap_crossing.specs.declared.sighting.Kind.TheVariants as kinds
 use Rattle.tap_crossing.specs.StandsFor.{Tables, StandsFor}
 use Rattle.tap_following.specs.declared.followed.Followed.{Followed}
@@ -29,11 +28,6 @@ pub record Held : Type 0 where
   pub figures : Figures
   pub untold_syncs : Untold
   pub untold_requests : Untold
-
--- of how many records of a kind nothing is told
-abbrev pub untold_of : Kind → Held → Untold
-untold_of kinds.Sync held = held.untold_syncs
-untold_of kinds.DelayReq held = held.untold_requests
 
 -- what is held is that of these messages
 pub record IsFollowing (form : Form) (f : Followed) (met : List Met) (task : Held) : Type 0 where

@@ -12,8 +12,9 @@ ghost use Rattle.tap_crossing.specs.declared.sighting.Placed.{Placed};
 ghost use Rattle.tap_figures.specs.Untold.{AreUntold};
 ghost use Rattle.tap_following.specs.Followed.{watched_in};
 ghost use Rattle.tap_following.specs.Written.{text_as, text_at, told_of, outcome_of};
-ghost use Rattle.tap_following.specs.Held.{IsFollowing, untold_of};
+ghost use Rattle.tap_following.specs.Held.{IsFollowing};
 ghost use Rattle.tap_following.specs.Inner.Learned.{learned};
+ghost use Rattle.tap_following.specs.Inner.OfKind.{untold_of};
 
 use crate::followed::{Followed, message_of, requester, tap_at};
 use pairing::RingTable;
