@@ -116,7 +116,7 @@ class Crossings:
 
 
 def lost_part(said):
-    """Which messages didn't cross, as was said."""
+    """Which messages didn't cross, and which fields changed of those that did, as was said."""
     return f'<p id="lost">{escape("; ".join(said.lost))}.</p>' if said.lost else ''
 
 

@@ -8,6 +8,8 @@ from pages.values import LENGTH, counted, exact, half_units
 
 KINDS = (('sync', 'sync', 'Sync'), ('delay_req', 'delay', 'Delay_Req'))
 COLUMNS = 'taken', 'corrected', 'rest'
+# By how much asymmetry and mean rest may differ from what rounded means give, in halves of 2^-16 ns: each of three is rounded by one half at the most.
+ROUNDED = 3
 ROWS = 'crossings', 'mean, ns', 'least, ns', 'greatest, ns', 'greatest step, ns'
 TOLD = ('Least, greatest and step are exact. Means, asymmetry and mean rest are those of the lines, which are rounded to 2^-16 ns, half to even, and here to '
         'three decimals. The greatest step is the greatest change of the rest, without its sign, from one crossing to the next whose record closed. Medians, '
@@ -32,6 +34,10 @@ class Way:
         self.step = length_of(line['rest']['step'])
         lengths = [it for column in self.columns.values() for it in column.values()]
         if type(self.count) is not int or self.count < 0 or any((it is None) != (self.count == 0) for it in lengths) or (self.step is None) != (self.count < 2):
+            raise ValueError
+        if self.count and not all(it['least'] <= it['mean'] <= it['greatest'] for it in self.columns.values()):
+            raise ValueError
+        if self.count > 1 and not 0 <= self.step <= self.columns['rest']['greatest'] - self.columns['rest']['least']:
             raise ValueError
 
     def table(self):
@@ -72,6 +78,10 @@ class Sums:
         self.both = length_of(it['asymmetry']), length_of(it['mean_rest'])
         if any((length is None) != (0 in self.counts.values()) for length in self.both):
             raise ValueError
+        if None not in self.both:
+            syncs, requests = (it.columns['rest']['mean'] for it in self.ways)
+            if abs(syncs - requests - self.both[0]) > ROUNDED or abs((syncs + requests) / 2 - self.both[1]) > ROUNDED:
+                raise ValueError
 
     def is_whole(self):
         return self.both is not None
