@@ -16,7 +16,7 @@ TAPS = re.compile('ptpx: from ([A-Za-z0-9_.-]+) to ([A-Za-z0-9_.-]+)')
 NOT_FOLLOWED = re.compile('ptpx: (nothing was followed|nothing was met at|PTP was met at a third tap)')
 COUNT = re.compile('ptpx: (no|[0-9]+) (report|Sync|Delay_Req)s?(?: crossed from .*)?')
 WARNING = re.compile('ptpx: (beware:|fault |PTP was met at a third tap|all times are of whole microseconds|the (slave|master) began )')
-LOST = re.compile('ptpx: (?:[0-9]+ (?:Sync|Delay_Req)s? (?:was|were) met at|nothing is told of|beside corrections,) .*')
+LOST = re.compile('ptpx: (?:[0-9]+ (?:Sync|Delay_Req)s? (?:was|were) met at|nothing is told of|in [0-9]+ messages? fields) .*')
 
 
 class Wrong(Exception):

@@ -381,7 +381,8 @@ def rate_lines(crossings):
     ppm, explains_half = rate(crossings) or (0, False)
     if abs(ppm) < 1:
         return []
-    meaning = ('half of how it varies, or more: by so much a clock between the taps tells its residences too short, where its rate is the reason' if explains_half
+    wrong = 'long' if ppm < 0 else 'short'
+    meaning = (f'half of how it varies, or more: by so much a clock between the taps tells its residences too {wrong}, where its rate is the reason' if explains_half
                else 'less than half of how it varies: stamps or the load of a clock are a likelier reason than its rate')
     return [f'rate: rest of Syncs grows by {rounded(ppm)} ppm of corrected, by least squares (rounded), which explains {meaning}']
 
@@ -418,7 +419,7 @@ def changed_lines(crossings):
         return []
     by_field = [(field, sum(field in fields for fields in messages)) for field in COMPARED]
     number = '1 message' if len(messages) == 1 else f'{len(messages)} messages'
-    return [f'beside corrections, {number} changed between the taps: ' + ', '.join(f'{field} in {count}' for field, count in by_field if count)]
+    return [f'in {number} fields other than correctionField differ between the taps: ' + ', '.join(f'{field} in {count}' for field, count in by_field if count)]
 
 
 def untold_lines(follower, kind, word):

@@ -170,7 +170,7 @@ WORKED = {
         ONE_STEP + REQUEST + BAD, ['sync 0 3000 1999 1001 [1, 2, None, None]', 'delay_req 7 1000 900 100 [3, 4, 5, 6]'], of_master(OF_SLAVE, **BOTH)),
     'a Sync that is two-step at the second tap alone': (
         told(('left', 0, made(SYNC, MASTER, 3, stamp=9)), ('right', 50, made(SYNC, MASTER, 3, two_step=True)), ('right', 60, made(FOLLOW_UP, MASTER, 3, 3 * UNITS, stamp=9))),
-        ['sync 3 50 3 47 [1, 2, None, 3]'], of_master(NO_SLAVE, 'beside corrections, 1 message changed between the taps: flagField in 1, originTimestamp in 1',
+        ['sync 3 50 3 47 [1, 2, None, 3]'], of_master(NO_SLAVE, 'in 1 message fields other than correctionField differ between the taps: flagField in 1, originTimestamp in 1',
                                                       syncs=(1, '50.000', '3.000', '47.000'))),
     'a Sync that is two-step at the first tap alone': (
         told(('left', 0, made(SYNC, MASTER, 3, two_step=True)), ('left', 10, made(FOLLOW_UP, MASTER, 3)), ('right', 50, made(SYNC, MASTER, 3))), [],
@@ -326,7 +326,7 @@ def with_change(message, place, bits):
 def see_changes(is_program):
     """Other fields than corrections that a clock changed: of one Sync, of one Follow_Up, and of all Delay_Reqs and their Delay_Resps."""
     messages, plain = messages_of(CLOCK), follow(CLOCK)
-    expect('a clock that changes corrections alone', not any('changed between' in it for it in plain.said))
+    expect('a clock that changes corrections alone', not any('differ between' in it for it in plain.said))
 
     def sees(name, bent, sentence):
         owed = see(name, lines_of(bent), errors=[sentence], is_program=is_program)
@@ -339,10 +339,10 @@ def see_changes(is_program):
                 continue
             place = [place for place, it in enumerate(messages) if (it.kind, it.tap) == (kind, b'right')][5]
             bent = [*messages[:place], with_change(messages[place], octet, bits), *messages[place + 1:]]
-            sees(f'octet {octet} of a message of type {kind}', bent, f'beside corrections, 1 message changed between the taps: {field} in 1')
+            sees(f'octet {octet} of a message of type {kind}', bent, f'in 1 message fields other than correctionField differ between the taps: {field} in 1')
     bent = [with_change(it, 33, 0xff) if (it.kind, it.tap) == (DELAY_RESP, b'right') else with_change(it, 6, 0x04) if (it.kind, it.tap) == (DELAY_REQ, b'left') else it
             for it in messages]
-    sees('all Delay_Reqs and their Delay_Resps', bent, 'beside corrections, 126 messages changed between the taps: flagField in 63, logMessageInterval in 63')
+    sees('all Delay_Reqs and their Delay_Resps', bent, 'in 126 messages fields other than correctionField differ between the taps: flagField in 63, logMessageInterval in 63')
 
 
 def see_third(is_program):
@@ -452,7 +452,8 @@ def see_figures(is_program):
         owed = see(name, told(*rows), is_program=is_program)
         said = [it for it in owed.said if it.startswith('rate: ')]
         expect(f'{name}: {said}', len(said) == (ppm is not None))
-        expect(f'{name}: {said}', ppm is None or f' grows by {ppm} ppm of corrected' in said[0] and 'explains half of how it varies, or more:' in said[0])
+        wrong = 'long' if ppm and ppm[0] == '-' else 'short'
+        expect(f'{name}: {said}', ppm is None or f' grows by {ppm} ppm of corrected' in said[0] and f'explains half of how it varies, or more: by so much a clock between the taps tells its residences too {wrong}, ' in said[0])
 
 
 MISTAKES = [['--sum', '--csv'], *[['--limit', it] for it in ('', '-1', '01', '1.', '1.0000000001', '1 ', ' 1', '1 0', '281474976710656', '1' * 16, '1e3', '0x1')],

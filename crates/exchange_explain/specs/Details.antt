@@ -36,8 +36,8 @@ abbrev pub last_time : Network → Lines → Report → Option ℕ
 last_time network [] report = None
 last_time network (line ∷ earlier) report = time_of network (line_place line earlier) report
 
--- in which fields octets differ that aren't right, by the first message of an exchange that has one otherwise which is
--- read
+-- in which fields octets differ that aren't right: in one that a slave or a master reads, where a message of the exchange
+-- tells otherwise
 abbrev pub fields_of : (otherwise : Option Finding) → Octets
 fields_of None = Other
 fields_of (Some otherwise) = Told

@@ -87,7 +87,7 @@ fn last_time(checker: &Checker, report: &Report) -> Option<ScaledTime>
     }
 }
 
-/// In which fields octets differ that aren't right, by the first message that has one otherwise which is read.
+/// In which fields octets differ that aren't right: in one that a slave or a master reads, where a message tells otherwise.
 fn fields_of(otherwise: Option<Finding>) -> Octets
     ensures { result ≡ fields_of otherwise }
 {

@@ -32,7 +32,7 @@ pub enum Place {
     AtTo,
 }
 
-/// The fields of a message by which it isn't followed, and by which nothing is told of its crossing but whether they changed.
+/// The fields of a message that are only compared between the taps.
 #[derive(Clone, Copy, Debug, PartialEq, Eq)]
 pub struct Fields {
     /// majorSdoId.

@@ -123,11 +123,14 @@ fn tell_rate<E: Write>(figures: &Figures, errors: &mut E) {
     if growth.rate.size < RATE {
         return;
     }
-    let meaning = if growth.explains_half {
-        "half of how it varies, or more: by so much a clock between the taps tells its residences too short, where its rate is the \
+    let meaning = if !growth.explains_half {
+        "less than half of how it varies: stamps or the load of a clock are a likelier reason than its rate"
+    } else if growth.rate.is_negative {
+        "half of how it varies, or more: by so much a clock between the taps tells its residences too long, where its rate is the \
          reason"
     } else {
-        "less than half of how it varies: stamps or the load of a clock are a likelier reason than its rate"
+        "half of how it varies, or more: by so much a clock between the taps tells its residences too short, where its rate is the \
+         reason"
     };
     let _ = writeln!(
         errors,
@@ -146,7 +149,7 @@ fn tell_changed<E: Write>(changed: &Changed, errors: &mut E) {
     };
     let _ = write!(
         errors,
-        "ptpx: beside corrections, {} {messages} changed between the taps",
+        "ptpx: in {} {messages} fields other than correctionField differ between the taps",
         changed.messages
     );
     let mut mark = ':';

@@ -41,8 +41,8 @@ pub enum Outcome {
 /// What a packet or line brings goes out in one write before an octet behind it is read, but for a first line that is refused: where a
 /// magic begins with the first octet, four are read.
 ///
-/// Whose messages are followed, and between which taps, is told in lines as soon as that is known, before the first crossing. What
-/// can't be written there is lost.
+/// Whose messages are followed, and between which taps, is told in lines as soon as that is known, before the first crossing; a
+/// slave that is known later, then. What can't be written there is lost.
 ///
 /// The faults are those of reading and of a capture, 802 (the writer failed), 806 (a line that tells no datagram), 808 (memory was
 /// refused) and 809 (a third tap). What was told before is written then.

@@ -17,7 +17,7 @@ use crate::told::Told;
 use capture_extract::Summary as PacketCounts;
 use std::alloc::Global;
 use std::io::Write;
-use tap_choice::{Sides, TapName};
+use tap_choice::Sides;
 use tap_crossing::{Filled, Kind};
 use tap_figures::Untold;
 use tap_following::{Followed, Follower};

@@ -1,5 +1,5 @@
 //! A datagram that was met at a tap, from a line or a packet.
-ghost use Rattle.std.specs.Prelude.{◌≡◌, ◌≢◌, ℕ, List, [], MatchResult, Err, OnOk};
+ghost use Rattle.std.specs.Prelude.{◌≡◌, ◌≢◌, [], MatchResult, Err, OnOk};
 ghost use Rattle.std.specs.String.{string_bytes};
 ghost use Rattle.std.specs.Io.KnownBytes.{Appends};
 ghost use Rattle.text_lines.specs.Counted.{device_of, HasNotFailed, HasFailedIf};
@@ -8,7 +8,7 @@ ghost use Rattle.tap_following.specs.Held.{IsFollower};
 ghost use Rattle.tap_follow.specs.Datagram.{met_in};
 ghost use Rattle.tap_follow.specs.Fault.{is_write};
 ghost use Rattle.tap_follow.specs.Inner.Taking.{datagram_of, reading_of, ChangesAs, TakesAs, EndsAs, IsLeft, IsEnded};
-ghost use Rattle.event_codec.specs.Reading.{Reading, IsReading};
+ghost use Rattle.event_codec.specs.Reading.{IsReading};
 
 use crate::fault::FollowFault;
 use crate::told::Told;

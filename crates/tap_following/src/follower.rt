@@ -1,7 +1,6 @@
 //! Messages from the first on: kept until it is known which of them are followed, and then followed.
-ghost use Rattle.std.specs.Prelude.{◌≡◌, ◌==◌, ◌++◌, ◌∷◌, List, [], OnOk, MatchOption, reverse, unwrap_or, ◌≤◌, length};
+ghost use Rattle.std.specs.Prelude.{◌≡◌, ◌==◌, ◌++◌, ◌∷◌, List, [], OnOk, MatchOption, reverse};
 ghost use Rattle.std.specs.String.{string_bytes};
-ghost use Rattle.tap_choice.specs.Sides.{side_of, sides_after, both_named};
 ghost use Rattle.tap_following.specs.Followed.{slave_in};
 ghost use Rattle.tap_following.specs.Written.{written};
 ghost use Rattle.tap_following.specs.Course.{Course, begun, name_at, followed_by, arrival_of, with_tap, after, ended, new_text, end_text};

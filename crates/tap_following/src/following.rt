@@ -10,7 +10,6 @@ ghost use Rattle.tap_crossing.specs.declared.crossing.Outcome.{Outcome};
 ghost use Rattle.tap_crossing.specs.declared.sighting.Kind.TheVariants as kinds;
 ghost use Rattle.tap_crossing.specs.declared.sighting.Placed.{Placed};
 ghost use Rattle.tap_figures.specs.Untold.{AreUntold};
-ghost use Rattle.tap_following.specs.Followed.{watched_in};
 ghost use Rattle.tap_following.specs.Written.{text_as, text_at, told_of, outcome_of};
 ghost use Rattle.tap_following.specs.Held.{IsFollowing};
 ghost use Rattle.tap_following.specs.Inner.Learned.{learned};

@@ -82,10 +82,10 @@ alone, or else each that applies of 702, 703, 705, 707, 706 and 708, in this ord
 the results are by the readings, by_messages what they are by what the messages told the slave and its own
 readings; both are null where 701 or 704 stands, by_messages also where one of these messages can't be
 read. error is how many nanoseconds the results are too much against each of the two, null where 706
-doesn't stand. octets is "told" where 708 stands and a field differs that a slave or a master reads, and
-"other" where only fields do that nobody here reads. offset2 is twice offsetFromMaster and path2 twice
-meanPathDelay, in units of 2^-16 ns. time is what the slave read at the later of the Sync's arrival and
-the Delay_Req's departure.
+doesn't stand. octets is "told" where 708 stands and a field differs that a slave or a master reads (behind
+a two-step transparent clock no finding), and "other" where only fields do that nobody here reads. offset2
+is twice offsetFromMaster and path2 twice meanPathDelay, in units of 2^-16 ns. time is what the slave read
+at the later of the Sync's arrival and the Delay_Req's departure.
 
 Reasons and faults are those that 'ptpx check --help' lists, and of a schedule those of 'ptpx replay --help'.
 The first fault goes as 'ptpx: fault 806 at line 3' to standard error.

@@ -176,12 +176,13 @@ of linuxptp does, 00aabb.fffe.ccddee-1. Number and domain may have zeros in fron
 as the time of a line is.
 
 Standard error tells the two taps, the domain, the master and the slave as soon as they are known, before the
-first crossing. At the end it tells of a capture how many packets there are, then of the crossings of each
-kind the least, the median of the last 4096, the mean and the greatest of each number, by how much the rest of
-Syncs grows with what was corrected, from 1 ppm on, the asymmetry and what that means, in how many messages
-which field but the correction is another at one tap than at the other, how many Syncs and Delay_Reqs were met
-at one tap alone, those among them that came again when all was told, or behind 256 others, how many lack a
-Follow_Up or a Delay_Resp, and of how many nothing is told, and why.
+first crossing, and a slave that is known later, then. At the end it tells of a capture how many packets there
+are, then of the crossings of each kind the least, the median of the last 4096, the mean and the greatest of
+each number, where 16 Syncs crossed or more by how much their rest grows with what was corrected, from 1 ppm
+on, the asymmetry and what that means, which fields but the correction differ between the taps, and in how
+many messages, how many Syncs and Delay_Reqs were met at one tap alone, those among them that came again when
+all was told, or behind 256 others, how many lack a Follow_Up or a Delay_Resp, and of how many nothing is
+told, and why.
 
 Faults, each of which ends the run with 'ptpx: fault 806 at line 3' on standard error, or of a capture with
 'ptpx: fault 1006 at octet 6300, after 41 packets: the capture ends within a packet or a block'. Lines count

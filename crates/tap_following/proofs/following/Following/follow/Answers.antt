@@ -1,18 +1,18 @@
-use Rattle.std.proofs.Common.{◌≡◌, ◌∙◌, ◌++◌, ℕ, List, [], ◌∷◌, Option, Some, None, refl, sym, ap, subst, arith}
+use Rattle.std.proofs.Common.{◌≡◌, ◌∙◌, ◌++◌, ℕ, List, [], ◌∷◌, Some, None, refl, sym, ap, subst}
 use Rattle.std.proofs.lemmas.List.{append-nil}
 use Rattle.std.specs.Prelude.{option_to_list}
 use Rattle.std.specs.String.{string_bytes}
 use Rattle.tap_crossing.specs.declared.sighting.Kind.TheVariants as kinds
 use Rattle.tap_crossing.specs.declared.sighting.Placed.{Placed}
-use Rattle.tap_crossing.specs.StandsFor.{Tables, StandsAfter}
+use Rattle.tap_crossing.specs.StandsFor.{StandsAfter}
 use Rattle.tap_crossing.specs.Told.{told}
 use Rattle.tap_figures.specs.Figures.{AreFigures}
 use Rattle.tap_figures.specs.Untold.{AreUntold}
 use Rattle.tap_sums.specs.Held.{AreSums}
 use Rattle.tap_following.specs.Held.{Held, IsFollowing}
-use Rattle.tap_following.specs.Written.{records_most, placed_at, placed_in, outcome_of, outcomes_in, crossing_in, crossings_in, text_as, text_at, told_of}
+use Rattle.tap_following.specs.Written.{records_most, placed_in, outcome_of, outcomes_in, crossing_in, crossings_in, text_as, told_of}
 use Rattle.tap_following.proofs.Courses.{on_ok_map}
-use Rattle.tap_following.proofs.Coming.{IsLearned, Comes, Counted, learned-is, placed-is, came, unplaced, told-more, counted-with, text-told, none-crossed}
+use Rattle.tap_following.proofs.Coming.{IsLearned, Counted, learned-is, placed-is, came, unplaced, told-more, counted-with, text-told, none-crossed}
 use Rattle.tap_following.proofs.following.Following.follow.Goals as goal
 
 pub returns-in_default : goal.returns-in_default
