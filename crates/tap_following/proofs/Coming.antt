@@ -96,19 +96,21 @@ module _ (form : Form) (f : Followed) (m : Met) (earlier : List Met) where
   pub came : (p : Option Placed) (new : Held) (text : List ℕ) → p ≡ placed_at f m earlier → Comes p new text
       → IsFollowing form f (m ∷ earlier) new × (text ≡ text_at form f m earlier)
   came p new text is comes =
-      let at : Comes (placed_at f m earlier) new text = subst (λ (q : Option Placed). Comes q new text) is comes in
-      (record {
-        form_is = at.form_is;
-        watched = at.watched;
-        from = at.from;
-        from_name = at.from_name;
-        to_name = at.to_name;
-        stands = at.stands;
-        sums = at.sums;
-        figures = at.figures;
-        untold_syncs = at.untold_syncs;
-        untold_requests = at.untold_requests;
-      }, at.text_is)
+      let at : Comes (placed_at f m earlier) new text = subst (λ (q : Option Placed). Comes q new text) is comes in (
+        record {
+          form_is = at.form_is;
+          watched = at.watched;
+          from = at.from;
+          from_name = at.from_name;
+          to_name = at.to_name;
+          stands = at.stands;
+          sums = at.sums;
+          figures = at.figures;
+          untold_syncs = at.untold_syncs;
+          untold_requests = at.untold_requests;
+        },
+        at.text_is,
+      )
 
   pub unplaced : (held : Held) (p : Option Placed) → IsLearned form f m earlier held → p ≡ None → Comes p held []
   unplaced held p at none = subst (λ (q : Option Placed). Comes q held []) (sym none) (record {

@@ -147,8 +147,8 @@ impl Following {
         ensures requests { (earlier : List Outcome) → AreUntold earlier self.old.untold_requests
             → AreUntold (option_to_list (outcome_of kinds.DelayReq kind outcome.now) ++ earlier) self.new.untold_requests }
         ensures others { self.new ≡ record self.old {
-            untold_syncs = self.new.untold_syncs;
-            untold_requests = self.new.untold_requests;
+          untold_syncs = self.new.untold_syncs;
+          untold_requests = self.new.untold_requests;
         } }
     {
         match kind {

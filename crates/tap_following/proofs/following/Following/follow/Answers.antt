@@ -28,11 +28,11 @@ returns-in_default c = λ form f earlier at.
       untold_requests = c.self.inside.untold_requests;
     } in
     let learnt : IsLearned form f m earlier c.learn.new.self =
-        learned-is form f m earlier c.args.self.now c.learn.new.self at c.learn.ensures in
+    learned-is form f m earlier c.args.self.now c.learn.new.self at c.learn.ensures in
     let inside : IsLearned form f m earlier held = subst (IsLearned form f m earlier) (sym c.self.view_is) learnt in
     let place = placed-is form f m earlier held _ _ _ inside c.tap_at-tap.ensures c.message_of-message.ensures c.placed.ensures in
     let (follows, text) = came form f m earlier c.placed.result c.learn.new.self [] place
-        (unplaced form f m earlier c.learn.new.self c.placed.result learnt c.in_default.is) in
+    (unplaced form f m earlier c.learn.new.self c.placed.result learnt c.in_default.is) in
     (follows, sym (append-nil (string_bytes c.args.text.now)) ∙ ap (λ (t : List ℕ). string_bytes c.args.text.now ++ t) text)
 
 pub returns-in-Waits : goal.returns-in-Waits
@@ -50,7 +50,7 @@ returns-in-Waits c = λ form f earlier at.
     } in
     let new : Held = c.count.new.self in
     let inside : IsLearned form f m earlier held = subst (IsLearned form f m earlier) (sym c.self.view_is)
-        (learned-is form f m earlier c.args.self.now c.learn.new.self at c.learn.ensures) in
+    (learned-is form f m earlier c.args.self.now c.learn.new.self at c.learn.ensures) in
     let place = placed-is form f m earlier held _ _ _ inside c.tap_at-tap.ensures c.message_of-message.ensures c.placed.ensures in
     let counted : Counted form f m earlier p c.meet-outcome.result held new = record {
       form_is = ap (λ (h : Held). h.form) c.count.ensures.others;
@@ -60,11 +60,11 @@ returns-in-Waits c = λ form f earlier at.
       untold_requests = c.count.ensures.requests (outcomes_in kinds.DelayReq f earlier) inside.untold_requests;
     } in
     let (follows, text) = came form f m earlier (Some p) new [] (sym c.in-Some.is ∙ place)
-        (told-more form f m earlier held new p c.meet-outcome.result None [] inside
-        (c.meet-outcome.ensures.told records_most (placed_in f earlier) inside.stands)
-        (none-crossed c.meet-outcome.result c.in-Waits.is) counted
-        (subst (λ (h : Held). AreSums (crossings_in f earlier) h.sums) (sym c.count.ensures.others) inside.sums)
-        (subst (λ (h : Held). AreFigures (crossings_in f earlier) h.figures) (sym c.count.ensures.others) inside.figures) refl) in
+    (told-more form f m earlier held new p c.meet-outcome.result None [] inside
+    (c.meet-outcome.ensures.told records_most (placed_in f earlier) inside.stands)
+    (none-crossed c.meet-outcome.result c.in-Waits.is) counted
+    (subst (λ (h : Held). AreSums (crossings_in f earlier) h.sums) (sym c.count.ensures.others) inside.sums)
+    (subst (λ (h : Held). AreFigures (crossings_in f earlier) h.figures) (sym c.count.ensures.others) inside.figures) refl) in
     (follows, sym (append-nil (string_bytes c.args.text.now)) ∙ ap (λ (t : List ℕ). string_bytes c.args.text.now ++ t) text)
 
 pub returns-in_ok-take-in-Crossed : goal.returns-in_ok-take-in-Crossed
@@ -91,7 +91,7 @@ returns-in_ok-take-in-Crossed c = λ form f earlier at.
     } in
     let pushed : Held = record mid { sums = c.take.new.self; figures = c.take-in-Crossed.new.self } in
     let inside : IsLearned form f m earlier held = subst (IsLearned form f m earlier) (sym c.self.view_is)
-        (learned-is form f m earlier c.args.self.now c.learn.new.self at c.learn.ensures) in
+    (learned-is form f m earlier c.args.self.now c.learn.new.self at c.learn.ensures) in
     let place = placed-is form f m earlier held _ _ _ inside c.tap_at-tap.ensures c.message_of-message.ensures c.placed.ensures in
     let others = c.self-in-Crossed.view_is ∙ c.count.ensures.others in
     let counted : Counted form f m earlier p c.meet-outcome.result held mid = record {
@@ -106,14 +106,14 @@ returns-in_ok-take-in-Crossed c = λ form f earlier at.
           (c.count.ensures.requests (outcomes_in kinds.DelayReq f earlier) inside.untold_requests);
     } in
     let then : Counted form f m earlier p c.meet-outcome.result held pushed =
-        counted-with form f m earlier p c.meet-outcome.result held mid c.take.new.self c.take-in-Crossed.new.self counted in
+    counted-with form f m earlier p c.meet-outcome.result held mid c.take.new.self c.take-in-Crossed.new.self counted in
     let sums = subst (λ (h : Held). AreSums (crossings_in f earlier) h.sums) (sym others) inside.sums in
     let figures = subst (λ (h : Held). AreFigures (crossings_in f earlier) h.figures) (sym others) inside.figures in
     let comes = told-more form f m earlier held pushed p c.meet-outcome.result (Some c.in-Crossed.crossing)
-        (text_as pushed.form (told_of pushed.followed c.in-Crossed.crossing)) inside
-        (c.meet-outcome.ensures.told records_most (placed_in f earlier) inside.stands) (ap crossing_in c.in-Crossed.is) then
-        (c.take.ensures (crossings_in f earlier) sums) (c.in_ok-take-in-Crossed.ensures (crossings_in f earlier) figures)
-        (text-told form f m earlier held pushed p c.meet-outcome.result c.in-Crossed.crossing inside then) in
+    (text_as pushed.form (told_of pushed.followed c.in-Crossed.crossing)) inside
+    (c.meet-outcome.ensures.told records_most (placed_in f earlier) inside.stands) (ap crossing_in c.in-Crossed.is) then
+    (c.take.ensures (crossings_in f earlier) sums) (c.in_ok-take-in-Crossed.ensures (crossings_in f earlier) figures)
+    (text-told form f m earlier held pushed p c.meet-outcome.result c.in-Crossed.crossing inside then) in
     let (follows, text) = came form f m earlier (Some p) pushed _ (sym c.in-Some.is ∙ place) comes in
     on_ok_map c.push.result c.push.ensures.written (λ appended. (
       subst (IsFollowing form f (m ∷ earlier)) (sym c.push.ensures.kept) follows,
