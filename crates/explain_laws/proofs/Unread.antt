@@ -1,5 +1,5 @@
 -- Messages that tell what ports and clocks write have the results by the readings.
-use Rattle.std.proofs.Common.{◌≡◌, ◌∙◌, ℕ, Bool, true, false, [], ◌∷◌, List, length, Option, Some, None, refl, sym, ap, subst}
+use Rattle.std.proofs.Common.{◌≡◌, ◌∙◌, ℕ, Bool, true, false, [], ◌∷◌, length, Option, Some, None, refl, sym, ap, subst}
 use Rattle.std.proofs.Common.{option_map, option_and_then, if◌then◌else◌}
 use Rattle.std.specs.Prelude.{◌==◌, ◌&&◌, ◌||◌, not}
 use Rattle.std.specs.Option.{option_or, option_map_or}
@@ -26,9 +26,8 @@ use Rattle.trace_model.proofs.ByMessages.{each_tells_the_readings}
 use Rattle.trace_model.proofs.Exchanges.{found_below}
 use Rattle.trace_model.proofs.JourneyLines.{made_by}
 use Rattle.trace_model.proofs.OctetsOfExchanges.{passed, heard_of, exchange_parts, journey_found}
-use Rattle.exchange_check.specs.Evidence.{otherwise_finding, tells_otherwise, journey_otherwise, exchange_otherwise}
+use Rattle.exchange_check.specs.Evidence.{otherwise_finding, journey_otherwise, exchange_otherwise}
 use Rattle.exchange_check.specs.Evidence.{last_finding, last_otherwise}
-use Rattle.exchange_explain.specs.declared.details.Octets.{Octets}
 use Rattle.exchange_explain.specs.declared.details.Octets.TheVariants.{Told, Other}
 use Rattle.exchange_explain.specs.Details.{octets_of}
 use Rattle.explain_laws.specs.Unread.{EachOtherTellsTheReadings}
