@@ -1,4 +1,4 @@
-//! Means, deviations and slopes of series, rounded. Nothing is promised of them but that they are told.
+//! Means, deviations and slopes of series, rounded. Nothing is promised of them.
 #![tactic(auto)]
 
 mod rounded;
