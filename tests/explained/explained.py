@@ -482,24 +482,32 @@ ONE_STEP = [
 ]
 
 
-def staying(stays, copy):
-    """A transcript of an exchange whose Sync stays in a clock so many times, for no time, and which reports one unit too much. The
-    first stay is of the copy of this number, which is 1 for the Sync."""
+def stays_of(events, stays, copy, octets, moment, twice):
+    """Adds so many stays of a message, of which the first is of the copy of this number, and the one of that place is left twice."""
+    for place in range(stays):
+        enter, leave = len(events), len(events) + 1
+        events += [{'copy': copy, 'ev': 'enter', 'node': 'T', 'out': 'entered', **moment},
+                   *[{'ev': 'leave', 'hex': octets, 'node': 'T', 'out': 'made', 'transit': enter, **moment}] * (2 if place == twice else 1)]
+        copy = leave
+    return copy
+
+
+def staying(stays, copy, of_request=0, twice=None):
+    """A transcript of an exchange whose Sync stays in a clock so many times, for no time, and whose Delay_Req so many times, and which
+    reports one unit too much. The first stay is of the copy of this number, which is 1 for the Sync."""
     first, second = ({'at': moment, 'reading': moment} for moment in ([1, 0, 0], [2, 0, 0]))
     events = [{'ev': 'setmaster', 'master': 'M', 'node': 'S', 'out': 'done'},
               {'ev': 'sync', 'hex': SYNC, 'node': 'M', 'out': 'made', **first}]
-    for _ in range(stays):
-        enter, leave = len(events), len(events) + 1
-        events += [{'copy': copy, 'ev': 'enter', 'node': 'T', 'out': 'entered', **first},
-                   {'ev': 'leave', 'hex': SYNC, 'node': 'T', 'out': 'made', 'transit': enter, **first}]
-        copy = leave
-    sync, follow, heard, request, _, answer, report = range(len(events), len(events) + 7)
-    events += [{'copy': sync - 1, 'ev': 'arrive', 'node': 'S', 'out': 'held', **first},
+    left = stays_of(events, stays, copy, SYNC, first, twice)
+    sync, follow, heard, request = range(len(events), len(events) + 4)
+    events += [{'copy': left if stays else 1, 'ev': 'arrive', 'node': 'S', 'out': 'held', **first},
                {'ev': 'follow', 'hex': FOLLOW_UP, 'node': 'M', 'out': 'made'},
                {'copy': follow, 'ev': 'hear', 'node': 'S', 'out': 'completed'},
                {'ev': 'request', 'hex': DELAY_REQ, 'node': 'S', 'out': 'made', **second},
-               {'ev': 'stamped', 'node': 'S', 'out': 'done'},
-               {'copy': request, 'ev': 'arrive', 'hex': DELAY_RESP, 'node': 'M', 'out': 'made', **second},
+               {'ev': 'stamped', 'node': 'S', 'out': 'done'}]
+    left = stays_of(events, of_request, request, DELAY_REQ, second, twice)
+    answer, report = len(events), len(events) + 1
+    events += [{'copy': left, 'ev': 'arrive', 'hex': DELAY_RESP, 'node': 'M', 'out': 'made', **second},
                {'copy': answer, 'ev': 'hear', 'node': 'S', 'offset2': '1', 'out': 'report', 'path2': '0',
                 'tags': [sync, heard, request, report]}]
     numbered = (json.dumps({**event, 'n': number}, sort_keys=True, separators=(',', ':')) for number, event in enumerate(events))
@@ -746,21 +754,31 @@ can't be followed back to where it was sent, or a stay on it was left twice
                 self.assertEqual(ended.status, 1)
 
     def test_tells_how_much_of_a_journey_was_looked_at(self):
-        output = explain(changed(staying(300, 1), ('"hex":"0812', '"hex":"0802'))).output
-        self.assertIn('    of the journey of the Sync only the last 256 stays were looked at\n', output)
+        for stays, message in ((300, 0), 'Sync'), ((0, 300), 'Delay_Req'):
+            output = explain(changed(staying(stays[0], 1, stays[1]), ('"hex":"0812', '"hex":"0802'))).output
+            self.assertIn(f'    of the journey of the {message} only the last 256 stays were looked at\n', output)
+            for place, said in (3, "doesn't stop in its last 256 stays; those before them weren't looked at"), (299, None):
+                output = explain(staying(stays[0], 1, stays[1], place)).output
+                if said:
+                    self.assertIn(f'    the journey of the {message} {said}\n', output)
+                else:
+                    self.assertRegex(output, f'    the {message} entered a clock by event [0-9]+, .*, and left it twice: by event [0-9]+, .* and by event [0-9]+, ')
 
     def test_tells_what_is_wrong_first_before_the_stays_that_are_looked_at(self):
-        lines = staying(300, 1).splitlines(True)
-        for old, new, said in [
-            ('"hex":"0012', '"hex":"1012', 'octet 0 from 0, in majorSdoId and messageType, is 10; wanted is 00'),
-            ('"reading":[1,0,0]', '"reading":[1,5,0]',
-             'read is 1.000000005, the true moment is 1.000000000, and they differ by 5 ns; wanted is 0 ns, since no event set the clock'),
+        octets = 'octet 0 from 0, in majorSdoId and messageType, is {}; wanted is {}'
+        reading = 'read is {0}.000000005, the true moment is {0}.000000000, and they differ by 5 ns; wanted is 0 ns, since no event set the clock'
+        for lines, message, event, old, new, said in [
+            (staying(300, 1), 'Sync', 11, '"hex":"0012', '"hex":"1012', octets.format('10', '00')),
+            (staying(300, 1), 'Sync', 11, '"reading":[1,0,0]', '"reading":[1,5,0]', reading.format(1)),
+            (staying(0, 1, 300), 'Delay_Req', 12, '"hex":"0112', '"hex":"1112', octets.format('11', '01')),
+            (staying(0, 1, 300), 'Delay_Req', 12, '"reading":[2,0,0]', '"reading":[2,5,0]', reading.format(2)),
         ]:
-            with self.subTest(old=old, new=new):
-                output = explain(changed(lines, (old, new), place=14)).output
+            with self.subTest(message=message, new=new):
+                output = explain(changed(lines.splitlines(True), (old, new), place=event + 3)).output
+                self.assertEqual(output.count(f'    event {event}, line {event + 4}, '), 1)
                 self.assertIn(f"""
-    event 11, line 15, a leave at T: {said}
-    of the journey of the Sync only the last 256 stays were looked at
+    event {event}, line {event + 4}, a leave at T: {said}
+    of the journey of the {message} only the last 256 stays were looked at
 """, output)
 
 
