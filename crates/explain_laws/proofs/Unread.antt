@@ -60,15 +60,17 @@ tells network e none made =
 line_counts : (network : Network) (lines : Lines) (n : ℕ) (e : LinePlace) → line_at network lines n ≡ Some e
     → counts network e.line ≡ true
 line_counts network [] n e is = cc
-line_counts network (line ∷ lines) n e is = at (length lines == n) (counts network line) refl is
+line_counts network (line ∷ lines) n e is =
+    at (length lines == n) (counts network line) refl (λ later. line_counts network lines n e later) is
   where
     at : (here counted : Bool) → counts network line ≡ counted
+        → (line_at network lines n ≡ Some e → counts network e.line ≡ true)
         → (if here then (if counted then Some (line_place line lines) else None) else line_at network lines n) ≡ Some e
         → counts network e.line ≡ true
-    at true true c is =
+    at true true c before is =
         let same : line_place line lines ≡ e = cc in subst (λ (x : LinePlace). counts network x.line ≡ true) same c
-    at true false c is = cc
-    at false counted c is = line_counts network lines n e is
+    at true false c before is = cc
+    at false counted c before is = before is
 
 counted_good : (network : Network) (line : TraceLine) → counts network line ≡ true
     → (is_good network line.event line.out ≡ true) × (is_refused line.out ≡ false)
@@ -81,10 +83,10 @@ counted_good network line counted =
     refused false y h = refl
 
 made_or : (x y z : Bool) → (x && (y || z)) ≡ true → z ≡ false → y ≡ true
-made_or true true z good no = refl
-made_or true false true good no = cc
-made_or true false false good no = cc
-made_or false y z good no = cc
+made_or true true z good none = refl
+made_or true false true good none = cc
+made_or true false false good none = cc
+made_or false y z good none = cc
 
 follow_made : (network : Network) (line : TraceLine) (event : Event) → line.event ≡ event → is_follow event ≡ true
     → counts network line ≡ true → is_made line.out ≡ true
