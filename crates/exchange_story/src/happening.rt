@@ -1,6 +1,6 @@
 //! Events and nodes in words.
 
-use network_model::{Event, Name, NodeKind, NodeSpec};
+use network_model::{Event, NodeKind};
 use std::fmt;
 use std::fmt::{Display, Formatter};
 
@@ -58,7 +58,7 @@ pub(crate) fn needed_kind(event: &Event) -> &'static str {
 
 /// How many events there are, by their numbers.
 #[derive(Clone, Copy)]
-pub(crate) struct Numbers(pub(crate) usize);
+pub(crate) struct Numbers(pub(crate) u64);
 
 impl Display for Numbers {
     fn fmt<W: fmt::Write>(&self, f: &mut Formatter<W>) -> fmt::Result {
@@ -68,9 +68,4 @@ impl Display for Numbers {
             Some(last) => write!(f, "there are events 0 to {last}"),
         }
     }
-}
-
-/// The node of this name.
-pub(crate) fn node_named<'a>(nodes: &'a [NodeSpec], name: &Name) -> Option<&'a NodeSpec> {
-    nodes.iter().find(|node| node.name == *name)
 }

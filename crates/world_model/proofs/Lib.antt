@@ -14,3 +14,4 @@ mod InTurn
 mod KeptEvents
 mod NodePlaces
 mod RunLaws
+mod Obstacles

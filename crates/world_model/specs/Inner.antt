@@ -2,5 +2,6 @@
 -- nobody has to believe it.
 pub mod Acts
 pub mod Kept
+pub mod Sought
 pub mod Stands
 pub mod Steps

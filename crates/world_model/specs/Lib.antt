@@ -1,4 +1,5 @@
 pub mod State
 pub mod Turns
 pub mod Exact
+pub mod Obstacle
 pub mod Inner

@@ -5,6 +5,7 @@ mod clock;
 mod entry;
 mod events;
 mod master;
+mod obstacle;
 mod places;
 mod slave;
 mod station;
@@ -15,6 +16,7 @@ mod world;
 pub use network_model::{
     Event, Name, NodeKind, NodeSpec, Nodes, Outcome, RunStop, Stepped, WorldRefusal, laws,
 };
+pub use obstacle::{Obstacle, obstacle_to};
 pub use slave_port::{Heard, Reason, Report};
 pub use turns::run;
 pub use world::World;
