@@ -15,3 +15,4 @@ mod KeptEvents
 mod NodePlaces
 mod RunLaws
 mod Obstacles
+mod EachMet

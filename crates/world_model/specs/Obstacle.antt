@@ -1,15 +1,17 @@
 -- What stands in the way of an event that isn't accepted: what the first refusal met that applies to it.
-use Rattle.std.specs.Prelude.{ℕ, Bool, false, ◌&&◌, [], ◌∷◌, if◌then◌else◌, is_some, Option, Some, None, option_map, option_and_then, unwrap_or}
+use Rattle.std.specs.Prelude.{ℕ, Bool, false, ◌&&◌, [], ◌∷◌, if◌then◌else◌, is_some, Option, Some, None, option_map, option_and_then, unwrap_or, ◌≡◌, ◌<◌, IfSome, IsSome, Err}
 use Rattle.std.specs.Option.{option_map_or}
+use Rattle.ptp_units.specs.Moment.{bound}
 use Rattle.network_model.specs.declared.event.Event.{Event}
 use Rattle.network_model.specs.declared.event.Event.TheVariants.{Sync, SyncOne, Follow, Enter, Leave, Arrive, Hear}
 use Rattle.network_model.specs.declared.event.Event.TheVariants.{Request, Stamped, Tick, SetMaster, StepClock}
 use Rattle.network_model.specs.declared.refusal.WorldRefusal.{WorldRefusal}
 use Rattle.network_model.specs.declared.refusal.WorldRefusal.TheVariants as refusals
 use Rattle.network_model.specs.Network.{Network, NodeName, kind_of, is_named}
-use Rattle.network_model.specs.Run.{Run, Place, place, place_at, tag_of, site_of}
+use Rattle.network_model.specs.Run.{Run, Place, place, place_at, tag_of, site_of, true_moment}
 use Rattle.network_model.specs.Kinds.{is_at, draws_sync, is_one_step_sync, is_follow, is_request, is_stamped, is_step}
 use Rattle.network_model.specs.Kinds.{named_copy, named_transit, named_master, named_difference, entered_copy, is_leave_of}
+use Rattle.network_model.specs.Outcome.{outcome_of}
 use Rattle.world_model.specs.declared.obstacle.Obstacle.{Obstacle}
 use Rattle.world_model.specs.declared.obstacle.Obstacle.TheVariants.{NoNode, OtherKind, NoEvent, OtherEvent, LeftAlready}
 use Rattle.world_model.specs.declared.obstacle.Obstacle.TheVariants.{TooFar, ClockSet, NoSync, OneStepSync, FollowUpSent}
@@ -101,3 +103,9 @@ obstacle_of network run event refusals.NothingWaiting = waiting_met run event
 obstacle_of network run event refusals.SameName = None
 obstacle_of network run event refusals.SameIdentity = None
 obstacle_of network run event refusals.Memory = None
+
+-- where an event whose moment is one isn't accepted, something stands in its way for the first reason that applies
+abbrev pub IsMet : Network → Run → Event → WorldRefusal → Type 0
+IsMet network run event why =
+    IfSome (true_moment event) (λ at. at < bound) → outcome_of network run event ≡ Err why
+    → IsSome (obstacle_of network run event why)

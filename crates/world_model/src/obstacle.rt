@@ -4,7 +4,7 @@ ghost use Rattle.network_model.specs.declared.event.Event.{Event};
 ghost use Rattle.network_model.specs.Network.{node_of, kind_of};
 ghost use Rattle.network_model.specs.Run.{place_at};
 ghost use Rattle.world_model.specs.Obstacle.{newest, obstacle_of, missing_name, kinds_met, event_met, stay_met};
-ghost use Rattle.world_model.specs.Obstacle.{is_entered_at, clock_met, sync_met, request_met, waiting_met};
+ghost use Rattle.world_model.specs.Obstacle.{is_entered_at, clock_met, sync_met, request_met, waiting_met, IsMet};
 ghost use Rattle.world_model.specs.Inner.Sought.{numbered, sought};
 
 use network_model::{Event, Name, NodeKind, NodeSpec, WorldRefusal};
@@ -169,6 +169,15 @@ pub fn obstacle_to(
     event: &Event,
     why: WorldRefusal,
 ) -> Option<Obstacle>
+    ensures value { result ≡ obstacle_of nodes.now (reverse events.now) event.now why }
+    // Of an event that isn't accepted it is never silent.
+    ensures met { IsMet nodes.now (reverse events.now) event.now why }
+{
+    met(nodes, events, event, why)
+}
+
+/// What a refusal for this reason met.
+fn met(nodes: &[NodeSpec], events: &[Event], event: &Event, why: WorldRefusal) -> Option<Obstacle>
     ensures { result ≡ obstacle_of nodes.now (reverse events.now) event.now why }
 {
     match why {
