@@ -16,10 +16,10 @@ ghost use Rattle.exchange_explain.specs.Input.{lines_in};
 ghost use Rattle.exchange_explain.specs.Judgements.{is_told};
 ghost use Rattle.exchange_explain.specs.Inner.Explaining.{IsExplaining, IsKeptAlike, IsSeenAlike, HasEvent, HasEventFor};
 
-use crate::flaws::{Before, Flaws, push_foreign};
+use crate::flaws::{Flaws, push_foreign};
 use crate::found::push_found;
 use crate::input::{Found, Input, Taken};
-use exchange_story::{Reported, Story, push_clash};
+use exchange_story::{Before, Reported, Story, push_clash};
 use line_flaws::Foreign;
 use network_model::WorldRefusal;
 use schedule_lines::TranscriptLine;

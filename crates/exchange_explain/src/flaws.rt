@@ -2,9 +2,9 @@
 ghost use Rattle.std.specs.Prelude.{◌≡◌};
 
 use crate::input::Input;
-use exchange_story::{RefusedEvent, push_clash, push_refused};
+use exchange_story::{Before, RefusedEvent, push_clash, push_refused};
 use line_flaws::{Flaw, FlawAt, Foreign, Form, schedule_flaw, transcript_flaw};
-use network_model::{Event, NodeSpec, WorldRefusal};
+use network_model::WorldRefusal;
 use schedule_lines::Line;
 use schedule_reading::{TaskFault, read_entry};
 use std::alloc::{AllocError, Global};
@@ -20,15 +20,6 @@ pub(crate) struct FirstFault {
     pub(crate) line: u64,
     /// What it is.
     pub(crate) what: TaskFault,
-}
-
-/// The nodes and the events before the line of the first fault.
-#[derive(Clone, Copy)]
-pub(crate) struct Before<'a> {
-    /// The nodes, in their order.
-    pub(crate) nodes: &'a [NodeSpec],
-    /// The events of a schedule, the oldest first; none of a transcript.
-    pub(crate) events: &'a [Event],
 }
 
 /// The first fault of an input, and what was seen of lines from there on.
@@ -176,8 +167,7 @@ impl LinesSeen {
             Ok(Line::Event(event)) => push_refused(
                 text,
                 RefusedEvent {
-                    nodes: before.nodes,
-                    number: before.events.len() as u64,
+                    before,
                     line: number,
                     event: &event,
                     why,

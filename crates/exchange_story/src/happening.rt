@@ -58,7 +58,7 @@ pub(crate) fn needed_kind(event: &Event) -> &'static str {
 
 /// How many events there are, by their numbers.
 #[derive(Clone, Copy)]
-pub(crate) struct Numbers(pub(crate) u64);
+pub(crate) struct Numbers(pub(crate) usize);
 
 impl Display for Numbers {
     fn fmt<W: fmt::Write>(&self, f: &mut Formatter<W>) -> fmt::Result {

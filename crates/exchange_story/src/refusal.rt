@@ -12,13 +12,20 @@ use world_model::Obstacle;
 /// The most nodes whose names are told.
 const NAMES_MOST: usize = 16;
 
+/// The nodes and the events before the one that is refused.
+#[derive(Clone, Copy)]
+pub struct Before<'a> {
+    /// The nodes, in their order.
+    pub nodes: &'a [NodeSpec],
+    /// The events, the oldest first.
+    pub events: &'a [Event],
+}
+
 /// An event of a schedule that the network refuses.
 #[derive(Clone, Copy)]
 pub struct RefusedEvent<'a> {
-    /// The nodes, in their order.
-    pub nodes: &'a [NodeSpec],
-    /// Its number, counted from 0: how many events came before it.
-    pub number: u64,
+    /// What came before it.
+    pub before: Before<'a>,
     /// The line of the input, counted from 1.
     pub line: u64,
     /// The event.
@@ -49,11 +56,11 @@ pub fn push_refused(text: &mut String, refused: RefusedEvent<'_>) -> Result<(), 
 impl RefusedEvent<'_> {
     /// Appends what stands in its way.
     fn push_obstacle(self, text: &mut String, obstacle: Obstacle) -> Result<(), AllocError> {
-        let there = Numbers(self.number);
+        let there = Numbers(self.before.events.len());
         match obstacle {
             Obstacle::NoNode { name } => {
                 write!(text, "no node is called {}; ", name.text())?;
-                push_names(text, self.nodes)
+                push_names(text, self.before.nodes)
             }
             Obstacle::OtherKind { kind, master } => self.push_kinds(text, &kind, master),
             Obstacle::NoEvent { number } => {

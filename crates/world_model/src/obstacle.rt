@@ -83,7 +83,7 @@ pub enum Obstacle {
 
 /// An event with its number.
 #[derive(Clone, Copy)]
-pub(crate) struct Numbered {
+pub(crate) struct NumberedEvent {
     pub(crate) number: u64,
     pub(crate) event: Event,
 }
@@ -123,13 +123,13 @@ impl Sought {
     }
 
     /// The newest such event.
-    fn newest(&self, events: &[Event]) -> Option<Numbered>
+    fn newest(&self, events: &[Event]) -> Option<NumberedEvent>
         ensures { result ≡ option_map numbered (newest (sought self.now) (reverse events.now)) }
     {
         let mut found = None;
         for (number, event) in events.iter().enumerate() {
             if self.is(event) {
-                found = Some(Numbered {
+                found = Some(NumberedEvent {
                     number: number as u64,
                     event: *event,
                 });
@@ -152,7 +152,7 @@ fn kind_named(nodes: &[NodeSpec], name: Name) -> Option<NodeKind>
 }
 
 /// The event of this number.
-fn event_at(events: &[Event], number: u64) -> Option<Event>
+fn event_numbered(events: &[Event], number: u64) -> Option<Event>
     ensures { result ≡ option_map (λ p. p.event) (place_at (reverse events.now) number) }
 {
     match events.get(number as usize) {
@@ -173,28 +173,37 @@ pub fn obstacle_to(
     // Of an event that isn't accepted it is never silent.
     ensures met { IsMet nodes.now (reverse events.now) event.now why }
 {
-    met(nodes, events, event, why)
+    first_obstacle(nodes, events, event, why)
 }
 
 /// What a refusal for this reason met.
-fn met(nodes: &[NodeSpec], events: &[Event], event: &Event, why: WorldRefusal) -> Option<Obstacle>
+fn first_obstacle(
+    nodes: &[NodeSpec],
+    events: &[Event],
+    event: &Event,
+    why: WorldRefusal,
+) -> Option<Obstacle>
     ensures { result ≡ obstacle_of nodes.now (reverse events.now) event.now why }
 {
     match why {
         WorldRefusal::NoNode => Some(Obstacle::NoNode {
-            name: missing(nodes, event),
+            name: missing_name(nodes, event),
         }),
-        WorldRefusal::WrongKind => kinds(nodes, event),
-        WorldRefusal::NoCopy => Some(named(events, event.named_copy()?)),
-        WorldRefusal::NoTransit => Some(stay(events, event.node(), event.named_transit()?)),
-        WorldRefusal::ReadingOutOfRange => clock(events, event),
-        WorldRefusal::NothingWaiting => waiting(events, event),
+        WorldRefusal::WrongKind => kind_obstacle(nodes, event),
+        WorldRefusal::NoCopy => Some(event_obstacle(events, event.named_copy()?)),
+        WorldRefusal::NoTransit => Some(stay_obstacle(
+            events,
+            event.node(),
+            event.named_transit()?,
+        )),
+        WorldRefusal::ReadingOutOfRange => clock_obstacle(events, event),
+        WorldRefusal::NothingWaiting => waiting_obstacle(events, event),
         WorldRefusal::SameName | WorldRefusal::SameIdentity | WorldRefusal::Memory => None,
     }
 }
 
 /// The name that no node has.
-fn missing(nodes: &[NodeSpec], event: &Event) -> Name
+fn missing_name(nodes: &[NodeSpec], event: &Event) -> Name
     ensures { result ≡ missing_name nodes.now event.now }
 {
     let node = event.node();
@@ -205,7 +214,7 @@ fn missing(nodes: &[NodeSpec], event: &Event) -> Name
 }
 
 /// What the nodes are at which an event happens, and that it names.
-fn kinds(nodes: &[NodeSpec], event: &Event) -> Option<Obstacle>
+fn kind_obstacle(nodes: &[NodeSpec], event: &Event) -> Option<Obstacle>
     ensures { result ≡ kinds_met nodes.now event.now }
 {
     let kind = kind_named(nodes, event.node())?;
@@ -217,10 +226,10 @@ fn kinds(nodes: &[NodeSpec], event: &Event) -> Option<Obstacle>
 }
 
 /// The event of a number that is named.
-fn named(events: &[Event], number: u64) -> Obstacle
+fn event_obstacle(events: &[Event], number: u64) -> Obstacle
     ensures { result ≡ event_met (reverse events.now) number }
 {
-    match event_at(events, number) {
+    match event_numbered(events, number) {
         Some(event) => Obstacle::OtherEvent { number, event },
         None => Obstacle::NoEvent { number },
     }
@@ -230,30 +239,30 @@ fn named(events: &[Event], number: u64) -> Obstacle
 fn is_entered(events: &[Event], clock: Name, number: u64) -> bool
     ensures { result ≡ is_entered_at (reverse events.now) clock number }
 {
-    match event_at(events, number) {
+    match event_numbered(events, number) {
         Some(event) => event.entered_copy().is_some() && event.node() == clock,
         None => false,
     }
 }
 
 /// Why no message that entered by the event of this number is in this clock.
-fn stay(events: &[Event], clock: Name, entered: u64) -> Obstacle
+fn stay_obstacle(events: &[Event], clock: Name, entered: u64) -> Obstacle
     ensures { result ≡ stay_met (reverse events.now) clock entered }
 {
     if !is_entered(events, clock, entered) {
-        return named(events, entered);
+        return event_obstacle(events, entered);
     }
     match Sought::Leave(entered).newest(events) {
         Some(left) => Obstacle::LeftAlready {
             entered,
             left: left.number,
         },
-        None => named(events, entered),
+        None => event_obstacle(events, entered),
     }
 }
 
 /// Why the clock of the node of an event would read no moment.
-fn clock(events: &[Event], event: &Event) -> Option<Obstacle>
+fn clock_obstacle(events: &[Event], event: &Event) -> Option<Obstacle>
     ensures { result ≡ clock_met (reverse events.now) event.now }
 {
     if let Some(difference) = event.named_difference() {
@@ -268,22 +277,22 @@ fn clock(events: &[Event], event: &Event) -> Option<Obstacle>
 }
 
 /// Why nothing waits for an event.
-fn waiting(events: &[Event], event: &Event) -> Option<Obstacle>
+fn waiting_obstacle(events: &[Event], event: &Event) -> Option<Obstacle>
     ensures { result ≡ waiting_met (reverse events.now) event.now }
 {
     match event {
-        Event::Follow { node } => sync(events, *node),
-        Event::Stamped { node } => delay_req(events, *node),
+        Event::Follow { node } => sync_obstacle(events, *node),
+        Event::Stamped { node } => delay_req_obstacle(events, *node),
         _ => None,
     }
 }
 
 /// Why no Sync of this master waits for its Follow_Up.
-fn sync(events: &[Event], master: Name) -> Option<Obstacle>
+fn sync_obstacle(events: &[Event], master: Name) -> Option<Obstacle>
     ensures { result ≡ sync_met (reverse events.now) master }
 {
     let Some(
-        Numbered {
+        NumberedEvent {
             number: sync,
             event,
         },
@@ -299,7 +308,7 @@ fn sync(events: &[Event], master: Name) -> Option<Obstacle>
 }
 
 /// Why no Delay_Req of this slave waits for its departure time.
-fn delay_req(events: &[Event], slave: Name) -> Option<Obstacle>
+fn delay_req_obstacle(events: &[Event], slave: Name) -> Option<Obstacle>
     ensures { result ≡ request_met (reverse events.now) slave }
 {
     let Some(delay_req) = Sought::DelayReq(slave).newest(events) else {

@@ -3,12 +3,12 @@ use Rattle.std.specs.Prelude.{Bool}
 use Rattle.network_model.specs.declared.event.Event.{Event}
 use Rattle.network_model.specs.Kinds.{is_at, draws_sync, is_follow, is_request, is_stamped, is_step, is_leave_of}
 use Rattle.network_model.specs.Run.{Place, tag_of}
-use Rattle.world_model.specs.declared.obstacle.Numbered.{Numbered}
+use Rattle.world_model.specs.declared.obstacle.NumberedEvent.{NumberedEvent}
 use Rattle.world_model.specs.declared.obstacle.Sought as declared
 use Rattle.world_model.specs.declared.obstacle.Sought.TheVariants as kinds
 
 -- an event of a run with its number
-abbrev pub numbered : Place → Numbered
+abbrev pub numbered : Place → NumberedEvent
 numbered p = record { number = tag_of p; event = p.event }
 
 -- whether an event is what is looked for
