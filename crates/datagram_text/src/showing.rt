@@ -16,9 +16,11 @@ use text_lines::{
 /// The most octets of a datagram, which is written in two digits each.
 const DATAGRAM_LIMIT: usize = LINE_LIMIT / 2;
 
-/// Shows each line as a datagram, by a text that all lines share.
+/// Shows each line as a datagram, by room and a text that all lines share.
 #[derive(Drop)]
 struct Showing {
+    /// The octets of a line stand at its front.
+    room: [u8; DATAGRAM_LIMIT],
     text: String,
 }
 
@@ -39,7 +41,7 @@ impl LineTask for Showing {
 
     /// Answers one line, in one write.
     fn take<W: Write>(&mut self, digits: &[u8], output: &mut Counted<W>) -> Result<(), LineFault> {
-        make_answer(&mut self.text, digits)?;
+        make_answer(&mut self.room, &mut self.text, digits)?;
         write_text(self.text.as_str(), output)
     }
 
@@ -49,14 +51,17 @@ impl LineTask for Showing {
     }
 }
 
-/// Puts the answer to a line in place of what `text` holds.
-fn make_answer(text: &mut String, digits: &[u8]) -> Result<(), LineFault>
+/// Puts the answer to a line in place of what `text` holds, by way of its octets in the room for them.
+fn make_answer(
+    room: &mut [u8; DATAGRAM_LIMIT],
+    text: &mut String,
+    digits: &[u8],
+) -> Result<(), LineFault>
     requires { length digits.now ≤ line_limit }
     ensures { MatchResult result
         (λ _. IsAnswer digits.now (string_bytes text.new))
         (λ fault. ((fault ≡ LineFault.Field) ⊎ (fault ≡ LineFault.Memory)) × StopsShowing digits.now fault) }
 {
-    let mut room = [0; DATAGRAM_LIMIT];
     let datagram = &mut room[..digits.len() / 2];
     if hex::decode_to_slice(digits, datagram).is_err() {
         return Err(LineFault::Field);
@@ -86,6 +91,7 @@ pub fn show_lines<R: Read, W: Write>(
         (λ stop. FailedAt show_rules stop.what input.old input.new output.old output.new) }
 {
     let mut task = Showing {
+        room: [0; DATAGRAM_LIMIT],
         text: String::new(alloc),
     };
     answer_lines(&mut task, input, output)
