@@ -1,4 +1,4 @@
-ghost use Rattle.std.specs.Prelude.{◌≡◌, ◌+◌, ◌≤◌, ◌<◌, ◌∷◌, ◌++◌, [], vec_len, vec_capacity, IfOk, IfErr, OnOk};
+ghost use Rattle.std.specs.Prelude.{◌≡◌, IfOk, IfErr, OnOk};
 ghost use Rattle.network_model.specs.Network.{IsNetwork};
 ghost use Rattle.network_model.specs.Outcome.{IsRun};
 ghost use Rattle.network_model.specs.Premises.{IsWithinOneTurn, exact_limits};
@@ -9,26 +9,6 @@ ghost use Rattle.world_model.specs.Turns.{AnswersInTurn, IsStopped};
 use crate::world::World;
 use network_model::{Event, RunStop, Stepped, WorldRefusal};
 use std::alloc::Global;
-
-/// Puts an answer after the others, for which there is room.
-fn answer(answers: &mut Vec<Stepped>, stepped: Stepped)
-    requires { vec_len answers.old < vec_capacity answers.old }
-    ensures items { answers.new.items ≡ answers.old.items ++ stepped ∷ [] }
-    ensures len { vec_len answers.new ≡ vec_len answers.old + 1 }
-    ensures capacity { vec_capacity answers.old ≤ vec_capacity answers.new }
-{
-    // The borrow check moves it in parts alone.
-    let Stepped {
-        tag,
-        reading,
-        outcome,
-    } = stepped;
-    answers.push_reserved(Stepped {
-        tag,
-        reading,
-        outcome,
-    });
-}
 
 /// Events one after the other, each answered as by [`World::step`]. Where one is refused the world
 /// stands after those before it. Room for all answers is taken first.
@@ -46,13 +26,14 @@ pub fn run(alloc: Global, world: &mut World, events: &[Event]) -> Result<Vec<Ste
     ensures laws { RunsKeepLaws }
 {
     world.is_sound();
-    let Ok(mut answers) = Vec::with_capacity(alloc, events.len()) else {
+    // As an option, since the borrow check then moves an answer whole.
+    let Some(mut answers) = Vec::with_capacity(alloc, events.len()).ok() else {
         let why = WorldRefusal::Memory;
         return Err(RunStop { done: 0, why });
     };
     for (done, event) in events.iter().enumerate() {
         match world.step(event) {
-            Ok(stepped) => answer(&mut answers, stepped),
+            Ok(stepped) => answers.push_reserved(stepped),
             Err(why) => {
                 let done = done as u64;
                 return Err(RunStop { done, why });

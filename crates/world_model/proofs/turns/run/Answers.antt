@@ -17,15 +17,15 @@ loop-done-preserved c =
     let more : take (c.loop-done.done + 1) c.args.events.now ≡ take c.loop-done.done c.args.events.now ++ event ∷ [] =
     take_more c.args.events.now c.loop-done.done event c.loop-done-test.true ∙ ap (λ (e : Event). take c.loop-done.done c.args.events.now ++ e ∷ []) is in
     let before = c.loop-done.invariant in
-    let stepped = subst (λ (w : State). IsStepped w.network w.run event c.in-Ok-step.stepped) before.happened c.in-Ok-step.ensures.stepped in
+    let stepped = subst (λ (w : State). IsStepped w.network w.run event c.in-Ok.stepped) before.happened c.in-Ok.ensures.stepped in
     record {
-      room = omega (arith, before.room, c.answer.ensures.capacity);
-      count = c.answer.ensures.len ∙ ap (λ n. n + 1) before.count;
-      network = c.in-Ok-step.ensures.network;
-      run = c.in-Ok-step.ensures.run;
-      answered = rw (more, c.answer.ensures.items)
-          (AnswersInTurn-more (take c.loop-done.done c.args.events.now) event c.loop-done.answers.items c.in-Ok-step.stepped c.args.world.now before.answered stepped);
-      happened = c.in-Ok-step.ensures.after ∙ ap (after event) before.happened
+      room = omega (arith, before.room, c.push_reserved.ensures.capacity);
+      count = c.push_reserved.ensures.len ∙ ap (λ n. n + 1) before.count;
+      network = c.in-Ok.ensures.network;
+      run = c.in-Ok.ensures.run;
+      answered = rw (more, c.push_reserved.ensures.items)
+          (AnswersInTurn-more (take c.loop-done.done c.args.events.now) event c.loop-done.answers.items c.in-Ok.stepped c.args.world.now before.answered stepped);
+      happened = c.in-Ok.ensures.after ∙ ap (after event) before.happened
           ∙ sym (ap (λ (es : List Event). after_all es c.args.world.now) more ∙ after_all-more (take c.loop-done.done c.args.events.now) event c.args.world.now);
     }
 
