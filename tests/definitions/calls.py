@@ -1,21 +1,40 @@
 #!/usr/bin/env python3
-"""Fails where docs/GUARANTEES.md doesn't name a public call, or names one that isn't there.
+"""Finds the public calls.
 
-A call is a public function that a library exports: by itself, of a type or a trait that is exported, of `laws`, or for C. The page has to name each in
-backquotes and in full, as `ptp_units::ScaledTime::new`. Functions that a type has of a trait of the kit may be named there, too.
+A call is a public function that a library exports: by itself, of a type or a trait that is exported, of `laws`, or for C. So is a function that
+such a type has of a trait, where it has clauses of its own.
 
-'list' lists the calls.
+'list' lists the calls, and without it they are counted.
 """
 
 import re
 import sys
+from dataclasses import dataclass
 from pathlib import Path
 
 TOP = Path(__file__).resolve().parents[2]
-PAGE = TOP / "docs/GUARANTEES.md"
 USE = re.compile(r"^pub use ([\w:]+?)::(?:\{([^}]*)\}|(\w+));", re.M)
-FUNCTION = re.compile(r"^(\s*)(pub )?(?:const )?fn (\w+)")
-FOR_C = re.compile(r'^pub extern "C" fn (\w+)', re.M)
+FUNCTION = re.compile(r'^(\s*)(pub )?(?:const )?(extern "C" )?fn (\w+)')
+CLAUSE = re.compile(r"^\s*(requires|ensures)\*? (?:(\w+) \{|\{ (\w+) \}$)?", re.M)
+
+
+@dataclass
+class Call:
+    """A call by its full name: its file below src/, its `///`, and its clauses: `requires` or `ensures`, a name, and the definition that the clause is
+    alone, both of which may be empty."""
+
+    name: str
+    file: str
+    comment: str
+    clauses: list[tuple[str, str, str]]
+
+
+def crates():
+    """The crates that are libraries, in the order of crates.txt."""
+    for row in (TOP / "crates.txt").read_text().splitlines():
+        crate = row.split("#")[0].partition(":")[0].split()
+        if crate and (TOP / "crates" / crate[0] / "src/lib.rt").is_file():
+            yield crate[0]
 
 
 def exported(crate):
@@ -37,71 +56,74 @@ def without_brackets(text):
     return text
 
 
+def head_and_contract(lines):
+    """The lines of a function, from its head on, up to its body."""
+    depth = 0
+    for line in lines:
+        if depth == 0 and line.strip() in ("{", "{}"):
+            return
+        yield line
+        depth += sum(map(line.count, "([{")) - sum(map(line.count, ")]}"))
+        ends_head = line.endswith(" {") and not CLAUSE.match(line)
+        if depth == 0 and line.endswith((";", "{}")) or depth == 1 and ends_head:
+            return
+
+
+def comment_above(lines):
+    """The `///` above a head, of which these are the lines before it."""
+    comment = []
+    for line in reversed(lines):
+        text = line.strip()
+        if text.startswith("///"):
+            comment.append(text[3:].strip())
+        elif not text.startswith("#["):
+            break
+    return " ".join(reversed(comment))
+
+
 def functions(path):
-    """The functions of a file that others can call, each behind its type or trait."""
-    of, all_public = None, False
-    for line in path.read_text().splitlines():
+    """The functions of a file that others can call, each behind its type or trait, with comment and clauses."""
+    of, of_trait, all_public = None, False, False
+    lines = path.read_text().splitlines()
+    for number, line in enumerate(lines):
         plain = without_brackets(line)
-        head = re.match(r"(impl|(?:pub )?trait) (\w+)", plain)
-        if head:
-            of, all_public = None if " for " in plain else head.group(2), head.group(1) == "pub trait"
+        if head := re.match(r"(impl|(?:pub )?trait) (?:.* for )?(\w+)", plain):
+            of, of_trait, all_public = head.group(2), " for " in plain, head.group(1) == "pub trait"
         elif line == "}":
             of = None
-        found = FUNCTION.match(line)
-        if not found:
+        if not (found := FUNCTION.match(line)):
             continue
-        indent, public, name = found.groups()
+        indent, public, for_c, name = found.groups()
+        clauses = CLAUSE.findall("\n".join(head_and_contract(lines[number:])))
         if public and not indent:
-            yield name
-        elif of and indent == "    " and (public or all_public):
-            yield f"{of}::{name}"
+            full_name = name
+        elif of and indent == "    " and (public or all_public or of_trait and clauses):
+            full_name = f"{of}::{name}"
+        else:
+            continue
+        yield full_name, for_c, comment_above(lines[:number]), clauses
 
 
 def calls():
-    """The full name of each call, by its crate."""
+    """The calls of each crate, file by file."""
     found = {}
-    for row in (TOP / "crates.txt").read_text().splitlines():
-        crate = row.split("#")[0].partition(":")[0].split()
-        if not crate or not (TOP / "crates" / crate[0] / "src/lib.rt").is_file():
-            continue
-        crate = crate[0]
+    for crate in crates():
         names, laws = exported(crate)
         source = TOP / "crates" / crate / "src"
         for path in sorted(source.glob("**/*.rt")):
-            found.setdefault(crate, set()).update(FOR_C.findall(path.read_text()))
-            is_laws = laws and path.relative_to(source).parts[0] in ("laws.rt", "laws")
-            for name in functions(path):
-                if is_laws:
-                    found[crate].add(f"{crate}::laws::{name}")
-                elif name.split("::")[0] in names:
-                    found[crate].add(f"{crate}::{name}")
+            file = path.relative_to(source)
+            is_laws = laws and file.parts[0] in ("laws.rt", "laws")
+            for name, for_c, *rest in functions(path):
+                prefix = "" if for_c else f"{crate}::laws::" if is_laws else f"{crate}::"
+                if for_c or is_laws or name.split("::")[0] in names:
+                    found.setdefault(crate, []).append(Call(prefix + name, str(file), *rest))
     return found
 
 
-def is_there(name):
-    """Whether what a page names so, behind its crate, is there: a function, a type, or `laws`."""
-    crate, *_, last = name.split("::")
-    text = "\n".join(path.read_text() for path in (TOP / "crates" / crate / "src").glob("**/*.rt"))
-    return re.search(rf"\b(?:fn|struct|enum|trait|mod) {last}\b|^pub use [^;]*\b{last}\b", text, re.M) is not None
-
-
 def main():
-    all_calls = calls()
-    if sys.argv[1:] == ["list"]:
-        for names in all_calls.values():
-            for name in sorted(names):
-                print(name)
-        return 0
-    named = set(re.findall(r"`([\w:]+)`", PAGE.read_text()))
-    missing = sorted(name for names in all_calls.values() for name in names - named)
-    absent = sorted(name for name in named if name.split("::")[0] in all_calls and "::" in name and not is_there(name))
-    for name in missing:
-        print(f"docs/GUARANTEES.md: the public call `{name}` isn't named")
-    for name in absent:
-        print(f"docs/GUARANTEES.md: there is no `{name}`")
-    print(f"{sum(map(len, all_calls.values())) - len(missing)} public calls are named in docs/GUARANTEES.md")
-    return 1 if missing or absent else 0
+    names = [call.name for its_calls in calls().values() for call in its_calls]
+    print("\n".join(names) if sys.argv[1:] == ["list"] else f"{len(names)} public calls")
 
 
 if __name__ == "__main__":
-    sys.exit(main())
+    main()

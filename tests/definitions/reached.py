@@ -1,10 +1,9 @@
 #!/usr/bin/env python3
-"""Lists the definitions of specs/ that the clauses of public functions reach, and compares them with docs/DEFINITIONS.md.
+"""Finds the definitions of specs/ that the clauses of public functions reach, and fails where one of these stands in specs/Inner, or another doesn't.
 
 A definition is reached where a clause of a public function or of a public trait, the value of a public type's model, the
 memory that it owns, which a caller in C owes, or what a public conversion gives names it, or where a definition that is
-reached names it. Views and invariants don't count: no caller sees them. docs/DEFINITIONS.md has a section for each crate, and has to name there, in backquotes, each definition
-of that crate that is reached, with the file where it stands, and no other. What isn't reached has to stand in specs/Inner, and nothing else may.
+reached names it. Views and invariants don't count: no caller sees them.
 
 'list' lists the definitions that are reached, 'rests NAME ..' those that the definitions of these names rest on.
 """
@@ -12,6 +11,8 @@ of that crate that is reached, with the file where it stands, and no other. What
 import re
 import sys
 from pathlib import Path
+
+from calls import head_and_contract
 
 TOP = Path(__file__).resolve().parents[2]
 WORD = re.compile(r"[A-Za-z_◌][\w◌≡≢≤<>=+\-*/%^&|]*(?:\.[A-Za-z_]\w*)*|◌\S+◌")
@@ -82,8 +83,7 @@ def clauses_of(lines):
     """The text of the clauses that callers of a crate see, function by function."""
     public_types = set(re.findall(r"^pub (?:struct|enum) (\w+)", "\n".join(lines), re.M))
     in_public_trait = in_trait_impl = in_model = False
-    clause, taking = [], False
-    for line in lines:
+    for number, line in enumerate(lines):
         if re.match(r"^pub trait ", line):
             in_public_trait = True
         if re.match(r"^impl\b.* for ", line):
@@ -97,17 +97,12 @@ def clauses_of(lines):
             yield line
         public = re.match(r'^\s*pub (?:const |extern "C" )?fn ', line)
         if public or ((in_public_trait or in_trait_impl) and re.match(r"^\s*fn ", line)):
-            taking, clause = True, []
+            text = "\n".join(head_and_contract(lines[number:]))
+            start = re.search(r"\b(?:requires|ensures)\b", text)
+            if start:
+                yield text[start.start():]
         elif in_public_trait and re.match(r"^\s*ghost (?!use)", line):
             yield line
-        if taking:
-            clause.append(line)
-            if line.strip() == "{" or line.rstrip().endswith((";", "{ }", "{}")):
-                text = "\n".join(clause)
-                start = re.search(r"\b(?:requires|ensures)\b", text)
-                if start:
-                    yield text[start.start():]
-                taking = False
 
 
 def named_by_clauses(definitions):
@@ -138,30 +133,6 @@ def reached():
     return definitions, rests_on(definitions, named_by_clauses(definitions))
 
 
-def rows():
-    """Each row of docs/DEFINITIONS.md: its crate, and the names in backquotes in its first two cells, definitions and files."""
-    crate = None
-    for line in (TOP / "docs/DEFINITIONS.md").read_text().splitlines():
-        head = re.match(r"^## `(\w+)`", line)
-        if line.startswith("## "):
-            crate = head.group(1) if head else None
-        elif crate and line.startswith("| `"):
-            _, names, files, *_ = line.split("|")
-            yield crate, re.findall(r"`([^`]+)`", names), re.findall(r"`([^`]+)`", files)
-
-
-def misplaced(definitions):
-    """What is wrong with the files of the rows: a definition of a row stands in none of these, or none of its definitions in one."""
-    for crate, names, files in rows():
-        for name in names:
-            homes = sorted(file for of, file, called in definitions if (of, called) == (crate, name))
-            if homes and not set(homes) & set(files):
-                yield f"`{name}` of {crate} stands in {' and '.join(homes)}, and its row names {' and '.join(files) or 'no file'}"
-        for file in files:
-            if not any((crate, file, name) in definitions for name in names):
-                yield f"no definition of the row of {crate} that begins with `{names[0]}` stands in {file}"
-
-
 def main():
     if sys.argv[1:2] == ["rests"]:
         definitions = read_specs()
@@ -176,25 +147,14 @@ def main():
         for crate, file, name in sorted(found):
             print(crate, file, name)
         return 0
-    named = {(crate, file, name) for crate, names, files in rows() for file in files for name in names}
-    missing = sorted(found - named)
-    known = {(crate, name) for crate, _, name in found}
-    absent = sorted({(crate, name) for crate, names, _ in rows() for name in names} - known)
-    wrong = list(misplaced(definitions))
     inner = sorted(key for key in found if key[1].startswith("Inner/"))
     outer = sorted(key for key in definitions.keys() - found if not key[1].startswith("Inner/") and "◌" not in key[2])
     for crate, file, name in inner:
         print(f"`{name}` of {crate}/specs/{file}.antt is reached by a public clause, and stands in specs/Inner")
     for crate, file, name in outer:
         print(f"`{name}` of {crate}/specs/{file}.antt isn't reached by a public clause, and doesn't stand in specs/Inner")
-    for crate, file, name in missing:
-        print(f"docs/DEFINITIONS.md: `{name}` of {crate}/specs/{file}.antt is reached by a public clause, and isn't named with its file")
-    for crate, name in absent:
-        print(f"docs/DEFINITIONS.md: no public clause reaches a definition `{name}` of {crate}")
-    for what in wrong:
-        print(f"docs/DEFINITIONS.md: {what}")
     print(f"{len(found)} definitions of {len(definitions)} are reached by public clauses")
-    return 1 if missing or absent or wrong or inner or outer else 0
+    return 1 if inner or outer else 0
 
 
 if __name__ == "__main__":
