@@ -60,12 +60,13 @@ def head_and_contract(lines):
     """The lines of a function, from its head on, up to its body."""
     depth = 0
     for line in lines:
-        if depth == 0 and line.strip() in ("{", "{}"):
+        code = line.partition("//")[0].rstrip()
+        if depth == 0 and code.strip() in ("{", "{}"):
             return
-        yield line
-        depth += sum(map(line.count, "([{")) - sum(map(line.count, ")]}"))
-        ends_head = line.endswith(" {") and not CLAUSE.match(line)
-        if depth == 0 and line.endswith((";", "{}")) or depth == 1 and ends_head:
+        yield code
+        depth += sum(map(code.count, "([{")) - sum(map(code.count, ")]}"))
+        ends_head = code.endswith(" {") and not CLAUSE.match(code)
+        if depth == 0 and code.endswith((";", "{}")) or depth == 1 and ends_head:
             return
 
 
