@@ -4,6 +4,7 @@ ghost use Rattle.std.specs.String.{string_bytes};
 ghost use Rattle.exchange_story.specs.Lines.{are_lines};
 ghost use Rattle.exchange_story.specs.Report.{tells_otherwise, TellsReasons, TellsRefused, TellsWhich};
 
+use crate::broken::Ends;
 use crate::exchange::push_exchange;
 use crate::known::Known;
 use crate::lines::push_lines;
@@ -20,6 +21,8 @@ pub(crate) struct Case<'a> {
     pub(crate) reported: &'a Reported,
     /// Its lines; none where 701 or 704 stands.
     pub(crate) exchange: &'a Option<Exchange>,
+    /// Where its journeys end, where 704 stands.
+    pub(crate) ends: Option<Ends>,
     /// Its results by the messages.
     pub(crate) by_messages: Option<Results>,
     /// What reports of the slave were like, up to this one.

@@ -5,6 +5,7 @@ ghost use Rattle.trace_model.specs.declared.verdict.Why.{Why};
 ghost use Rattle.exchange_story.specs.Counts.{counts_of, has_octets, TellsCounts, TellsMessages};
 ghost use Rattle.exchange_story.specs.Report.{TellsReport};
 
+use crate::broken::Broken;
 use crate::case::Case;
 use crate::completing::{Completions, push_unreported};
 use crate::differing::Differing;
@@ -27,6 +28,7 @@ pub struct Story {
     /// How many messages have other octets than are written.
     differing: Differing,
     completions: Completions,
+    broken: Broken,
     pasts: Pasts,
     tally: Tally,
 }
@@ -51,6 +53,7 @@ impl Story {
             evidence: Evidence::new(alloc),
             differing: Differing::new(),
             completions: Completions::new(alloc),
+            broken: Broken::new(alloc),
             pasts: Pasts::new(alloc),
             tally: Tally::new(),
         }
@@ -114,8 +117,27 @@ impl Story {
             None => None,
         };
         self.pasts.push(slave, reported)?;
+        self.note_broken(reported, checker)?;
         self.tally.count(&reported.judgement.reasons, right);
         Ok(())
+    }
+
+    /// Notes where the journeys of a report end, where 704 stands against it.
+    fn note_broken(
+        &mut self,
+        reported: &Reported,
+        checker: Option<&Checker>,
+    ) -> Result<(), AllocError>
+        ensures { self.new ≡ self.old }
+    {
+        let Some(checker) = checker else {
+            return Ok(());
+        };
+        let known = Known {
+            checker,
+            evidence: &self.evidence,
+        };
+        self.broken.note(known, reported)
     }
 
     /// Whether a report has the results by the messages. A sound one has: they are then those by the readings.
@@ -138,7 +160,7 @@ impl Story {
         self.nodes.as_slice()
     }
 
-    /// Appends what the report of the last event is judged to be; where it is refused, what the reasons against it met, its
+    /// Appends what the report that was counted last is judged to be; where it is refused, what the reasons against it met, its
     /// exchange, and where the messages tell other results than the readings, these and which message does.
     pub fn push_report<'a>(
         &'a self,
@@ -161,6 +183,7 @@ impl Story {
             },
             reported,
             exchange: &exchange,
+            ends: self.broken.ends(),
             by_messages: self.evidence.by_messages(checker, &reported.report),
             past: match index_of(checker, &reported.node) {
                 Some(slave) => self.pasts.of(slave),
