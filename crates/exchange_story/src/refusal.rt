@@ -38,17 +38,16 @@ pub struct RefusedEvent<'a> {
 
 /// Appends why an event can't happen.
 pub fn push_refused(text: &mut String, refused: RefusedEvent<'_>) -> Result<(), AllocError> {
-    let RefusedEvent {
-        number,
-        line,
-        why,
-        ..
-    } = refused;
-    let code = why.code();
-    write!(text, "event {number}, line {line}: refused, {code}: ")?;
+    write!(
+        text,
+        "event {}, line {}: refused, {}: ",
+        refused.before.events.len(),
+        refused.line,
+        refused.why.code()
+    )?;
     match refused.obstacle {
         Some(obstacle) => refused.push_obstacle(text, obstacle)?,
-        None => write!(text, "{why}")?,
+        None => write!(text, "{}", refused.why)?,
     }
     text.push('\n')
 }
