@@ -166,7 +166,7 @@ impl LinesSeen {
         match read_entry(alloc, line) {
             Ok(Line::Event(event)) => push_refused(
                 text,
-                RefusedEvent {
+                &RefusedEvent {
                     before,
                     line: number,
                     event: &event,

@@ -4,7 +4,7 @@ use crate::happening::{AKind, AnEvent, Numbers, needed_kind};
 use crate::moments::{Length, Moment, signed_units};
 use datagram_text::Identity;
 use event_codec::PortIdentity;
-use network_model::{Event, NodeKind, NodeSpec, WorldRefusal};
+use network_model::{Event, Name, NodeKind, NodeSpec, WorldRefusal};
 use std::alloc::{AllocError, Global};
 use std::collections::BTreeMap;
 use world_model::Obstacle;
@@ -37,7 +37,7 @@ pub struct RefusedEvent<'a> {
 }
 
 /// Appends why an event can't happen.
-pub fn push_refused(text: &mut String, refused: RefusedEvent<'_>) -> Result<(), AllocError> {
+pub fn push_refused(text: &mut String, refused: &RefusedEvent<'_>) -> Result<(), AllocError> {
     write!(
         text,
         "event {}, line {}: refused, {}: ",
@@ -46,134 +46,151 @@ pub fn push_refused(text: &mut String, refused: RefusedEvent<'_>) -> Result<(), 
         refused.why.code()
     )?;
     match refused.obstacle {
-        Some(obstacle) => refused.push_obstacle(text, obstacle)?,
+        Some(obstacle) => push_obstacle(text, refused, obstacle)?,
         None => write!(text, "{}", refused.why)?,
     }
     text.push('\n')
 }
 
-impl RefusedEvent<'_> {
-    /// Appends what stands in its way.
-    fn push_obstacle(self, text: &mut String, obstacle: Obstacle) -> Result<(), AllocError> {
-        let there = Numbers(self.before.events.len());
-        match obstacle {
-            Obstacle::NoNode { name } => {
-                write!(text, "no node is called {}; ", name.text())?;
-                push_names(text, self.before.nodes)
-            }
-            Obstacle::OtherKind { kind, master } => self.push_kinds(text, &kind, master),
-            Obstacle::NoEvent { number } => {
-                write!(text, "there is no event {number} before it; {there}")
-            }
-            Obstacle::OtherEvent { number, event } => {
-                self.push_other_event(text, number, &event, there)
-            }
-            Obstacle::LeftAlready { entered, left } => write!(
-                text,
-                "what entered by event {entered} left already by event {left}"
-            ),
-            Obstacle::TooFar { difference } => write!(
-                text,
-                "\"diff\" is {difference}, which is {}; wanted is less than 2^48 s, ahead or behind",
-                Length(difference)
-            ),
-            Obstacle::ClockSet { set, difference } => self.push_clock(text, set, difference),
-            Obstacle::NoSync
-            | Obstacle::OneStepSync { .. }
-            | Obstacle::FollowUpSent { .. }
-            | Obstacle::NoDelayReq
-            | Obstacle::DepartureTold { .. } => self.push_nothing_waiting(text, obstacle),
+/// Appends what stands in the way of an event.
+fn push_obstacle(
+    text: &mut String,
+    refused: &RefusedEvent<'_>,
+    obstacle: Obstacle,
+) -> Result<(), AllocError> {
+    let event = refused.event;
+    let there = Numbers(refused.before.events.len());
+    match obstacle {
+        Obstacle::NoNode { name } => {
+            write!(text, "no node is called {}; ", name.text())?;
+            push_names(text, refused.before.nodes)
         }
-    }
-
-    /// Appends what the nodes are, and at which ones such an event happens.
-    fn push_kinds(
-        self,
-        text: &mut String,
-        kind: &NodeKind,
-        master: Option<NodeKind>,
-    ) -> Result<(), AllocError> {
-        let event = self.event;
-        write!(text, "{} is {}; ", event.node().text(), AKind(kind))?;
-        if let (Some(name), Some(kind)) = (event.named_master(), &master) {
-            write!(
-                text,
-                "{}, which it names, is {}; ",
-                name.text(),
-                AKind(kind)
-            )?;
+        Obstacle::OtherKind { kind, master } => push_kinds(text, event, &kind, master),
+        Obstacle::NoEvent { number } => {
+            write!(text, "there is no event {number} before it; {there}")
         }
-        write!(text, "{} happens at {}", AnEvent(event), needed_kind(event))?;
-        match event.named_master() {
-            Some(_) => text.push_str(", and names a master"),
-            None => Ok(()),
-        }
-    }
-
-    /// Appends what the event is whose number it names: one that sent no message, or that is no enter of this clock.
-    fn push_other_event(
-        self,
-        text: &mut String,
-        number: u64,
-        other: &Event,
-        there: Numbers,
-    ) -> Result<(), AllocError> {
-        let clock = self.event.node();
-        match (self.why, other) {
-            (WorldRefusal::NoCopy, _) => write!(
+        Obstacle::OtherEvent {
+            number,
+            event: other,
+        } => match refused.why {
+            WorldRefusal::NoCopy => write!(
                 text,
                 "event {number} is {}, which sent no message; {there}",
-                AnEvent(other)
+                AnEvent(&other)
             ),
-            (_, Event::Enter { node, .. }) if *node != clock => write!(
-                text,
-                "event {number} is an enter at {}, and this is a leave at {}",
-                node.text(),
-                clock.text()
-            ),
-            _ => write!(text, "event {number} is {}, and no enter", AnEvent(other)),
-        }
+            _ => push_no_enter(text, event, number, &other),
+        },
+        Obstacle::LeftAlready { entered, left } => write!(
+            text,
+            "what entered by event {entered} left already by event {left}"
+        ),
+        Obstacle::TooFar { difference } => write!(
+            text,
+            "\"diff\" is {difference}, which is {}; wanted is less than 2^48 s, ahead or behind",
+            Length(difference)
+        ),
+        Obstacle::ClockSet { set, difference } => push_clock(text, event, set, difference),
+        Obstacle::NoSync
+        | Obstacle::OneStepSync { .. }
+        | Obstacle::FollowUpSent { .. }
+        | Obstacle::NoDelayReq
+        | Obstacle::DepartureTold { .. } => push_nothing_waiting(text, &event.node(), obstacle),
     }
+}
 
-    /// Appends by how much its clock differs, and what it would read.
-    fn push_clock(self, text: &mut String, set: u64, difference: i128) -> Result<(), AllocError> {
-        let Some(at) = self.event.true_moment() else {
-            return write!(text, "{}", self.why);
-        };
+/// Appends what the nodes are, and at which ones such an event happens.
+fn push_kinds(
+    text: &mut String,
+    event: &Event,
+    kind: &NodeKind,
+    master: Option<NodeKind>,
+) -> Result<(), AllocError> {
+    write!(text, "{} is {}; ", event.node().text(), AKind(kind))?;
+    if let (Some(name), Some(kind)) = (event.named_master(), &master) {
         write!(
             text,
-            "event {set} set the clock of {} to the true time and {}; at {} it would read {}, and a reading is from 0 to \
-             below 2^48 s",
-            self.event.node().text(),
-            Length(difference),
+            "{}, which it names, is {}; ",
+            name.text(),
+            AKind(kind)
+        )?;
+    }
+    write!(text, "{} happens at {}", AnEvent(event), needed_kind(event))?;
+    match event.named_master() {
+        Some(_) => text.push_str(", and names a master"),
+        None => Ok(()),
+    }
+}
+
+/// Appends that the event of the number that a leave names isn't one by which a message entered its clock.
+fn push_no_enter(
+    text: &mut String,
+    event: &Event,
+    number: u64,
+    other: &Event,
+) -> Result<(), AllocError> {
+    match other {
+        Event::Enter { node, .. } => write!(
+            text,
+            "event {number} is an enter at {}, and this is a leave at {}",
+            node.text(),
+            event.node().text()
+        ),
+        _ => write!(text, "event {number} is {}, and no enter", AnEvent(other)),
+    }
+}
+
+/// Appends by how much the clock of an event differs, and what it would read.
+fn push_clock(
+    text: &mut String,
+    event: &Event,
+    set: u64,
+    difference: i128,
+) -> Result<(), AllocError> {
+    let name = event.node();
+    write!(
+        text,
+        "event {set} set the clock of {} to the true time and {}; ",
+        name.text(),
+        Length(difference)
+    )?;
+    if let Some(at) = event.true_moment() {
+        write!(
+            text,
+            "at {} it would read {}, and ",
             Moment(at),
             Length(signed_units(at).saturating_add(difference))
-        )
+        )?;
     }
+    text.push_str("a reading is from 0 to below 2^48 s")
+}
 
-    /// Appends that no Sync waits for its Follow_Up, or no Delay_Req for its departure time.
-    fn push_nothing_waiting(self, text: &mut String, obstacle: Obstacle) -> Result<(), AllocError> {
-        let node = self.event.node();
-        let name = node.text();
-        text.push_str(match self.event {
-            Event::Follow { .. } => "no Sync waits for its Follow_Up: ",
-            _ => "no Delay_Req waits for its departure time: ",
-        })?;
-        match obstacle {
-            Obstacle::OneStepSync { sync } => write!(
-                text,
-                "the last one of {name} is event {sync}, a syncone, which has none"
-            ),
-            Obstacle::FollowUpSent { sync, follow_up } => write!(
-                text,
-                "event {follow_up} sent that of the last one of {name}, event {sync}"
-            ),
-            Obstacle::DepartureTold { delay_req, told } => write!(
-                text,
-                "event {told} told that of the last one of {name}, event {delay_req}"
-            ),
-            _ => write!(text, "{name} sent none"),
+/// Appends that no Sync waits for its Follow_Up, or no Delay_Req for its departure time.
+fn push_nothing_waiting(
+    text: &mut String,
+    node: &Name,
+    obstacle: Obstacle,
+) -> Result<(), AllocError> {
+    let name = node.text();
+    text.push_str(match obstacle {
+        Obstacle::NoDelayReq | Obstacle::DepartureTold { .. } => {
+            "no Delay_Req waits for its departure time: "
         }
+        _ => "no Sync waits for its Follow_Up: ",
+    })?;
+    match obstacle {
+        Obstacle::OneStepSync { sync } => write!(
+            text,
+            "the last one of {name} is event {sync}, a syncone, which has none"
+        ),
+        Obstacle::FollowUpSent { sync, follow_up } => write!(
+            text,
+            "event {follow_up} sent that of the last one of {name}, event {sync}"
+        ),
+        Obstacle::DepartureTold { delay_req, told } => write!(
+            text,
+            "event {told} told that of the last one of {name}, event {delay_req}"
+        ),
+        _ => write!(text, "{name} sent none"),
     }
 }
 
