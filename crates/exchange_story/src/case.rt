@@ -13,6 +13,9 @@ use crate::report::{Reported, push_begin, push_reason, push_results, tells_other
 use exchange_check::{Exchange, Results, Why};
 use std::alloc::{AllocError, Global};
 
+/// The room that a block of lines begins with: few need more.
+const BLOCK_LENGTH: usize = 2048;
+
 /// A report that is refused, and the transcript up to it.
 #[derive(Clone, Copy)]
 pub(crate) struct Case<'a> {
@@ -50,7 +53,7 @@ impl Case<'_> {
             × (string_bytes text.new ≡ string_bytes text.old ++ reasons)) }
     {
         let reasons = self.reported.judgement.reasons.as_slice();
-        let mut met = String::new(self.alloc);
+        let mut met = String::with_capacity(self.alloc, BLOCK_LENGTH)?;
         let mut lead = "refused, ";
         for why in reasons {
             push_reason(text, lead, *why)?;
@@ -70,7 +73,7 @@ impl Case<'_> {
         let Some(exchange) = self.exchange else {
             return Ok(());
         };
-        let mut lines = String::new(self.alloc);
+        let mut lines = String::with_capacity(self.alloc, BLOCK_LENGTH)?;
         push_exchange(
             &mut lines,
             self.known.checker.nodes().len() as u64,
