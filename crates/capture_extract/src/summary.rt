@@ -69,7 +69,8 @@ pub struct Summary {
 }
 
 impl Summary {
-    /// No packet came. Those at other interfaces than the one that is asked for are counted by themselves.
+    /// A summary of no packets. Those at other interfaces than the one that is asked for are counted by
+    /// themselves.
     pub fn new(interface: Option<InterfaceName>) -> Summary {
         Summary {
             interface,
@@ -119,7 +120,7 @@ impl Summary {
         self.count(Why::Simple);
     }
 
-    /// Tells it, in lines. What can't be written is lost.
+    /// Tells the summary, in lines. What can't be written is lost.
     pub fn tell<E: Write>(&self, errors: &mut E) {
         self.tell_packets(errors);
         if self.whole == Some(true) {

@@ -49,7 +49,7 @@ impl Beginning {
         Ok(Beginning { room, size })
     }
 
-    /// These octets, in order.
+    /// The octets that were read, in order.
     pub fn octets(&self) -> &[u8]
         ensures octets { result.now ≡ first_octets self.now }
         ensures most { length result.now ≤ 4 }

@@ -46,7 +46,7 @@ impl InterfaceName {
         })
     }
 
-    /// Its octets.
+    /// The octets of the name.
     pub fn octets(&self) -> &[u8]
         ensures { result.now ≡ name_octets self.now }
     {

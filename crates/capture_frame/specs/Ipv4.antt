@@ -1,4 +1,4 @@
--- IPv4 (RFC 791).
+-- IPv4 (RFC 791), and what it carries of PTP (IEEE 1588-2019, annex C).
 use Rattle.std.specs.Prelude.{◌≡◌, ℕ, ◌*◌, ◌/◌, ◌%◌, ◌-◌, ◌≤◌, ◌⊎◌, ◌==◌, ◌&&◌, Bool, true, false}
 use Rattle.std.specs.Prelude.{List, ◌++◌, length, take, slice_index, if◌then◌else◌}
 use Rattle.capture_frame.specs.Octets.{two_octets}

@@ -1,4 +1,4 @@
--- IPv6 (RFC 8200).
+-- IPv6 (RFC 8200), and what it carries of PTP (IEEE 1588-2019, annex D).
 use Rattle.std.specs.Prelude.{◌≡◌, ℕ, ◌+◌, ◌*◌, ◌/◌, ◌%◌, ◌≤◌, ◌==◌, ◌&&◌, ◌||◌, Bool, false}
 use Rattle.std.specs.Prelude.{List, ◌++◌, length, take, slice_index, if◌then◌else◌, Option, Some, None}
 use Rattle.capture_frame.specs.Chain.{IsChain}

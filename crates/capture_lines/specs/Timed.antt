@@ -1,4 +1,4 @@
--- What a line of a recording tells: a time, and the digits of a datagram.
+-- What a line of a recording tells: a time (IEEE 1588-2019, 5.3.3), and the digits of a datagram.
 use Rattle.std.specs.Prelude.{◌≡◌, ℕ, ◌+◌, ◌-◌, ◌*◌, ◌^◌, ◌<◌, ◌≤◌, nat_lt, nat_le, ◌==◌, ◌&&◌, ◌||◌, Bool, true}
 use Rattle.std.specs.Prelude.{List, ◌++◌, length, take, drop, slice_index, Option, Some, None, option_map}
 use Rattle.std.specs.Prelude.{option_and_then, if◌then◌else◌}

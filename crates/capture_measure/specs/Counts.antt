@@ -294,6 +294,7 @@ abbrev pub meeting_said : (line time : ℕ) → Option Why → Reading → Optio
 meeting_said line time why (Ok m) = meeting_at line time m.body m.header why
 meeting_said line time why (Err refusal) = None
 
+-- what a datagram tells of whom it is, for who else is there
 abbrev pub meeting_of : Fate → Option Meeting
 meeting_of fate = meeting_said fate.datagram.line fate.datagram.time fate.why fate.datagram.said
 

@@ -20,8 +20,8 @@ pub fn each_measurement_is_exact()
     each_report_is_exact();
 }
 
-/// The same of a capture: of packets in the place of lines, of which those are heard that carry a datagram and were captured
-/// at the interface that is measured.
+/// Each report that `measure` writes of a capture is exact, too: of packets in the place of lines, of which those are
+/// heard that carry a datagram and were captured at the interface that is measured.
 pub fn each_measurement_of_a_capture_is_exact()
     ensures { EachMeasurementOfACaptureIsExact }
 {
@@ -34,16 +34,16 @@ pub fn one_interface_is_measured_as_lines()
     ensures { OneInterfaceIsMeasuredAsLines }
 {}
 
-/// Each datagram is counted once, whatever is recorded: one that is heard, of lines or of a capture, has a reason why it gave no
-/// report exactly where it gave none, and of lines, where these are fewer than 2^64, the number of reports and all counts of
-/// [`Counts`](crate::Counts) are together the number of lines.
+/// Each datagram is counted once, whatever is recorded. One that is heard, of lines or of a capture, has a reason why
+/// it gave no report exactly where it gave none; and of lines, where these are fewer than 2^64, the number of reports
+/// and all counts of [`Counts`](crate::Counts) are together the number of lines.
 pub fn each_datagram_is_counted_once()
     ensures { EachDatagramIsCountedOnce }
 {}
 
-/// Each report that is written has the exchange that it was made of, and its two results are those of the four times and the
-/// corrections of that: with [`Form::FullJson`](crate::Form) and [`Form::FullTable`](crate::Form) nothing is left out, and
-/// [`each_offset_is_of_its_times`](exchange_lines::laws::each_offset_is_of_its_times) holds in each line.
+/// Each report that is written has the exchange that it was made of, and its two results are those of the four times
+/// and the corrections of that. So with [`Form::FullJson`](crate::Form) and [`Form::FullTable`](crate::Form) nothing is
+/// left out, and [`each_offset_is_of_its_times`](exchange_lines::laws::each_offset_is_of_its_times) holds in each line.
 pub fn each_report_is_of_its_exchange()
     ensures { EachReportIsOfItsExchange }
 {}

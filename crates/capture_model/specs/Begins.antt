@@ -1,5 +1,5 @@
--- The law: a listening port begins anew exactly where a recording tells that the slave or the master did.
--- `laws::each_beginning_is_told` promises it.
+-- The law: a listening port begins anew exactly where a recording tells that the slave or the master did, by their
+-- numbers (IEEE 1588-2019, 7.3.7). `laws::each_beginning_is_told` promises it.
 use Rattle.std.specs.Prelude.{◌≡◌, ℕ, ◌==◌, nat_lt, Bool, true, false, not, ◌&&◌, List, [], ◌∷◌, if◌then◌else◌}
 use Rattle.std.specs.Prelude.{Option, option_map}
 use Rattle.std.specs.Option.{option_map_or}

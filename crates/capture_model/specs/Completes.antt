@@ -1,5 +1,5 @@
 -- The law: what a listening port uses completes exactly where its counterpart is held, and there is a report exactly
--- where both halves stand then. `laws::what_is_held_completes` promises it.
+-- where both halves stand then (IEEE 1588-2019, 11.2 and 11.3). `laws::what_is_held_completes` promises it.
 use Rattle.std.specs.Prelude.{◌≡◌, is_none, ◌&&◌, if◌then◌else◌, List, ◌∷◌, Option, Some, None, Ok, option_map}
 use Rattle.std.specs.Prelude.{option_and_then}
 use Rattle.event_codec.specs.Packet.{Contents}

@@ -1,5 +1,5 @@
--- The law: each report of a recording is exact for the events that its lines tell. `laws::each_report_is_exact`
--- promises it.
+-- The law: each report of a recording is exact for the events that its lines tell (IEEE 1588-2019, 11.2 and 11.3).
+-- `laws::each_report_is_exact` promises it.
 use Rattle.std.specs.Prelude.{◌≡◌, ℕ, List, Option, Some, None, option_map}
 use Rattle.std.specs.List.{All}
 use Rattle.slave_port.specs.declared.heard.Report.{Report}

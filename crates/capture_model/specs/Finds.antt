@@ -1,4 +1,5 @@
--- The law: an exchange that stands in a recording is found. `laws::each_exchange_is_found` promises it.
+-- The law: an exchange that stands in a recording (IEEE 1588-2019, 7.3.7 and 11.3) is found.
+-- `laws::each_exchange_is_found` promises it.
 use Rattle.std.specs.Prelude.{◌≡◌, ◌⊎◌, ℕ, ◌<◌, ◌≤◌, ◌==◌, nat_lt, zero, suc, take, Bool, true, false, not, ◌&&◌}
 use Rattle.std.specs.Prelude.{◌||◌, ⊤, int_lt}
 use Rattle.std.specs.Prelude.{List, [], ◌∷◌, ◌++◌, count_by, if◌then◌else◌, Some, Ok, IfSome, IsTrue}

@@ -1,5 +1,5 @@
--- What a slave port is told that listens to a recording, and what it reports. A list of datagrams has the newest in
--- front.
+-- What a slave port is told that listens to a recording, and what it reports (IEEE 1588-2019, 7.3.7 and 11.3). A list
+-- of datagrams has the newest in front.
 use Rattle.std.specs.Prelude.{ℕ, zero, suc, ◌+◌, ◌/◌, ◌%◌, pos, Bool, true, false, ◌&&◌, ◌||◌, not, List, [], ◌∷◌, ◌++◌}
 use Rattle.std.specs.Prelude.{◌==◌, nat_lt, slice_index, is_some, if◌then◌else◌, Option, Some, None, option_map}
 use Rattle.std.specs.Prelude.{option_and_then, option_to_list, Ok}

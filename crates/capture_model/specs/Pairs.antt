@@ -1,6 +1,6 @@
--- The law: the Sync and the Follow_Up of a report came less than a second apart, where both have the same unicastFlag,
--- and the one that came first was still among the latest that the port had heard of its like when the other came.
--- `laws::no_reported_pair_is_apart` promises it.
+-- The law: the Sync and the Follow_Up of a report (IEEE 1588-2019, 11.3) came less than a second apart, where both have
+-- the same unicastFlag (13.3.2.8), and the one that came first was still among the latest that the port had heard of
+-- its like when the other came. `laws::no_reported_pair_is_apart` promises it.
 use Rattle.std.specs.Prelude.{◌≡◌, ℕ, ◌+◌, ◌<◌, ◌==◌, nat_lt, Bool, true, false, ◌&&◌, List, [], ◌∷◌, find, is_some}
 use Rattle.std.specs.Prelude.{if◌then◌else◌, Option, Some, Ok, option_map, option_and_then}
 use Rattle.std.specs.Bool.{beq}

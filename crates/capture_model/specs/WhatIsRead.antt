@@ -1,5 +1,5 @@
--- The law: what a slave's port answers to messages rests on what it reads of them, and on nothing else in them.
--- `laws::each_answer_rests_on_what_is_read` promises it.
+-- The law: what a slave's port answers to messages rests on what it reads of them (IEEE 1588-2019, 13.3 and 13.6 to
+-- 13.8), and on nothing else in them. `laws::each_answer_rests_on_what_is_read` promises it.
 use Rattle.std.specs.Prelude.{◌≡◌, pos, Bool, List, [], ◌∷◌, map, if◌then◌else◌, Ok, Err}
 use Rattle.ptp_units.specs.Moment.{stamp}
 use Rattle.event_codec.specs.declared.message.Body.{Body}

@@ -84,7 +84,7 @@ impl Help {
     }
 }
 
-/// The subcommands.
+/// The subcommands of `ptpx`, each with its options, as clap is given them.
 pub fn subcommands() -> &'static [SubcommandRow]
     ensures table { map row_of result.now ≡ subcommands }
 {

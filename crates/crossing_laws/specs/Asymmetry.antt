@@ -1,5 +1,5 @@
--- The law on asymmetry: what a Sync rests more than a Delay_Req is what its way takes more, and by half of that a slave's offset is
--- off. `laws::asymmetry_is_of_the_ways` promises it.
+-- The law on asymmetry (IEEE 1588-2019, 7.4.2): what a Sync rests more than a Delay_Req is what its way takes more, and
+-- by half of that a slave's offset is off. `laws::asymmetry_is_of_the_ways` promises it.
 use Rattle.std.specs.Prelude.{◌≡◌, ℕ, ℤ, ◌+ℤ◌, ◌-ℤ◌, List, Some, option_and_then, IsTrue}
 use Rattle.slave_port.specs.declared.heard.Report.{Report}
 use Rattle.network_model.specs.Network.{Network, NodeName}
@@ -61,7 +61,7 @@ OffsetIsOffByHalf =
     → IsCrossingOn network run ahead ahead asked answered back request
     → report.offset2 ≡ twice (difference slave run -ℤ difference master run) +ℤ (sync.rest -ℤ request.rest)
 
--- both
+-- what a Sync rests more than a Delay_Req is what its way takes more, and a slave's offset is off by half of it
 pub record ShowsAsymmetry : Type 0 where
   pub ways : AsymmetryIsOfTheWays
   pub offset : OffsetIsOffByHalf

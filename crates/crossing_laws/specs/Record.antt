@@ -1,4 +1,5 @@
--- The laws of one record: what rests of a message that passed a clock, and of one on its way. `laws` promises them.
+-- The laws of one record: what rests of a message that passed a clock (IEEE 1588-2019, 10.2), and of one on its way
+-- (7.4.2). `laws` promises them.
 use Rattle.std.specs.Prelude.{◌≡◌, ℤ, pos, ◌+ℤ◌, ◌-ℤ◌, List, IfSome}
 use Rattle.network_model.specs.Network.{Network, NodeName}
 use Rattle.network_model.specs.Run.{Run, IsIn, site_of}

@@ -1,4 +1,4 @@
--- The way of an event message from one event to another: over cables, and through clocks.
+-- The way of an event message from one event to another: over cables, and through clocks (IEEE 1588-2019, 10.2).
 use Rattle.std.specs.Prelude.{◌≡◌, ℕ, List, [], ◌∷◌, Some}
 use Rattle.network_model.specs.declared.event.Event.TheVariants.{Enter, Leave}
 use Rattle.network_model.specs.Network.{Network, NodeName}

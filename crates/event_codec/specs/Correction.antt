@@ -8,5 +8,6 @@ use Rattle.event_codec.specs.Packet.{Contents}
 abbrev pub corrected : List ℕ → ℤ → List ℕ
 corrected b correction = take 8 b ++ to_be_bytes w64 (cast_unsigned w64 correction) ++ drop 16 b
 
+-- the message with this correctionField
 abbrev pub with_correction : Contents → Interval → Contents
 with_correction m correction = record m { header = record m.header { correction = correction } }

@@ -15,6 +15,7 @@ pub record Contents : Type 0 where
   pub body : Body
   pub suffix : List ℕ
 
+-- a message, wherever its suffix lies in memory
 abbrev pub contents : Message → Contents
 contents m = record { header = m.header; body = m.body; suffix = m.suffix.now }
 

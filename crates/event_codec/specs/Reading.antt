@@ -5,6 +5,7 @@ use Rattle.event_codec.specs.declared.message.Message.{Message}
 use Rattle.event_codec.specs.Packet.{Contents, Packet, contents}
 use Rattle.event_codec.specs.Refusal.{decode_refusal, message_length}
 
+-- what octets say: a message, or why they say none
 abbrev pub Reading : Type 0
 Reading = Result Contents DecodeRefusal
 

@@ -4,8 +4,8 @@ ghost use Rattle.event_codec.specs.Correction.{corrected, with_correction};
 
 use ptp_units::Interval;
 
-/// Puts the correctionField into octets 8 to 15 and leaves all others as they are
-/// (IEEE 1588-2019, 13.3.2.9).
+/// Puts the correctionField into octets 8 to 15 of 34 or more, and leaves all others as they are (IEEE
+/// 1588-2019, 13.3.2.9).
 pub fn patch_correction(octets: &mut [u8], correction: Interval)
     requires { 34 ≤ length octets.old }
     ensures patched { octets.new ≡ corrected octets.old correction.0 }

@@ -48,7 +48,7 @@ pub struct PortMessage {
 }
 
 impl PortMessage {
-    /// The same as a message with a suffix of no octets.
+    /// The message of this header and body, with a suffix of no octets.
     pub fn message(&self) -> Message<'static>
         ensures { contents result ≡ contents_of self.now }
     {
@@ -59,7 +59,7 @@ impl PortMessage {
         }
     }
 
-    /// Its octets: N is 54 for a Delay_Resp, and 44 for the other types.
+    /// The octets of the message: N is 54 for a Delay_Resp, and 44 for the other types.
     pub fn octets<const N: usize>(self) -> [u8; N]
         requires { fields_length (type_of self.body) ≡ N }
         ensures { Packet (contents_of self) result }

@@ -1,4 +1,4 @@
--- What a checker tells of a report's lines, and of the stays of a message in clocks.
+-- What a checker tells of a report's lines (IEEE 1588-2019, 11.3), and of the stays of a message in clocks (10.2).
 use Rattle.std.specs.Prelude.{ℕ, List, [], ◌∷◌, map, drop, sum_by, slice_get, Option, None, option_map}
 use Rattle.std.specs.Prelude.{option_and_then}
 use Rattle.std.specs.List.{range_with_len}

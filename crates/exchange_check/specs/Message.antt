@@ -1,4 +1,4 @@
--- The message of a line, as a checker tells it.
+-- The message of a line, as a checker tells it (IEEE 1588-2019, 10.2 and 13.6 to 13.8).
 use Rattle.std.specs.Prelude.{ℕ, Option, option_and_then}
 use Rattle.event_codec.specs.Packet.{Contents}
 use Rattle.network_model.specs.Network.{Network}

@@ -247,10 +247,11 @@ fn report_told(
 }
 
 impl Evidence {
-    /// The two results of what came to the slave and of its own readings, of a report of the line that was noted last:
-    /// t1 and a correction from the Follow_Up, or of a one-step Sync from itself, the Sync's correction, the receive
-    /// timestamp and the correction of the Delay_Resp (IEEE 1588-2019, 11.3). None where 701 or 704 stands against the
-    /// report, or where one of these messages can't be read or is of another type.
+    /// The two results by the messages of a report of the line that was noted last: of what came to the slave and of
+    /// its own readings. Of a two-step Sync t1 and a correction are from the Follow_Up, of a one-step Sync from itself;
+    /// and there are the Sync's correction, the receive timestamp and the correction of the Delay_Resp (IEEE 1588-2019,
+    /// 11.3). None where 701 or 704 stands against the report, or where one of these messages can't be read or is of
+    /// another type.
     pub fn by_messages(&self, checker: &Checker, report: &Report) -> Option<Results>
         ensures { Evidences self.now checker.now
             → result ≡ last_by_messages checker.now.network (reverse checker.now.lines) report.now }

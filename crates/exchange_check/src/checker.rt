@@ -23,10 +23,10 @@ use std::alloc::Global;
 use std::marker::Model;
 use trace_model::{Judgement, TraceLine, Verdict};
 
-/// The verdict on a transcript of a network, its lines oldest first, whatever their origin: accepted
-/// exactly where every report line is sound, with their number, and refused exactly where one isn't,
-/// with the number of the first such line and the first condition that it fails. Refused with 709
-/// where there was no room, as [`CheckFault`] says.
+/// The verdict on a transcript of a network, its lines oldest first, whatever their origin. It is accepted
+/// exactly where every report line is sound, with their number, and refused exactly where one isn't, with the
+/// number of the first such line and the first condition that it fails. Refused with 709 where there was no
+/// room, as [`CheckFault`] says.
 pub fn check(alloc: Global, nodes: &Nodes, lines: &[TraceLine]) -> Result<Verdict, CheckFault>
     ensures verdict { MatchResult result
         (λ answer. answer ≡ verdict nodes.now (reverse lines.now))

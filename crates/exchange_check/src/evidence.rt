@@ -31,7 +31,7 @@ pub struct Evidence {
 }
 
 impl Evidence {
-    /// Nothing was noted yet.
+    /// Evidence of no lines.
     pub fn new(alloc: Global) -> Evidence
         ensures { (network : Network) → Evidences result (unbegun network) }
     {

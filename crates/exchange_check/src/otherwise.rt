@@ -89,10 +89,11 @@ impl Exceptions {
 }
 
 impl Evidence {
-    /// The first message of the exchange of a report of the line that was noted last whose octets tell otherwise than those
-    /// that its port or its clock writes, in a field that a slave or a master reads, or that are there though the port writes
-    /// no message (708): the Sync as it was sent and as it left each clock, its Follow_Up, the Delay_Req in the same way, the
-    /// Delay_Resp. None where 701 or 704 stands against the report.
+    /// The first message of the exchange of a report of the line that was noted last whose octets tell otherwise than
+    /// those that its port or its clock writes (708). Told otherwise is a field that a slave or a master reads, and
+    /// what is there though the port writes no message. The messages are the Sync as it was sent and as it left each
+    /// clock, its Follow_Up, the Delay_Req in the same way, and the Delay_Resp. None where 701 or 704 stands against
+    /// the report.
     pub fn first_otherwise(&self, checker: &Checker, report: &Report) -> Option<Finding>
         ensures { Evidences self.now checker.now
             → result ≡ last_otherwise checker.now.network (reverse checker.now.lines) report.now }

@@ -1,4 +1,4 @@
--- What the report of a line is judged to be, as JSON.
+-- What the report of a line is judged to be (IEEE 1588-2019, 11.2 and 11.3), as JSON.
 use Rattle.std.specs.Prelude.{ℕ, ◌^◌, nat_lt, ℤ, pos, negsuc, ◌-ℤ◌, Bool, false, ◌&&◌, not, List, ◌++◌, codes}
 use Rattle.std.specs.Prelude.{if◌then◌else◌, Option, Some, None}
 use Rattle.std.specs.List.{join_by}

@@ -16,6 +16,7 @@ sync_correction x = x.sync_correction +ℤ x.follow_correction
 abbrev pub sync_correction2 : Exchange → ℤ
 sync_correction2 x = pos 2 *ℤ sync_correction x
 
+-- that of the Delay_Resp in halves of 2^-16 ns
 abbrev pub delay_correction2 : Exchange → ℤ
 delay_correction2 x = pos 2 *ℤ x.response_correction
 
@@ -104,7 +105,8 @@ sync_way x = (pos x.t2 -ℤ pos x.t1) -ℤ sync_correction x
 abbrev pub request_way : Exchange → ℤ
 request_way x = (pos x.t4 -ℤ x.response_correction) -ℤ pos x.t3
 
--- a report that is of an exchange has the difference and the sum of the two, by the numbers in its line
+-- a report that is of an exchange has the difference and the sum of the two (IEEE 1588-2019, 11.3), by the numbers in
+-- its line
 abbrev pub EachOffsetIsOfItsTimes : Type 0
 EachOffsetIsOfItsTimes =
     (x : Exchange) (report : Report) → IsReportOf x report

@@ -1,4 +1,4 @@
--- Moments as seconds, with all the decimals that they have.
+-- Moments (IEEE 1588-2019, 5.3.3) as seconds, with all the decimals that they have.
 use Rattle.std.specs.Prelude.{ℕ, ◌*◌, List, ◌++◌}
 use Rattle.ptp_units.specs.Moment.{stamp_of, fraction_of}
 use Rattle.ptp_units.specs.Nanoseconds.{decimals}

@@ -26,8 +26,9 @@ pub fn judges_as_checked()
     ensures { JudgesAsChecked }
 {}
 
-/// So does `explain`, with its first fault. Where a line can't be read, `check_text` and `replay` have that fault, or one of a
-/// line before it: `explain` reads on behind its first fault.
+/// `explain` answers so, too, with its first fault: what `check_text` answers over the same octets, and over a schedule
+/// what `replay` does. Where a line can't be read, they have that fault, or one of a line before it: `explain` reads on
+/// behind its first fault.
 pub fn explains_as_checked()
     ensures { ExplainsAsChecked }
 {}

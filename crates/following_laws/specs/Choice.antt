@@ -1,5 +1,5 @@
--- Which tap the Syncs of the master meet first, by the messages that were met, the newest in front.
--- `laws::first_sync_at_both_taps_chooses` promises it.
+-- Which tap the Syncs of the master meet first, by the messages that were met, the newest in front; two of one number
+-- are one Sync (IEEE 1588-2019, 7.3.7). `laws::first_sync_at_both_taps_chooses` promises it.
 use Rattle.std.specs.Prelude.{◌≡◌, ◌↔◌, ℕ, nat_lt, ◌<◌, Bool, true, false, ◌&&◌, ◌==◌, nat_eq, List, [], ◌∷◌, ◌++◌, count_by}
 use Rattle.std.specs.Prelude.{Option, Some, None, IsSome, option_map, if◌then◌else◌}
 use Rattle.std.specs.Option.{option_or, option_map_or}

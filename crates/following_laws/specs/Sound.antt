@@ -33,6 +33,7 @@ pub record WasMet (f : Followed) (met : List Met) (p : Placed) (earlier : List P
   pub placed_is : placed_at f m met_earlier ≡ Some p
   pub before : placed_in f met_earlier ≡ earlier
 
+-- so it is of all messages that are followed
 abbrev pub EachWasMet : Type 0
 EachWasMet = (f : Followed) (met : List Met) (later earlier : List Placed) (p : Placed)
     → placed_in f met ≡ later ++ p ∷ earlier → WasMet f met p earlier
@@ -66,5 +67,6 @@ pub record AreMade (capacity : ℕ) (messages : List Placed) : Type 0 where
   pub each : (later earlier : List Placed) (p : Placed) (x : Crossing) → messages ≡ later ++ p ∷ earlier
       → told capacity p earlier ≡ outcomes.Crossed x → IsMadeOf of messages (length earlier) x
 
+-- so it is of all crossings of messages that are followed
 abbrev pub EachCrossingIsMade : Type 0
 EachCrossingIsMade = (capacity : ℕ) (messages : List Placed) → AreMade capacity messages

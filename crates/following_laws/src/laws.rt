@@ -24,9 +24,10 @@ pub fn each_crossing_is_of_its_messages()
     ensures told { TheseAreTold }
 {}
 
-/// A Sync or a Delay_Req that was met at both taps, with the Follow_Ups or the Delay_Resps that it needs, is told: where no
-/// second message of its number was met at one of them since the first, which opened a record, fewer records were opened
-/// since than count, no correction is too big, the timestamp is the same at both taps, and a Sync isn't two-step at `from` alone.
+/// A Sync or a Delay_Req that was met at both taps, with the Follow_Ups or the Delay_Resps that it needs, is told. That
+/// is where no second message of its number was met at one of them since the first, which opened a record, fewer
+/// records were opened since than count (256), no correction is too big, the timestamp is the same at both taps, and a
+/// Sync isn't two-step at `from` alone.
 pub fn each_complete_record_is_told()
     ensures { EachCompleteIsTold }
 {}

@@ -20,7 +20,7 @@ pub struct Respeller {
 }
 
 impl Respeller {
-    /// It has spelled nothing yet.
+    /// A respeller that has spelled nothing yet.
     pub fn new(alloc: Global) -> Respeller {
         Respeller {
             alloc,

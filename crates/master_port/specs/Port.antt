@@ -2,6 +2,7 @@
 use Rattle.std.specs.Prelude.{ℕ, Option, None}
 use Rattle.event_codec.specs.declared.port.PortConfig.{PortConfig}
 
+-- what a master port keeps
 pub record Port : Type 0 where
   pub config : PortConfig
   pub next : ℕ

@@ -10,7 +10,9 @@ pub fn measurements_are_json()
     ensures { EachMeasurementIsJson }
 {}
 
-/// The same of a measurement with the exchange that it was made of, as [`push_json`](exchange_lines::push_json) writes it.
+/// What `measure` writes in full is an object of seventeen members: those eight, and `delay_correction`,
+/// `request_number`, `sync_correction`, `sync_number`, `t1`, `t2`, `t2_to_t3`, `t3` and `t4`, as
+/// [`push_json`](exchange_lines::push_json) writes them.
 pub fn full_measurements_are_json()
     ensures { EachFullMeasurementIsJson }
 {}

@@ -1,4 +1,4 @@
--- The first node that repeats a name or an identity.
+-- The first node that repeats a name or an identity (IEEE 1588-2019, 5.3.5).
 use Rattle.std.specs.Prelude.{Bool, List, [], ◌∷◌, ◌++◌, if◌then◌else◌, Option, Some, None, is_some}
 use Rattle.std.specs.List.{list_any}
 use Rattle.std.specs.Option.{option_or}

@@ -1,4 +1,4 @@
--- Clocks: each is ahead of the true time by as much as it was last stepped to.
+-- Clocks (IEEE 1588-2019, 7.2): each is ahead of the true time by as much as it was last stepped to.
 use Rattle.std.specs.Prelude.{ℕ, ℤ, pos, ◌+ℤ◌, [], ◌∷◌, if◌then◌else◌, Option, unwrap_or, option_map, option_and_then}
 use Rattle.ptp_units.specs.Moment.{moment_of}
 use Rattle.network_model.specs.Network.{NodeName, is_named}

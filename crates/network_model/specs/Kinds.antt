@@ -8,7 +8,7 @@ use Rattle.network_model.specs.Network.{NodeName, is_named}
 use Rattle.network_model.specs.Parts.{parts}
 use Rattle.network_model.specs.Run.{site_of}
 
--- a master sends a two-step Sync, which waits for its Follow_Up
+-- a master sends a two-step Sync, which waits for its Follow_Up (IEEE 1588-2019, 13.3.2.8)
 abbrev pub is_sync : Event → Bool
 is_sync (Sync node at) = true
 is_sync _ = false

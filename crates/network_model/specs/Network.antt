@@ -1,4 +1,4 @@
--- The nodes of a network, by their names.
+-- The nodes of a network, by their names, and the ports of those that have one (IEEE 1588-2019, 5.3.5).
 use Rattle.std.specs.Prelude.{◌≢◌, ℕ, Bool, List, [], ◌∷◌, map, if◌then◌else◌, Option, Some, None, option_map, AllPairs}
 use Rattle.std.specs.List.{filter_map}
 use Rattle.std.specs.Str.{bytes_eq}

@@ -1,4 +1,5 @@
--- Reports that don't go back: a statement on whole runs. `laws::reports_dont_go_back` promises it.
+-- Reports that don't go back, by the true numbers of their Syncs (IEEE 1588-2019, 7.3.7): a statement on whole runs.
+-- `laws::reports_dont_go_back` promises it.
 use Rattle.std.specs.Prelude.{◌≡◌, ℕ, ◌<◌, ◌≤◌, max, count_by, Option, Some, option_and_then, option_map}
 use Rattle.std.specs.Option.{option_map_or}
 use Rattle.slave_port.specs.declared.heard.Report.{Report}

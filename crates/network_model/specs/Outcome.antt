@@ -171,8 +171,9 @@ pub record IsStepped (network : Network) (earlier : Run) (event : Event) (steppe
   pub reading : stepped.reading ≡ reading_of (place event earlier)
   pub outcome : outcome_of network earlier event ≡ Ok stepped.outcome
 
--- A Leave event makes what a transparent clock forwards of the copy that its Enter event took in, by the readings at
--- both, and no copy where the clock refuses it: the copies of `copy_made`, by journeys, are those that clocks write.
+-- A Leave event makes what a transparent clock forwards (IEEE 1588-2019, 10.2) of the copy that its Enter event took
+-- in, by the readings at both, and no copy where the clock refuses it: the copies of `copy_made`, by journeys, are
+-- those that clocks write.
 abbrev pub EachLeaveForwards : Type 0
 EachLeaveForwards =
     (network : Network) (earlier : Run) (node : NodeName) (transit at : ℕ) (entered : Place) (m : Contents)

@@ -1,4 +1,5 @@
--- Nothing that pairs is passed over: statements on whole runs. `laws::no_pair_is_missed` promises them.
+-- Nothing that pairs is passed over (IEEE 1588-2019, 7.3.7 and 11.3): statements on whole runs.
+-- `laws::no_pair_is_missed` promises them.
 use Rattle.std.specs.Prelude.{◌≡◌, ◌↔◌, ◌⊎◌, ℕ, Option, Some, Ok, List, IsSome, IfSome, IsTrue, Any, option_and_then}
 use Rattle.slave_port.specs.History.{Call}
 use Rattle.slave_port.specs.Completion.{SyncCompletion, DelayCompletion}

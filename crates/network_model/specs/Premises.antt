@@ -68,12 +68,12 @@ IsFreshAt late network earlier event =
     IsTrue (is_used (outcome_of network earlier event))
     → IfSome (origin_heard (place event earlier)) (λ origin. drawn_later origin earlier < late)
 
--- at every event of the run
+-- so it is at every event of the run
 abbrev pub IsFresh : ℕ → Network → Run → Type 0
 IsFresh late network [] = Unit {0}
 IsFresh late network (event ∷ earlier) = IsFreshAt late network earlier event × IsFresh late network earlier
 
--- at every event of one slave
+-- so it is at every event of one slave
 abbrev pub IsFreshFor : ℕ → Network → NodeName → Run → Type 0
 IsFreshFor late network slave [] = Unit {0}
 IsFreshFor late network slave (event ∷ earlier) =

@@ -1,5 +1,5 @@
--- Statements on true time: a report's error is the asymmetry of its two paths, and slaves of one master agree.
--- `laws::reports_tell_true_time` promises them.
+-- Statements on true time (IEEE 1588-2019, 7.4.2): a report's error is the asymmetry of its two paths, and slaves of
+-- one master agree. `laws::reports_tell_true_time` promises them.
 use Rattle.std.specs.Prelude.{◌≡◌, ℕ, ℤ, ◌+ℤ◌, ◌-ℤ◌, List, Some}
 use Rattle.slave_port.specs.declared.heard.Report.{Report}
 use Rattle.network_model.specs.Network.{Network, NodeName}

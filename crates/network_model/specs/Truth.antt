@@ -1,4 +1,4 @@
--- Which message each copy is, by the readings and the numbers of the run.
+-- Which message each copy is, by the readings and the numbers of the run (IEEE 1588-2019, 10.2, 11.3 and 13.3).
 use Rattle.std.specs.Prelude.{ℕ, List, [], ◌∷◌, length, ◌==◌, if◌then◌else◌, Option, Some, None, Ok, option_and_then}
 use Rattle.std.specs.Prelude.{option_map}
 use Rattle.std.specs.Result.{result_ok}

@@ -31,17 +31,18 @@ pub fn no_pair_is_missed()
     ensures { NoPairIsMissed }
 {}
 
-/// What reports say of true time in runs, of whatever length, that are fresh and ticked for the slaves
-/// that report. Where clocks are steady, twice the offset is twice the true difference of the two clocks
-/// and the asymmetry of the two paths, and twice the path delay is both paths together. In a level network
-/// two slaves of one master agree at every true moment, and in every accepted run both paths take one time.
+/// The error of each report is the asymmetry of its two paths, where clocks are steady, in runs, of whatever
+/// length, that are fresh and ticked for the slaves that report: twice the offset is twice the true
+/// difference of the two clocks and that asymmetry, and twice the path delay is both paths together. In a
+/// level network two slaves of one master agree at every true moment, and in every accepted run both paths
+/// take one time.
 pub fn reports_tell_true_time()
     ensures { TellsTrueTime }
 {}
 
-/// In a run, of whatever length, that is fresh and ticked for a slave within half of the limits, and
-/// whatever other slaves do, its later report is of no older Sync than the one before it, as long as it
-/// was told no master and ticked at most once since the Sync of the one before completed.
+/// A slave's later report is of no older Sync than the one before it, in a run, of whatever length, that is
+/// fresh and ticked for the slave within half of the limits. Other slaves may do whatever they do; but since
+/// the Sync of the one before completed, it was told no master and ticked at most once.
 pub fn reports_dont_go_back()
     ensures { ReportsDontGoBack }
 {}

@@ -14,10 +14,10 @@ least = negsuc (2 ^ 63 - 1)
 abbrev pub exact : ℤ → Option ℤ
 exact c = if int_lt c too_big then Some c else None
 
--- a residence time is added; a sum of 2^63 - 1 or more is too big, so too big stays too big
+-- a residence time is added (IEEE 1588-2019, 10.2); a sum of 2^63 - 1 or more is too big, so too big stays too big
 abbrev pub with_residence : ℤ → ℕ → ℤ
 with_residence c residence = int_min (c +ℤ pos residence) too_big
 
--- a fraction of a nanosecond is taken off; too big stays too big
+-- a fraction of a nanosecond is taken off (IEEE 1588-2019, 11.3); too big stays too big
 abbrev pub less_fraction : ℤ → ℕ → ℤ
 less_fraction c fraction = if int_lt c too_big then c -ℤ pos fraction else too_big

@@ -3,6 +3,7 @@ use Rattle.std.specs.Prelude.{ℕ, ◌^◌, nat_lt, Option, Some, None, if◌the
 use Rattle.ptp_units.specs.declared.refusal.UnitRefusal.{UnitRefusal}
 use Rattle.ptp_units.specs.declared.refusal.UnitRefusal.TheVariants.{OutOfRange, Seconds, Nanoseconds, TooLow}
 
+-- the number of a refusal
 abbrev pub code_of : UnitRefusal → ℕ
 code_of OutOfRange = 101
 code_of Seconds = 102

@@ -5,6 +5,7 @@ use Rattle.std.specs.Prelude.{ℕ, ◌+◌, ◌-◌, ◌%◌, Bool, ◌&&◌, na
 abbrev pub of_count : ℕ → ℕ
 of_count count = count % 65536
 
+-- the number after this one, on the circle of 65,536
 abbrev pub next : ℕ → ℕ
 next number = (number + 1) % 65536
 

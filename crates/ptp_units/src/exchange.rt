@@ -42,7 +42,8 @@ pub fn delay_bracket(receive: Timestamp, c_resp: i64, t3: ScaledTime) -> i128
     arrival - signed_units(t3)
 }
 
-/// Twice offsetFromMaster, in units of 2^-16 ns, of two brackets (IEEE 1588-2019, 11.2).
+/// Twice offsetFromMaster, in units of 2^-16 ns, of two brackets, which lie between -2^96 and 2^96 (IEEE
+/// 1588-2019, 11.2).
 pub fn offset2(a: i128, b: i128) -> i128
     requires a_within { IsBracket a }
     requires b_within { IsBracket b }
@@ -51,7 +52,8 @@ pub fn offset2(a: i128, b: i128) -> i128
     a - b
 }
 
-/// Twice meanPathDelay, in units of 2^-16 ns, of two brackets (IEEE 1588-2019, 11.3).
+/// Twice meanPathDelay, in units of 2^-16 ns, of two brackets, which lie between -2^96 and 2^96 (IEEE
+/// 1588-2019, 11.3).
 pub fn path2(a: i128, b: i128) -> i128
     requires a_within { IsBracket a }
     requires b_within { IsBracket b }

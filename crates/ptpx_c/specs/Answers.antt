@@ -1,4 +1,4 @@
--- What became of a message, as C is told.
+-- What became of a message, as C is told (IEEE 1588-2019, 11.2 and 11.3).
 use Rattle.std.specs.Prelude.{◌≡◌, ℕ, pos, false, is_none, unwrap_or}
 use Rattle.slave_port.specs.declared.heard.Heard.{Heard}
 use Rattle.slave_port.specs.declared.heard.Heard.TheVariants as answers

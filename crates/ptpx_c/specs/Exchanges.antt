@@ -1,4 +1,4 @@
--- What a report was made of, as C is told.
+-- What a report was made of, as C is told (IEEE 1588-2019, 11.3).
 use Rattle.std.specs.Prelude.{◌≡◌, ℕ, pos, Option, MatchOption}
 use Rattle.slave_port.specs.declared.exchange.Exchange.{Exchange}
 use Rattle.slave_port.specs.Exchange.{age}

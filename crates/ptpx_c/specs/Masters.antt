@@ -1,4 +1,4 @@
--- Master ports as C keeps them.
+-- Master ports as C keeps them (IEEE 1588-2019, 11.3).
 use Rattle.std.specs.Prelude.{◌≡◌, ℕ, List, if◌then◌else◌, Some, None, MatchResult}
 use Rattle.event_codec.specs.declared.port.PortConfig.{PortConfig}
 use Rattle.event_codec.specs.Packet.{Packet}

@@ -1,4 +1,4 @@
--- Messages as C passes them.
+-- Messages as C passes them (IEEE 1588-2019, 13.3 and 13.6 to 13.8).
 use Rattle.std.specs.Prelude.{◌≡◌, ℕ, ◌≤◌, List, [], ◌∷◌, length, take, drop, nat_lt, ◌&&◌, ◌==◌, Bool, Option, Some}
 use Rattle.std.specs.Prelude.{None, if◌then◌else◌, MatchOption, Result, Ok, Err}
 use Rattle.ptp_units.specs.Moment.{Stamp}

@@ -4,6 +4,7 @@ use Rattle.ptpx_c.specs.declared.refusal.InputRefusal.{InputRefusal}
 use Rattle.ptpx_c.specs.declared.refusal.InputRefusal.TheVariants.{OtherType, Nibble, LeftAlready, NoBracket, Wide}
 use Rattle.ptpx_c.specs.declared.refusal.InputRefusal.TheVariants.{NoExchange}
 
+-- the number of a refusal
 abbrev pub code_of : InputRefusal → ℕ
 code_of OtherType = 903
 code_of Nibble = 904

@@ -1,4 +1,4 @@
--- Slave ports as C keeps them.
+-- Slave ports as C keeps them (IEEE 1588-2019, 11.3).
 use Rattle.std.specs.Prelude.{◌≡◌, ℕ, List, [], Option, Some, if◌then◌else◌}
 use Rattle.event_codec.specs.declared.port.PortConfig.{PortConfig}
 use Rattle.event_codec.specs.Packet.{Packet}

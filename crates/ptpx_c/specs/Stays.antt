@@ -1,4 +1,4 @@
--- A transparent clock's stays as C passes them.
+-- A transparent clock's stays as C passes them (IEEE 1588-2019, 10.2).
 use Rattle.std.specs.Prelude.{◌≡◌, ℕ, List, Ok, MatchResult}
 use Rattle.event_codec.specs.Reading.{Reading, IsReading}
 use Rattle.transparent_clock.specs.Forwarding.{forwarded}

@@ -1,4 +1,4 @@
--- Timestamps and brackets as C passes them.
+-- Timestamps and brackets as C passes them (IEEE 1588-2019, 5.3.3, 11.2 and 11.3).
 use Rattle.std.specs.Prelude.{◌≡◌, ℕ, ◌-◌, ◌^◌, ℤ, pos, negsuc, int_lt, Bool, ◌&&◌, if◌then◌else◌, Some, None}
 use Rattle.std.specs.Prelude.{MatchOption}
 use Rattle.ptp_units.specs.Moment.{Stamp, stamp}

@@ -86,6 +86,7 @@ senders of (m ∷ earlier) = option_map_or (λ port. with_sender port (senders o
 abbrev pub is_of_domain : (domain : ℕ) → Meeting → Bool
 is_of_domain domain m = option_map_or (λ other. other == domain) (other_domain m) false
 
+-- how many messages are of each other domain (IEEE 1588-2019, 7.1)
 pub record AreDomains (all : List Meeting) (domains : List ℕ) : Type 0 where
   pub places : length domains ≡ 256
   pub each : (domain : ℕ) → domain < 256 → get_or domains domain 0 ≡ at_most (count_by (is_of_domain domain) all)
@@ -127,6 +128,7 @@ abbrev pub newcomer : List Meeting → Option Newcomer
 newcomer [] = None
 newcomer (m ∷ earlier) = if is_master_sync m.met then None else option_or (newcomer earlier) (newcomer_of m)
 
+-- when the master's last Sync came, and who has sent one since
 pub record IsTurn (all : List Meeting) (t : Turn) : Type 0 where
   pub last : t.last ≡ last_sync all
   pub newcomer : t.newcomer ≡ newcomer all
@@ -197,6 +199,7 @@ kept_of FollowUp r = r.follow_up
 kept_of DelayReq r = r.request
 kept_of DelayResp r = r.response
 
+-- the last first message of each kind, and the least and the greatest of how much later repeats came
 pub record AreRepeats (all : List Meeting) (r : Repeats) : Type 0 where
   pub firsts : (kind : MessageKind) → kept_of kind r ≡ last_first all kind
   pub least : r.least ≡ least_lag all

@@ -71,6 +71,7 @@ abbrev pub last_reported : List Noted → Option ℕ
 last_reported [] = None
 last_reported (n ∷ earlier) = if is_some n.reported then Some n.time else last_reported earlier
 
+-- this is told of the reports of these datagrams
 pub record AreStatistics (all : List Noted) (s : Statistics) : Type 0 where
   pub offsets : IsSeries (filter_map offset_of all) s.offsets
   pub trend : IsTrend (filter_map offset_of all) s.trend
@@ -103,6 +104,7 @@ abbrev pub falls : List Noted → ℕ
 falls [] = 0
 falls (n ∷ earlier) = if is_fall n.time (last_time earlier) then falls earlier + 1 else falls earlier
 
+-- this is told of the times of these datagrams
 pub record AreTimes (all : List Noted) (t : Times) : Type 0 where
   pub finer : t.finer ≡ at_most (count_by (λ n. is_finer n.time) all)
   pub falls : t.falls ≡ at_most (falls all)

@@ -353,7 +353,7 @@ fn count_domain(domains: &mut [u64; DOMAINS], domain: Option<u8>)
 }
 
 impl Others {
-    /// Before the first message.
+    /// Nobody else was met yet.
     pub fn new() -> Others
         ensures { AreOthers [] result }
     {
@@ -376,7 +376,8 @@ impl Others {
         }
     }
 
-    /// Takes a message.
+    /// Takes a message of the recording: who else it says is there, until when the master sends, and what
+    /// came twice.
     pub fn take(&mut self, meeting: &Meeting)
         ensures { (earlier : List Meeting) → AreOthers earlier self.old → AreOthers (meeting.now ∷ earlier) self.new }
     {

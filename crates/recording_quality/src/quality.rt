@@ -226,7 +226,7 @@ impl Times {
 }
 
 impl Quality {
-    /// Of no datagrams.
+    /// No datagram was noted yet.
     pub fn new() -> Quality
         ensures { IsQuality [] result }
     {

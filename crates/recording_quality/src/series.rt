@@ -92,7 +92,7 @@ pub(crate) fn count_if(count: u64, is_so: bool) -> u64
 }
 
 impl Spread {
-    /// Of no values.
+    /// The least and the greatest of no values.
     pub fn new() -> Spread
         ensures { IsSpread [] result }
     {
@@ -100,7 +100,7 @@ impl Spread {
         Spread { least, greatest }
     }
 
-    /// Takes one more value.
+    /// Takes one more value, for the least and the greatest.
     pub fn take(&mut self, point: Point)
         ensures { (points : List Point) → IsSpread points self.old → IsSpread (point ∷ points) self.new }
     {
@@ -121,7 +121,7 @@ impl Spread {
 }
 
 impl Series {
-    /// Of no values.
+    /// A series of no values.
     pub fn new() -> Series
         ensures { IsSeries [] result }
     {
@@ -137,7 +137,7 @@ impl Series {
         }
     }
 
-    /// Takes one more value.
+    /// Takes one more value: into the count, the sums, the sum of squares, the least and the greatest.
     pub fn take(&mut self, point: Point)
         ensures { (points : List Point) → IsSeries points self.old → IsSeries (point ∷ points) self.new }
     {

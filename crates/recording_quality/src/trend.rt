@@ -19,7 +19,7 @@ pub struct Trend {
 }
 
 impl Trend {
-    /// Of no values.
+    /// Sums over no values.
     pub fn new() -> Trend
         ensures { IsTrend [] result }
     {
@@ -31,7 +31,7 @@ impl Trend {
         }
     }
 
-    /// Takes one more value.
+    /// Takes one more value: into the sums by which a line through values over their times is drawn.
     pub fn take(&mut self, point: Point)
         ensures { (points : List Point) → IsTrend points self.old → IsTrend (point ∷ points) self.new }
     {

@@ -11,7 +11,7 @@ pub struct Wide {
 }
 
 impl Wide {
-    /// 0.
+    /// The sum 0.
     pub fn new() -> Wide
         ensures { wide result ≡ 0 }
     {

@@ -43,9 +43,9 @@ pub fn numbers_have_one_text()
     ensures { NumbersHaveOneText }
 {}
 
-/// Each line that tells an event of a run is within its ranges, where the event is: its reading is a
-/// moment, it is there exactly where the event has a true moment, and what it has of the outcome can
-/// be written. Its tags have 64 bits, where its number has.
+/// Each line that tells an event of a run, which is fresh and ticked or within one turn, is within its
+/// ranges, where the event is: its reading is a moment, it is there exactly where the event has a true
+/// moment, and what it has of the outcome can be written. Its tags have 64 bits, where its number has.
 pub fn told_lines_are_recorded()
     ensures recorded { EachToldLineIsRecorded (IsFreshAndTicked exact_limits) }
     ensures recorded_within_turn { EachToldLineIsRecorded IsWithinTurn }

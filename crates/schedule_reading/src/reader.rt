@@ -19,7 +19,7 @@ pub struct LineReader {
 }
 
 impl LineReader {
-    /// It has read nothing yet.
+    /// A reader of lines that has read nothing yet.
     pub fn new(alloc: Global) -> LineReader {
         LineReader {
             alloc,

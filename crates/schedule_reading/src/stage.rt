@@ -16,7 +16,7 @@ pub enum Stage<T> {
 }
 
 impl<T> Stage<T> {
-    /// There is no node yet.
+    /// Before the first node.
     pub fn new(alloc: Global) -> Stage<T>
         ensures { nodes_in result ≡ Some [] }
     {

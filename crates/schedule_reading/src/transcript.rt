@@ -54,7 +54,7 @@ impl Model for Transcript {
 }
 
 impl Transcript {
-    /// No line was taken yet.
+    /// A transcript of which no line was taken yet.
     pub fn new(alloc: Global) -> Transcript
         ensures { result ≡ record { nodes = []; lines = [] } }
     {

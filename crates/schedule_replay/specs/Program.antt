@@ -90,6 +90,7 @@ abbrev pub RunsListed : {R W : Type 0} → Bool → (R → Option (List ℕ)) �
 RunsListed true remaining contents options = RunsList remaining contents
 RunsListed false remaining contents options = RunsLines remaining contents options
 
+-- `extract` ran by these options: its answer gave the status, and says what was read and written
 abbrev pub RunsExtract : {R W : Type 0} → (R → Option (List ℕ)) → (W → Option (List ℕ)) → ExtractOptions → ℕ
     → (input input' : Counted R) (output output' : Counted W) → Type 0
 RunsExtract remaining contents options = RunsListed options.list remaining contents options
@@ -167,6 +168,7 @@ RunsForm false remaining contents options status input input' output output' =
     × ExplainFailedWith answer input input' output output'
     × ExplainsAnswer options.first remaining contents answer input input' output output'
 
+-- `explain` ran by these options: its answer gave the status, and says what was read and written
 abbrev pub RunsExplain : {R W : Type 0} → (R → Option (List ℕ)) → (W → Option (List ℕ)) → ExplainOptions → ℕ
     → (input input' : Counted R) (output output' : Counted W) → Type 0
 RunsExplain remaining contents options status input input' output output' =

@@ -1,4 +1,4 @@
--- What a slave port answers, by its history alone.
+-- What a slave port answers, by its history alone (IEEE 1588-2019, 11.2 and 11.3).
 use Rattle.std.specs.Prelude.{List, ◌∷◌, is_none, ◌&&◌, option_and_then, if◌then◌else◌, Option, Some, None}
 use Rattle.std.specs.Option.{option_or}
 use Rattle.ptp_units.specs.Exchange.{offset2, path2}

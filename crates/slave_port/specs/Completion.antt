@@ -1,4 +1,5 @@
--- Completions: of a Sync by the Follow_Up of its number or by itself, of a request by the Delay_Resp of its number.
+-- Completions: of a Sync by the Follow_Up of its number or by itself, of a request by the Delay_Resp of its number
+-- (IEEE 1588-2019, 11.3).
 use Rattle.std.specs.Prelude.{ℕ, ℤ, pos, List, option_map, Option, Some, None}
 use Rattle.ptp_units.specs.Moment.{Stamp}
 use Rattle.ptp_units.specs.Exchange.{sync_bracket, delay_bracket}

@@ -1,4 +1,5 @@
--- The exchange that a report was made of: the four times, the corrections and the numbers of its two halves.
+-- The exchange that a report was made of: the four times, the corrections and the numbers of its two halves (IEEE
+-- 1588-2019, 11.2 and 11.3).
 use Rattle.std.specs.Prelude.{◌≡◌, ℕ, List, [], ◌∷◌, ℤ, pos, ◌+ℤ◌, ◌-ℤ◌, Option, Some, None}
 use Rattle.std.specs.Int.{abs_diff}
 use Rattle.ptp_units.specs.Moment.{moment}

@@ -1,5 +1,5 @@
--- What a history leaves in the window: the Syncs and Follow_Ups that are held, and the completions. What is used
--- depends on the last completion, and what completes on what is held, so these are one recursion.
+-- What a history leaves in the window: the Syncs and Follow_Ups that are held, and the completions (IEEE 1588-2019,
+-- 11.3). What is used depends on the last completion, and what completes on what is held, so these are one recursion.
 use Rattle.std.specs.Prelude.{ℕ, List, [], ◌∷◌, take, option_map, option_and_then, Option}
 use Rattle.pairing.specs.Marked.{Entry, first_value as newest}
 use Rattle.slave_port.specs.declared.reason.Reason.{Reason}

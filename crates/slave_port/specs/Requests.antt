@@ -1,4 +1,4 @@
--- The requests of a slave port, and those of them that it holds.
+-- The requests of a slave port, and those of them that it holds (IEEE 1588-2019, 11.3).
 use Rattle.std.specs.Prelude.{ℕ, List, [], ◌∷◌, take, is_some, ◌==◌, if◌then◌else◌, Bool, Some, None}
 use Rattle.pairing.specs.Marked.{Entry, entry, first_value as newest}
 use Rattle.slave_port.specs.History.{Setup, Call, SetMaster, Tick, NextRequest, RequestLeft, Event, General}

@@ -18,7 +18,8 @@ pub record Last (C : Type 0) : Type 0 where
   pub completion : C
   pub ticked : Bool
 
--- what a slave port keeps
+-- what a slave port keeps: its configuration, the capacities of its three tables, its next number, its master, the
+-- tables, and its last completions
 pub record Port : Type 0 where
   pub config : PortConfig
   pub capacities : Capacities

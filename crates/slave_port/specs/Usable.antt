@@ -1,4 +1,5 @@
--- Which messages a slave port uses, what as, and the first reason for which it can't use another.
+-- Which messages a slave port uses, what as, and the first reason for which it can't use another (IEEE 1588-2019,
+-- 13.3.2).
 use Rattle.std.specs.Prelude.{ℕ, ◌/◌, ◌%◌, Bool, true, false, not, ◌&&◌, List, [], ◌∷◌, ◌++◌, slice_index, ◌==◌}
 use Rattle.std.specs.Prelude.{int_lt, is_none, option_and_then, if◌then◌else◌, Option, Some, None, Result, Ok, Err}
 use Rattle.std.specs.Result.{result_ok, result_err}

@@ -1,4 +1,4 @@
--- What a slave port takes from each message that it uses, and from its own requests.
+-- What a slave port takes from each message that it uses, and from its own requests (IEEE 1588-2019, 13.6 to 13.8).
 use Rattle.std.specs.Prelude.{ℕ, ℤ, Option}
 use Rattle.ptp_units.specs.Moment.{Stamp}
 

@@ -82,12 +82,15 @@ after Newer a new told = new ∷ told
 after Repeated a new told = told
 after BeganAnew a new told = Sync a ∷ []
 
+-- what is told once a Sync came
 abbrev pub after_sync : Arrival → (capacity : ℕ) → List Told → List Told
 after_sync a capacity told = after (judged_sync a capacity told) a (Sync a) told
 
+-- what is told once a Follow_Up came
 abbrev pub after_follow_up : Arrival → (capacity : ℕ) → List Told → List Told
 after_follow_up a capacity told = if is_repeated a capacity told then told else FollowUp a ∷ told
 
+-- what is told once the port refused the last Sync
 abbrev pub after_refused : Arrival → (capacity : ℕ) → List Told → List Told
 after_refused a capacity told = after (judged_refused a capacity told) a (Refused a.number) told
 

@@ -2,7 +2,8 @@
 use Rattle.std.specs.Prelude.{ℕ, Bool, true, false, List, [], ◌∷◌, take, Option, if◌then◌else◌}
 use Rattle.pairing.specs.Marked.{Entry, entry, first_value}
 
--- a Sync or a Follow_Up: its sequenceId, its unicastFlag (IEEE 1588-2019, 13.3.2.8), and the moment at which it came
+-- a Sync or a Follow_Up: its sequenceId (IEEE 1588-2019, 7.3.7), its unicastFlag (13.3.2.8), and the moment at which it
+-- came
 pub record Arrival : Type 0 where
   pub number : ℕ
   pub is_unicast : Bool

@@ -24,7 +24,7 @@ impl<T: PairTable<ScaledTime>> Model for ResponseWatch<T> {
 }
 
 impl<T: PairTable<ScaledTime>> ResponseWatch<T> {
-    /// A watch that knows of nothing.
+    /// A watch that knows of nothing. Its table has room for 1 to 256.
     pub fn new() -> Self
         requires { (1 ≤ T.CAPACITY) × (T.CAPACITY ≤ 256) }
         ensures { StandsForResponses T.CAPACITY result [] }

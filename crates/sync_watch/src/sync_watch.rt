@@ -71,7 +71,7 @@ fn is_repeat(time: ScaledTime, sync: Option<ScaledTime>, follow_up: Option<Scale
 }
 
 impl<T: PairTable<ScaledTime>> SyncWatch<T> {
-    /// A watch that knows of nothing.
+    /// A watch that knows of nothing. Its tables have room for 1 to 256.
     pub fn new() -> Self
         requires { (1 ≤ T.CAPACITY) × (T.CAPACITY ≤ 256) }
         ensures { StandsFor T.CAPACITY result [] }

@@ -95,6 +95,7 @@ noticed_as (bodies.DelayReq origin) capacity m k = k
 noticed_as (bodies.FollowUp precise) capacity m k = k
 noticed_as (bodies.DelayResp receive requesting) capacity m k = k
 
+-- what is known once this message was met, of whichever kind
 abbrev pub noticed : (capacity : ℕ) → Met → Known → Known
 noticed capacity m k = noticed_as m.body capacity m k
 

@@ -90,7 +90,7 @@ fn earlier_side(side: Side, time: ScaledTime, other: ScaledTime) -> Side
 }
 
 impl<T: PairTable<ScaledTime>> Choice<T> {
-    /// What is known before any message: what is asked for.
+    /// What is known before any message came: what is asked for.
     pub fn new(wanted: &Wanted) -> Self
         requires { (1 ≤ T.CAPACITY) × (T.CAPACITY ≤ 256) }
         ensures { result ≡ asked wanted.now }
@@ -168,7 +168,7 @@ impl<T: PairTable<ScaledTime>> Choice<T> {
         }
     }
 
-    /// The three, once all are known.
+    /// Domain, master and order of the taps, once all three are known.
     pub fn pair(&self) -> Option<Pair>
         ensures { result ≡ pair_of self.now }
     {

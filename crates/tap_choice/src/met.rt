@@ -29,7 +29,7 @@ impl Side {
     ghost use Rattle.std.specs.Prelude.{◌≡◌};
     ghost use Rattle.tap_choice.specs.Known.{other_side};
 
-    /// The other tap.
+    /// The other one of the two taps.
     pub fn other(self) -> Side
         ensures { result ≡ other_side self }
     {

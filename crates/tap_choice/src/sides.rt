@@ -26,7 +26,7 @@ fn is_named(tap: Option<TapName>, name: TapName) -> bool
 }
 
 impl Sides {
-    /// Before any tap was met.
+    /// The taps that are asked for, before any was met.
     pub fn new(wanted: &Wanted) -> Sides
         ensures { result ≡ sides_wanted wanted.now }
     {

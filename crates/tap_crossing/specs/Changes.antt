@@ -1,4 +1,5 @@
--- Which fields of a message are others at one tap than at the other, beside its correctionField.
+-- Which fields of a message are others at one tap than at the other, beside its correctionField (IEEE 1588-2019,
+-- 13.3.1).
 use Rattle.std.specs.Prelude.{false, Bool, not, ◌&&◌, ◌||◌, ◌==◌, Option, Some, None}
 use Rattle.std.specs.Ordering.{int_eq}
 use Rattle.std.specs.Str.{bytes_eq}

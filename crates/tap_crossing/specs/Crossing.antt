@@ -15,7 +15,7 @@ use Rattle.tap_crossing.specs.declared.crossing.Crossing.{Crossing}
 use Rattle.tap_crossing.specs.declared.crossing.NoCrossing.{NoCrossing}
 use Rattle.tap_crossing.specs.declared.crossing.NoCrossing.TheVariants as reasons
 
--- its correction is too big to be represented, where there is a message
+-- its correction is too big to be represented (IEEE 1588-2019, 13.3.2.9), where there is a message
 abbrev pub is_too_big : Option Sighting → Bool
 is_too_big None = false
 is_too_big (Some s) = is_none (exact s.correction.0)

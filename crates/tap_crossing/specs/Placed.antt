@@ -50,7 +50,8 @@ place_of taps.To (bodies.FollowUp precise) = places.AtTo
 place_of taps.From (bodies.DelayResp receive requesting) = places.AtFrom
 place_of taps.To (bodies.DelayResp receive requesting) = places.AtTo
 
--- another message tells its timestamp: of a two-step Sync its Follow_Up, of a Delay_Req its Delay_Resp
+-- another message tells its timestamp: of a two-step Sync its Follow_Up (IEEE 1588-2019, 13.3.2.8), of a Delay_Req its
+-- Delay_Resp
 abbrev pub needs_other : Header → Body → Bool
 needs_other header (bodies.Sync origin) = is_two_step header
 needs_other header (bodies.DelayReq origin) = true

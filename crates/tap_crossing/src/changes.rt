@@ -40,7 +40,7 @@ impl Changes {
         }
     }
 
-    /// Whether a field is another.
+    /// Whether any field differs between the taps.
     pub fn is_any(&self) -> bool
         ensures { result ≡ is_any self.now }
     {

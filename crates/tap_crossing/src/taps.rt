@@ -108,7 +108,7 @@ fn come<T: PairTable<Record>>(table: &mut T, counts: &mut [u64; 16], placed: Pla
 }
 
 impl<T: PairTable<Record>> Taps<T> {
-    /// Nothing was met.
+    /// Two taps at which nothing was met yet.
     pub fn new() -> Self
         requires { (1 ≤ T.CAPACITY) × (T.CAPACITY ≤ 256) }
         ensures { StandsFor T.CAPACITY result [] }
@@ -121,8 +121,9 @@ impl<T: PairTable<Record>> Taps<T> {
         }
     }
 
-    /// A message was met that belongs to a record. It takes its place in the record of its number that waits for
-    /// messages, and opens one where none of the last ones does.
+    /// What a message brings that was met: nothing yet, that its record is spoiled, that this closes and is no
+    /// crossing, and why, or the crossing. It takes its place in the record of its number that waits for messages, and
+    /// opens one where none of the last ones does.
     pub fn meet(&mut self, placed: Placed) -> Outcome
         ensures told { IsTold placed self.old result }
         ensures within { IfCrossed result IsWithin }

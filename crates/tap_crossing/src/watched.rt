@@ -19,9 +19,9 @@ pub struct Watched {
 }
 
 impl Watched {
-    /// Where a message belongs that was met at a tap, at this time, or None where it isn't one of those that are
-    /// followed: a Sync or a Follow_Up of the master, a Delay_Req of the slave, or a Delay_Resp of the master to
-    /// the slave, of the domain.
+    /// The record and the place of a message that was met at a tap, or None where it isn't followed. Followed are a
+    /// Sync or a Follow_Up of the master, a Delay_Req of the slave, and a Delay_Resp of the master to the slave, of the
+    /// domain.
     pub fn placed(
         &self,
         tap: Tap,

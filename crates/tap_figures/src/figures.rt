@@ -85,7 +85,7 @@ impl KindFigures {
 }
 
 impl Figures {
-    /// Of no crossings.
+    /// Figures of no crossings.
     pub fn new(alloc: Global) -> Figures
         ensures { AreFigures [] result }
     {
@@ -129,7 +129,8 @@ impl Figures {
         }
     }
 
-    /// The median of what the last 4,096 of a kind have, if there is any.
+    /// The median of what the last 4,096 crossings of a kind have, if there are any: the two values in the
+    /// middle.
     pub fn median(&self, kind: Kind, quantity: Quantity) -> Result<Option<Middle>, AllocError>
         ensures { (all : List Crossing) → AreFigures all self.now
             → MatchResult result (IsMedian (last (map (value_of quantity) (of_kind kind all)))) (λ _. ⊤) }

@@ -44,7 +44,7 @@ fn is_other_timestamp(outcome: &Outcome) -> bool
 }
 
 impl Untold {
-    /// Nothing was met.
+    /// No message was met yet.
     pub fn new() -> Untold
         ensures { AreUntold [] result }
     {
@@ -56,7 +56,7 @@ impl Untold {
         }
     }
 
-    /// Counts what one message more brings.
+    /// Counts what one message more brings, where that is a record of which nothing is told.
     pub fn take(&mut self, outcome: &Outcome)
         ensures { (earlier : List Outcome) → AreUntold earlier self.old → AreUntold (outcome.now ∷ earlier) self.new }
     {

@@ -27,6 +27,7 @@ TakesAt (arrivals.At side) d c later out = Changes (met_in side d) (with_tap d.t
 TakesAt arrivals.Elsewhere d c later out = (later ≡ with_tap d.tap c) × (out ≡ [])
 TakesAt arrivals.Third d c later out = ⊥
 
+-- a datagram that was met at this tap is taken: it changes a course so, and this is written
 abbrev pub TakesDatagram : Datagram → Course → Course → List ℕ → Type 0
 TakesDatagram d c later out = TakesAt (arrival_of c d.tap) d c later out
 
@@ -88,6 +89,7 @@ TakesPacket number packet c later out =
     ((d : Datagram) × IsDatagramPacket number packet d × TakesDatagram d c later out)
     ⊎ (((d : Datagram) → IsDatagramPacket number packet d → ⊥) × (later ≡ c) × (out ≡ []))
 
+-- why a packet isn't taken: the datagram that it carries isn't
 abbrev pub StopsAtPacket : (number : ℕ) → PacketOf → Course → FollowFault → List ℕ → Type 0
 StopsAtPacket number packet c fault out = (d : Datagram) × IsDatagramPacket number packet d × StopsAtDatagram fault d c out
 

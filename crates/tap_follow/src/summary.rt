@@ -98,7 +98,7 @@ impl Summary {
         write_text(text.as_str(), output)
     }
 
-    /// Tells it, in lines, but for what was told before. What can't be written is lost.
+    /// Tells the summary, in lines, but for what was told before. What can't be written is lost.
     pub fn tell<E: Write>(&self, errors: &mut E) {
         if let Some(packets) = &self.packets {
             packets.tell_packets(errors);

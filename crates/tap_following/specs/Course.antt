@@ -113,6 +113,7 @@ abbrev pub after_as : Option Followed → Met → Course → Course
 after_as (Some f) m c = record c { met = m ∷ c.met }
 after_as None m c = after_unknown m c
 
+-- the course after one more message
 abbrev pub after : Met → Course → Course
 after m c = after_as c.followed m c
 
@@ -125,6 +126,7 @@ abbrev pub new_text_as : Option Followed → Met → Course → List ℕ
 new_text_as (Some f) m c = text_at c.form f m c.met
 new_text_as None m c = text_of (after_unknown m c)
 
+-- what is written once that was met
 abbrev pub new_text : Met → Course → List ℕ
 new_text m c = new_text_as c.followed m c
 
@@ -136,6 +138,7 @@ abbrev pub ended_as : Option Followed → Course → Course
 ended_as (Some f) c = c
 ended_as None c = record c { followed = chosen_at_end c; met = begins (chosen_at_end c) c.before }
 
+-- the course after the end
 abbrev pub ended : Course → Course
 ended c = ended_as c.followed c
 
@@ -144,5 +147,6 @@ abbrev pub end_text_as : Option Followed → Course → List ℕ
 end_text_as (Some f) c = []
 end_text_as None c = text_of (ended c)
 
+-- what is written at the end
 abbrev pub end_text : Course → List ℕ
 end_text c = end_text_as c.followed c

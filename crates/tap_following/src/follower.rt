@@ -71,7 +71,7 @@ impl Model for Follower {
 }
 
 impl Follower {
-    /// No message was met.
+    /// Nothing was met yet, and what is asked for is known.
     pub fn new(alloc: Global, form: Form, wanted: &Wanted) -> Follower
         ensures { IsFollower result (begun form wanted.now) }
     {
@@ -87,7 +87,8 @@ impl Follower {
         }
     }
 
-    /// Something was met at a tap of this name.
+    /// Which of the two taps one of this name is, at which something was met; or that it is a further one, or
+    /// a third.
     pub fn arrive(&mut self, name: TapName) -> Arrival
         ensures { (c : Course) → IsFollower self.old c
             → (result ≡ arrival_of c name) × IsFollower self.new (with_tap name c) }
@@ -116,7 +117,8 @@ impl Follower {
         }
     }
 
-    /// Ends: where the slave alone isn't known, Syncs are followed.
+    /// Ends the course, and appends what the end tells: where the slave alone isn't known, Syncs are followed
+    /// without it.
     pub fn finish(&mut self, text: &mut String) -> Result<(), AllocError>
         ensures { (c : Course) → IsFollower self.old c → OnOk result (IsFollower self.new (ended c)
             × (string_bytes text.new ≡ string_bytes text.old ++ end_text c)) }

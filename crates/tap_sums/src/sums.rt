@@ -25,7 +25,7 @@ pub struct Sums {
 }
 
 impl Sums {
-    /// Of no crossings.
+    /// Sums over no crossings.
     pub fn new() -> Sums
         ensures { AreSums [] result }
     {
@@ -48,7 +48,8 @@ impl Sums {
         self.worst = self.worst.max(crossing.rest.unsigned_abs());
     }
 
-    /// What the crossings of a kind come to.
+    /// How many crossings of a kind there are; of what each took, was corrected by and had as rest the least,
+    /// the greatest and the mean; and the greatest change of the rest.
     pub fn statistics(&self, kind: Kind) -> Statistics
         ensures value { (all : List Crossing) → AreSums all self.now → result ≡ statistics kind (counted_of kind all) }
         ensures shown { AreToldShown result }
@@ -66,7 +67,7 @@ impl Sums {
         limit.value() / SECOND < self.worst
     }
 
-    /// What both kinds come to.
+    /// What both kinds tell together: the asymmetry, and the mean rest.
     pub fn both_ways(&self) -> BothWays
         ensures value { (all : List Crossing) → AreSums all self.now
             → result ≡ both_ways (counted_of kinds.Sync all) (counted_of kinds.DelayReq all) }

@@ -116,6 +116,7 @@ impl<R: Read> Read for Counted<R> {
 
     ghost remaining = { λ c. R.remaining (device_of c) };
 
+    /// Reads as the device does, and counts the octets, or the failure.
     fn read(&mut self, buf: &mut [u8]) -> io::Result<usize>
         ensures bound { ReadsAtMost result buf.new }
         ensures bytes { ReadConsumes (R.remaining (device_of self.old)) (R.remaining (device_of self.new))
@@ -137,6 +138,7 @@ impl<W: Write> Write for Counted<W> {
 
     ghost contents = { λ c. W.contents (device_of c) };
 
+    /// Writes as the device does, and counts a failure: an error, or that nothing was taken of some octets.
     fn write(&mut self, buf: &[u8]) -> io::Result<usize>
         ensures bound { WritesAtMost result buf.now }
         ensures bytes { WriteAppends (W.contents (device_of self.old)) (W.contents (device_of self.new))
@@ -162,6 +164,7 @@ impl<W: Write> Write for Counted<W> {
         answer
     }
 
+    /// Flushes as the device does. No failure of that is counted.
     fn flush(&mut self) -> io::Result<()>
         ensures bytes { Keeps (W.contents (device_of self.old)) (W.contents (device_of self.new)) }
         ensures count { HasNotFailed self.old self.new }

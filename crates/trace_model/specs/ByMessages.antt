@@ -52,6 +52,7 @@ abbrev pub said_out : (kind : ℕ) → TraceOut → Option Said
 said_out kind (outs.Made octets) = said_in kind octets.items
 said_out kind _ = None
 
+-- what the message of a line says, where it is of this messageType
 abbrev pub said_at : (kind : ℕ) → LinePlace → Option Said
 said_at kind e = said_out kind e.line.out
 
@@ -66,6 +67,7 @@ abbrev pub sync_told : (t2 : ℕ) → (follow : Option Said) → (sync : Said) �
 sync_told t2 None sync = sync_bracket t2 sync.timestamp (pos 0) sync.correction
 sync_told t2 (Some follow) sync = sync_bracket t2 follow.timestamp follow.correction sync.correction
 
+-- what the slave's clock read at the arrival of the Sync, less the departure and the corrections that it was told
 abbrev pub sync_bracket_told : Network → Lines → Exchange → Option ℤ
 sync_bracket_told network lines x =
     option_and_then (λ sync. option_map (λ follow. sync_told (reading x.sync_arrival) follow sync) (follow_said x.follow))

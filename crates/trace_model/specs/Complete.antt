@@ -24,8 +24,8 @@ use Rattle.trace_model.specs.Verdict.{verdict}
 use Rattle.trace_model.specs.Told.{TellsRun}
 use Rattle.trace_model.specs.Faithful.{TellsPlace}
 
--- Each line that tells of a message that was made has the octets that its port or its clock writes, by the lines
--- before it.
+-- Each line that tells of a message that was made has the octets (IEEE 1588-2019, 13.3 and 13.6 to 13.8) that its port
+-- or its clock writes, by the lines before it.
 abbrev pub EachMessageIsWritten : Type 0
 EachMessageIsWritten =
     (network : Network) (p : Place) (e : LinePlace) → TellsPlace network p e

@@ -1,4 +1,5 @@
--- The fields of a message: which of them octets have otherwise, and which of them a slave or a master reads.
+-- The fields of a message (IEEE 1588-2019, 13.3 and 13.6 to 13.8): which of them octets have otherwise, and which of
+-- them a slave or a master reads.
 use Rattle.std.specs.Prelude.{◌≡◌, ◌↔◌, ℕ, ◌/◌, ◌%◌, ◌^◌, Bool, true, false, ◌&&◌, not, List, [], ◌∷◌, length}
 use Rattle.std.specs.Prelude.{filter, drop, nat_lt, ◌==◌, slice_index, slice_range, IsTrue}
 use Rattle.std.specs.Int.{w8, w64, cast_signed}

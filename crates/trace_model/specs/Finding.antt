@@ -69,6 +69,7 @@ abbrev pub copy_found : Network → Lines → (hearing : ℕ) → Option ℕ →
 copy_found network lines hearing None = Err (OtherEvent hearing)
 copy_found network lines hearing (Some copy) = line_found network lines hearing copy
 
+-- the line that made the copy which is heard at a line, or what the number of that copy lacks
 abbrev pub sender_found : Network → Lines → LinePlace → Result LinePlace Lack
 sender_found network lines e = copy_found network lines (line_number e) (heard_copy (event_of e))
 
@@ -101,6 +102,7 @@ response_found network lines slave hearing = passing
     (λ e. CompletedNothing hearing)
     (tag_found network lines is_hearing slave hearing)))
 
+-- what breaks 701: something of the report's own event, or of one of its tags
 abbrev pub place_finding : Network → NodeName → LinePlace → Report → Option Finding
 place_finding network slave e report = first_of (
     broken (counts network e.line) findings.CantReport
@@ -202,10 +204,12 @@ left_twice network part journey (line ∷ earlier) = option_or
     (left_twice network part journey earlier)
     (if counts network line then left_again network part journey earlier (length earlier) (named_transit line.event) else None)
 
+-- where a journey stops, or the stay of it that was left twice
 abbrev pub way_finding : Network → LinePlace → Part → Result LineJourney Stop → Option Finding
 way_finding network e part (Ok journey) = left_twice network part journey e.earlier
 way_finding network e part (Err stop) = Some (findings.Stops part stop.by stop.lack)
 
+-- what breaks 704: where the journey of the Sync stops, or else that of the Delay_Req
 abbrev pub ways_finding : Network → LinePlace → Exchange → Option Finding
 ways_finding network e x = first_of (
     way_finding network e parts.Sync (way_to network (lines_to e) draws_sync x.sync_arrival)
@@ -220,6 +224,7 @@ follow_finding network (Some follow) origin = findings.OtherSync
     (option_map line_number (last_line network is_sync (site follow) follow.earlier))
     (line_number origin)
 
+-- what breaks 702: the Follow_Up is of another Sync, or the Delay_Req is another one
 abbrev pub pair_finding : Network → Exchange → (sync request : LineJourney) → Option Finding
 pair_finding network x sync request = first_of (
     broken (is_followed network x.follow sync.origin) (follow_finding network x.follow sync.origin)
@@ -242,6 +247,7 @@ told_finding master report (Some set) = first_of (
     (findings.ToldOther (line_number set))
     ∷ early_finding (line_number set) report ∷ [])
 
+-- what breaks 703: what the slave was told of its master, who answered, or the domain
 abbrev pub master_finding : Network → NodeName → LinePlace → Report → Exchange → (sync : LineJourney) → Option Finding
 master_finding network slave e report x sync = first_of (
     told_finding (site sync.origin) report (last_line network is_set_master slave e.earlier)
@@ -267,6 +273,7 @@ abbrev pub stays_finding : (LineStay → Option Finding) → List LineStay → O
 stays_finding found [] = None
 stays_finding found (s ∷ before) = option_or (stays_finding found before) (found s)
 
+-- what breaks 705: the first reading of the Sync's, and then of the Delay_Req's, that isn't right
 abbrev pub readings_finding : Network → Exchange → (sync request : LineJourney) → Option Finding
 readings_finding network x sync request = first_of (
     reading_finding network x.sync_arrival
@@ -274,8 +281,9 @@ readings_finding network x sync request = first_of (
     ∷ reading_finding network x.request_arrival
     ∷ reading_finding network request.origin ∷ stays_finding (stay_finding network) request.stays ∷ [])
 
--- 707
+-- 707: which message was in clocks for longer than a correction can say
 
+-- what breaks 707: which of the two was in clocks for too long
 abbrev pub size_finding : (sync request : LineJourney) → Option Finding
 size_finding sync request = first_of (
     broken (fits sync) (findings.TooLong parts.Sync) ∷ broken (fits request) (findings.TooLong parts.DelayReq) ∷ [])
@@ -289,6 +297,7 @@ abbrev pub follow_octets : Network → Option LinePlace → Option Finding
 follow_octets network None = None
 follow_octets network (Some follow) = octets_finding network follow
 
+-- what breaks 708: the first message of the exchange with other octets
 abbrev pub all_octets_finding : Network → Exchange → (sync request : LineJourney) → Option Finding
 all_octets_finding network x sync request = first_of (
     octets_finding network sync.origin ∷ stays_finding (λ s. octets_finding network s.left) sync.stays

@@ -1,4 +1,5 @@
--- The message that each line made, if its octets are those that ports and clocks write.
+-- The message that each line made, if its octets are those that ports and clocks write (IEEE 1588-2019, 10.2, 11.3,
+-- 13.3 and 13.6 to 13.8).
 use Rattle.std.specs.Prelude.{◌↔◌, ℕ, ◌+◌, ◌*◌, ◌^◌, Bool, true, false, ◌&&◌, not, List, length, drop, nat_lt, ◌==◌}
 use Rattle.std.specs.Prelude.{slice_index, slice_range, IsTrue, Option, Some, None, option_map, option_and_then}
 use Rattle.std.specs.Int.{w8, w64, cast_signed}

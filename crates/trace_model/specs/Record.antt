@@ -82,6 +82,6 @@ is_reading None shown = false
 abbrev pub reads_right : Network → LinePlace → Bool
 reads_right network e = is_reading e.line.reading (shown_at (place_of network e))
 
--- the sequenceId that an event of a port draws
+-- the sequenceId that an event of a port draws (IEEE 1588-2019, 7.3.7)
 abbrev pub sequence : Network → PortSetup → LinePlace → ℕ
 sequence network port e = of_count (number_of port (place_of network e))

@@ -4,6 +4,7 @@ use Rattle.trace_model.specs.declared.verdict.Why.{Why}
 use Rattle.trace_model.specs.declared.verdict.Why.TheVariants.{NoSuchLine, OtherNumber, OtherMaster, BrokenJourney}
 use Rattle.trace_model.specs.declared.verdict.Why.TheVariants.{WrongReading, WrongValue, TooBig, Bytes}
 
+-- the number of a reason, 701 to 708
 abbrev pub code_of : Why → ℕ
 code_of NoSuchLine = 701
 code_of OtherNumber = 702

@@ -39,7 +39,7 @@ below found limit number = if nat_lt number limit then found number else None
 abbrev pub lines_to : LinePlace → Lines
 lines_to e = e.line ∷ e.earlier
 
--- 701: the lines that a report is of are there
+-- 701: the lines that a report is of are there (IEEE 1588-2019, 11.3)
 
 -- the lines of an exchange
 pub record Exchange : Type 0 where
@@ -116,7 +116,7 @@ exchange_of network slave e report =
     (sync_line network (lines_to e) slave report)
     else None
 
--- 704: the journeys can be followed
+-- 704: the journeys can be followed (IEEE 1588-2019, 10.2)
 
 -- the journey of the copy that arrives at a line, where it begins at a line of this kind
 abbrev pub journey_to : Network → Lines → (Event → Bool) → LinePlace → Option LineJourney
@@ -129,7 +129,7 @@ abbrev pub unbroken : Network → LinePlace → (Event → Bool) → LinePlace �
 unbroken network e kind arrival =
     where_passes (left_once (events network e.earlier)) (journey_to network (lines_to e) kind arrival)
 
--- 702: one Sync, and the slave's own request
+-- 702: one Sync, and the slave's own request (IEEE 1588-2019, 11.3)
 
 -- the Follow_Up follows this Sync: it is its master's last two-step Sync before it. Without a Follow_Up the Sync is
 -- one-step.
@@ -139,6 +139,7 @@ is_followed network (Some follow) origin =
     option_map_or (λ last. line_number last == line_number origin)
     (last_line network is_sync (site follow) follow.earlier) false
 
+-- 702: the Follow_Up's Sync is the report's, and the Delay_Req is the report's request
 abbrev pub are_paired : Network → Exchange → (sync request : LineJourney) → Bool
 are_paired network x sync request =
     is_followed network x.follow sync.origin && line_number request.origin == line_number x.request
@@ -164,6 +165,7 @@ is_domain (Some one) (Some other) = one.config.domain == other.config.domain
 is_domain (Some one) None = false
 is_domain None other = false
 
+-- 703: Sync and Delay_Resp are of the slave's present master, told before all lines of the report, in one domain
 abbrev pub is_of_master : Network → NodeName → LinePlace → Report → Exchange → (sync : LineJourney) → Bool
 is_of_master network slave e report x sync =
     is_present_master network slave (site sync.origin) e report
@@ -182,17 +184,19 @@ abbrev pub journey_reads_right : Network → LineJourney → Bool
 journey_reads_right network journey =
     reads_right network journey.origin && list_all (stay_reads_right network) journey.stays
 
+-- 705: all readings of the report and of its journeys are right
 abbrev pub are_readings : Network → Exchange → (sync request : LineJourney) → Bool
 are_readings network x sync request =
     reads_right network x.sync_arrival && journey_reads_right network sync
     && reads_right network x.request_arrival && journey_reads_right network request
 
--- 707: the residence fits the correctionField
+-- 707: the residence fits the correctionField (IEEE 1588-2019, 13.3.2.9)
 
 -- the fraction of a nanosecond that a message is sent with in its correctionField: only a one-step Sync is
 abbrev pub fraction_sent : LinePlace → ℕ
 fraction_sent e = if is_one_step_sync (event_of e) then fraction_of (reading e) else 0
 
+-- 707: what a message is sent with and its residence are below 2^63 - 1 (IEEE 1588-2019, 13.3.2.9)
 abbrev pub fits : LineJourney → Bool
 fits journey = nat_lt (fraction_sent journey.origin + line_residence journey) (2 ^ 63 - 1)
 
@@ -209,18 +213,20 @@ results_of x sync request = record {
   path2 = path2 (bracket x.sync_arrival sync) (bracket x.request_arrival request);
 }
 
+-- 706: the two results are those of the readings (IEEE 1588-2019, 11.2 and 11.3)
 abbrev pub are_results : Report → Exchange → (sync request : LineJourney) → Bool
 are_results report x sync request =
     int_eq report.offset2 (results_of x sync request).offset2
     && int_eq report.path2 (results_of x sync request).path2
 
--- 708: the octets are those that ports and clocks write
+-- 708: the octets are those that ports and clocks write (IEEE 1588-2019, 13.3 and 13.6 to 13.8)
 
 -- all octets of a journey: those that were sent, and those that left each clock
 abbrev pub journey_writes_right : Network → LineJourney → Bool
 journey_writes_right network journey =
     writes_right network journey.origin && list_all (λ stay. writes_right network stay.left) journey.stays
 
+-- 708: the octets of the report's messages are those that ports and clocks write
 abbrev pub are_octets : Network → Exchange → (sync request : LineJourney) → Bool
 are_octets network x sync request =
     journey_writes_right network sync && option_map_or (writes_right network) x.follow true

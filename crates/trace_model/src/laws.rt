@@ -84,9 +84,9 @@ pub fn each_message_is_written()
     ensures exchange { EachExchangeIsWritten }
 {}
 
-/// The checker misses nothing. Over runs of any length that are fresh and ticked, each line that tells
-/// a report meets every condition of a sound line but that on octets, which each exchange meets. So
-/// lines that tell the run are accepted, with the number of its reports.
+/// Nothing is missed: lines that tell a run which is fresh and ticked, of whatever length, are accepted, with
+/// the number of its reports. Each line that tells a report meets every condition of a sound line but that on
+/// octets, which each exchange meets.
 pub fn verdicts_miss_nothing()
     ensures { Complete }
 {}
