@@ -245,7 +245,8 @@ pub(crate) fn fields_at(known: Known<'_>, number: u64) -> Option<Fields> {
 
 /// Octets that an event made beside the message that it is to make; none where it is to make none.
 pub(crate) fn compare(known: Known<'_>, number: u64, octets: &[u8]) -> Option<Compared> {
-    Compared::of(octets, &known.checker.message_at(number)?)
+    let message = known.checker.message_at(number)?;
+    Compared::of(octets, &message)
 }
 
 /// The octets that an event made beside the message that it is to make; none where it made or is to make none.
