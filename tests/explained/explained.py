@@ -481,15 +481,6 @@ ONE_STEP = [
     '{"copy":5,"ev":"hear","n":6,"node":"S","offset2":"0","out":"report","path2":"0","tags":[2,null,3,6]}\n',
 ]
 
-# What is said where 705 or 708 stands against a report of a journey of more stays.
-LOOKED_AT = 'beyond what is wrong first, only the last 256 stays of the {} were looked at'
-
-
-def left_twice(message, enter):
-    """The line that tells of a stay that was left twice: the events by which it was are next to each other."""
-    return (f'    the {message} entered a clock by event {enter}, line {enter + 4}, and left it twice: '
-            f'by event {enter + 1}, line {enter + 5} and by event {enter + 2}, line {enter + 6}\n')
-
 
 def stays_of(events, stays, copy, octets, moment, twice):
     """Adds so many stays of a message, of which the first is of the copy of this number, and the one of that place is left twice."""
@@ -764,70 +755,14 @@ can't be followed back to where it was sent, or a stay on it was left twice
 
     def test_tells_how_much_of_a_journey_was_looked_at(self):
         for stays, message in ((300, 0), 'Sync'), ((0, 300), 'Delay_Req'):
-            with self.subTest(message=message):
-                output = explain(changed(staying(stays[0], 1, stays[1]), ('"hex":"0812', '"hex":"0802'))).output
-                self.assertIn(f'    {LOOKED_AT.format(message)}\n', output)
-
-    def test_tells_which_stay_of_a_long_journey_was_left_twice(self):
-        # A stay at one of 300 places: 44 is the first of the last 256. The Sync enters its first clock by event 2, and the Delay_Req by
-        # event 7, or by event 608 where the Sync has stays, too.
-        for stays, of_request, twice, report, left in [
-            (300, 0, 3, 609, [('Sync', 8)]),
-            (300, 0, 43, 609, [('Sync', 88)]),
-            (300, 0, 44, 609, [('Sync', 90)]),
-            (300, 0, 299, 609, [('Sync', 600)]),
-            (0, 300, 3, 609, [('Delay_Req', 13)]),
-            (0, 300, 299, 609, [('Delay_Req', 605)]),
-            # where a journey breaks that isn't the first that does is sought in its last stays alone
-            (300, 300, 3, 1210, [('Sync', 8)]),
-            (300, 300, 299, 1210, [('Sync', 600), ('Delay_Req', 1206)]),
-        ]:
-            with self.subTest(report=report, left=left):
-                ended = explain(staying(stays, 1, of_request, twice))
-                self.begins(ended.output, refused(report, report + 4, 704) + ''.join(map(left_twice, *zip(*left))) + '1 report: 0 sound\n')
-                self.assertEqual(ended.status, 1)
-
-    def test_tells_it_again_where_the_journey_is_reported_again(self):
-        # As it was, and after one more stay, at whose end the Sync arrives by event 613.
-        again = [
-            {'copy': 608, 'ev': 'hear', 'n': 610, 'node': 'S', 'offset2': '1', 'out': 'report', 'path2': '0', 'tags': [603, 605, 606, 610]},
-            {'at': [1, 0, 0], 'copy': 602, 'ev': 'enter', 'n': 611, 'node': 'T', 'out': 'entered', 'reading': [1, 0, 0]},
-            {'at': [1, 0, 0], 'ev': 'leave', 'hex': SYNC, 'n': 612, 'node': 'T', 'out': 'made', 'reading': [1, 0, 0], 'transit': 611},
-            {'at': [1, 0, 0], 'copy': 612, 'ev': 'arrive', 'n': 613, 'node': 'S', 'out': 'held', 'reading': [1, 0, 0]},
-            {'copy': 604, 'ev': 'hear', 'n': 614, 'node': 'S', 'out': 'completed'},
-            {'copy': 608, 'ev': 'hear', 'n': 615, 'node': 'S', 'offset2': '1', 'out': 'report', 'path2': '0', 'tags': [613, 614, 606, 615]},
-        ]
-        lines = (json.dumps(event, separators=(',', ':')) + '\n' for event in again)
-        ended = explain(staying(300, 1, 0, 3) + ''.join(lines))
-        self.begins(ended.output, ''.join(refused(report, report + 4, 704) + left_twice('Sync', 8) for report in (609, 610, 615)) + '3 reports: 0 sound\n')
-
-    def test_tells_where_a_long_journey_stops(self):
-        named = 'it names event 0, line 4, a setmaster at S, which'
-        for lines, place, old, new, report, said in [
-            (staying(300, 1), 5, '"copy":1', '"copy":0', 608, f'Sync stops at event 2, line 6: {named} sent no such message'),
-            (staying(300, 1), 5, '"copy":1', '"copy":7000', 608,
-             'Sync stops at event 2, line 6, which names event 7000; wanted is one before it'),
-            (staying(300, 1), 6, '"transit":2', '"transit":0', 608, f'Sync stops at event 3, line 7: {named} is no enter of this clock'),
-            (staying(0, 1, 300), 10, '"copy":5', '"copy":0', 608, f'Delay_Req stops at event 7, line 11: {named} sent no such message'),
-            # the Sync has a long journey without a fault
-            (staying(300, 1), 610, '"copy":605', '"copy":0', 608, f'Delay_Req stops at event 607, line 611: {named} sent no such message'),
-        ]:
-            with self.subTest(said=said):
-                ended = explain(changed(lines.splitlines(True), (old, new), place=place))
-                self.begins(ended.output, refused(report, report + 4, 704) + f'    the journey of the {said}\n1 report: 0 sound\n')
-                self.assertEqual(ended.status, 1)
-
-    def test_tells_of_readings_among_the_last_stays(self):
-        # The 250th stay is of events 500 and 501 where the Sync has it, and of 505 and 506 where the Delay_Req does.
-        for lines, message, enter, second in (staying(300, 1), 'Sync', 500, 1), (staying(0, 1, 300), 'Delay_Req', 505, 2):
-            with self.subTest(message=message):
-                output = explain(changed(lines.splitlines(True), (f'"reading":[{second},0,0]', f'"reading":[{second},5,0]'), place=enter + 3)).output
-                self.begins(output, refused(608, 612, 705) + f"""\
-    {LOOKED_AT.format(message)}
-    event {enter}, line {enter + 4}, an enter at T: read is {second}.000000005, the true moment is {second}.000000000, and they differ by 5 ns; \
-wanted is 0 ns, since no event set the clock
-    the clock reads 5 ns less at event {enter + 1}, line {enter + 5} than at event {enter}, line {enter + 4}; wanted is no less
-  and 706: """)
+            output = explain(changed(staying(stays[0], 1, stays[1]), ('"hex":"0812', '"hex":"0802'))).output
+            self.assertIn(f'    of the journey of the {message} only the last 256 stays were looked at\n', output)
+            for place, said in (3, "doesn't stop in its last 256 stays; those before them weren't looked at"), (299, None):
+                output = explain(staying(stays[0], 1, stays[1], place)).output
+                if said:
+                    self.assertIn(f'    the journey of the {message} {said}\n', output)
+                else:
+                    self.assertRegex(output, f'    the {message} entered a clock by event [0-9]+, .*, and left it twice: by event [0-9]+, .* and by event [0-9]+, ')
 
     def test_tells_what_is_wrong_first_before_the_stays_that_are_looked_at(self):
         octets = 'octet 0 from 0, in majorSdoId and messageType, is {}; wanted is {}'
@@ -844,7 +779,7 @@ wanted is 0 ns, since no event set the clock
                 self.assertEqual(output.count(f'    event {event}, line {event + 4}, '), 2 if 'reading' in old else 1)
                 self.assertIn(f"""
     event {event}, line {event + 4}, a leave at T: {said}
-    {LOOKED_AT.format(message)}
+    of the journey of the {message} only the last 256 stays were looked at
 """, output)
 
 

@@ -55,7 +55,7 @@ impl Flaws {
     {
         Flaws {
             first: FirstFault { line, what },
-            seen: LinesSeen::from(line, input),
+            seen: LinesSeen::before(line, input),
         }
     }
 
@@ -71,8 +71,8 @@ impl Flaws {
     {
         match self.first.what {
             TaskFault::World(why) => {
-                let first = self.first;
-                self.seen.refuse(alloc, first.line, before, why, line, text)
+                self.seen
+                    .refuse(alloc, self.first.line, before, why, line, text)
             }
             _ if self.first.line == 1 => self.seen.begin(alloc, line, text),
             _ => self.seen.look_at(alloc, self.first.line, line, text),
@@ -115,7 +115,7 @@ impl Flaws {
 
 impl LinesSeen {
     /// None was seen but what was read before this line.
-    fn from(line: u64, input: &Input) -> LinesSeen {
+    fn before(line: u64, input: &Input) -> LinesSeen {
         let (form, events) = match input {
             Input::Transcript(transcript) => match transcript.events() {
                 0 => (None, 0),

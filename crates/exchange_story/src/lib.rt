@@ -1,7 +1,6 @@
 //! What is wrong with the reports of a transcript, and what stands in the way of a schedule's event, told in sentences.
 #![tactic(auto)]
 
-mod broken;
 mod case;
 mod completing;
 mod differing;

@@ -1,8 +1,8 @@
-//! What the tags of a report name, where 701 stands against it.
+//! What the tags of a report name, where 701 stands against it, and where its messages came from, where 704 does.
 
 use crate::case::Case;
-use crate::journey::{End, Message, journey_to};
-use exchange_check::KeptLine;
+use crate::journey::{End, Message, journey_to, push_stop};
+use exchange_check::{KeptLine, Why};
 use network_model::Event;
 use ptp_units::Seq;
 use std::alloc::AllocError;
@@ -109,9 +109,14 @@ impl Case<'_> {
         }
     }
 
+    /// The copy that is heard by an event.
+    fn copy_heard(&self, number: u64) -> Option<u64> {
+        self.known.checker.line_at(number)?.event.heard_copy()
+    }
+
     /// What sent the message that is heard by an event, where it stands before that.
     fn sender(&self, number: u64) -> Option<KeptLine> {
-        let copy = self.known.copy_heard(number)?;
+        let copy = self.copy_heard(number)?;
         if copy >= number {
             return None;
         }
@@ -141,7 +146,7 @@ impl Case<'_> {
         };
         let journey = journey_to(self.alloc, self.known, message, arrival.number, copy)?;
         Ok(match journey.end {
-            Some(End::Sent(origin)) => Some(origin),
+            End::Sent(origin) => Some(origin),
             _ => None,
         })
     }
@@ -322,6 +327,83 @@ impl Case<'_> {
                 "    no event tells when the Delay_Req of {} left\n",
                 self.known.place(report.request_tag)
             ),
+        }
+    }
+
+    /// Appends where the journeys of the Sync and of the Delay_Req stop.
+    pub(crate) fn push_broken(&self, text: &mut String) -> Result<(), AllocError> {
+        let sync = self.end_of(Message::Sync)?;
+        let request = self.end_of(Message::Request)?;
+        match (sync, request) {
+            // One cause is told once.
+            (Some(twice @ End::LeftTwice { .. }), Some(other)) if twice == other => {
+                push_stop(text, self.known, "Sync and the Delay_Req", twice)
+            }
+            (Some(End::TooLong), _) => {
+                self.push_ways(text, self.stop_before(Message::Sync).or(sync), request)
+            }
+            (Some(End::Sent(_)), Some(End::TooLong)) => {
+                self.push_ways(text, sync, self.stop_before(Message::Request).or(request))
+            }
+            _ => self.push_ways(text, sync, request),
+        }
+    }
+
+    /// The event by which a message arrives, and the copy that arrives.
+    fn arrival_of(&self, message: Message) -> Option<(u64, u64)> {
+        let report = &self.reported.report;
+        let arrival = match message {
+            Message::Sync => report.sync_tag,
+            Message::Request => self.copy_heard(report.response_tag)?,
+        };
+        Some((arrival, self.copy_heard(arrival)?))
+    }
+
+    /// Where the journey of a message ends.
+    fn end_of(&self, message: Message) -> Result<Option<End>, AllocError> {
+        let Some((arrival, copy)) = self.arrival_of(message) else {
+            return Ok(None);
+        };
+        let journey = journey_to(self.alloc, self.known, message, arrival, copy)?;
+        Ok(Some(journey.end))
+    }
+
+    /// Where the journey of a message stops that has more stays than are followed, by what is found against the report.
+    fn stop_before(&self, message: Message) -> Option<End> {
+        let (_, copy) = self.arrival_of(message)?;
+        // On one that doesn't stop a stay was left twice, which would be sought among all its stays.
+        if self.known.checker.origin_of(copy).is_some() {
+            return None;
+        }
+        let finding = self.known.evidence.finding(
+            self.known.checker,
+            &self.reported.report,
+            Why::BrokenJourney,
+        )?;
+        End::found(message, finding)
+    }
+
+    /// Appends where the journeys of the Sync and of the Delay_Req end, unless they were sent there.
+    fn push_ways(
+        &self,
+        text: &mut String,
+        sync: Option<End>,
+        request: Option<End>,
+    ) -> Result<(), AllocError> {
+        self.push_way(text, Message::Sync, sync)?;
+        self.push_way(text, Message::Request, request)
+    }
+
+    /// Appends where the journey of a message ends, unless it was sent there.
+    fn push_way(
+        &self,
+        text: &mut String,
+        message: Message,
+        end: Option<End>,
+    ) -> Result<(), AllocError> {
+        match end {
+            Some(end) => push_stop(text, self.known, message.name(), end),
+            None => Ok(()),
         }
     }
 }

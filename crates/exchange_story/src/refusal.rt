@@ -69,17 +69,15 @@ fn push_obstacle(
         Obstacle::NoEvent { number } => {
             write!(text, "there is no event {number} before it; {there}")
         }
-        Obstacle::OtherEvent {
+        Obstacle::SentNothing { number, event } => write!(
+            text,
+            "event {number} is {}, which sent no message; {there}",
+            AnEvent(&event)
+        ),
+        Obstacle::NoEnter {
             number,
             event: other,
-        } => match refused.why {
-            WorldRefusal::NoCopy => write!(
-                text,
-                "event {number} is {}, which sent no message; {there}",
-                AnEvent(&other)
-            ),
-            _ => push_no_enter(text, event, number, &other),
-        },
+        } => push_no_enter(text, event, number, &other),
         Obstacle::LeftAlready { entered, left } => write!(
             text,
             "what entered by event {entered} left already by event {left}"
@@ -129,7 +127,7 @@ fn push_no_enter(
     other: &Event,
 ) -> Result<(), AllocError> {
     match other {
-        Event::Enter { node, .. } => write!(
+        Event::Enter { node, .. } if *node != event.node() => write!(
             text,
             "event {number} is an enter at {}, and this is a leave at {}",
             node.text(),

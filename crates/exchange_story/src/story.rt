@@ -5,15 +5,14 @@ ghost use Rattle.trace_model.specs.declared.verdict.Why.{Why};
 ghost use Rattle.exchange_story.specs.Counts.{counts_of, has_octets, TellsCounts, TellsMessages};
 ghost use Rattle.exchange_story.specs.Report.{TellsReport};
 
-use crate::broken::Broken;
 use crate::case::Case;
 use crate::completing::{Completions, push_unreported};
 use crate::differing::Differing;
 use crate::known::{Known, index_of};
-use crate::past::{Pasts, results_of};
+use crate::past::Pasts;
 use crate::report::{Reported, is_sound, push_sound};
 use crate::tally::Tally;
-use exchange_check::{Checker, Evidence, KeptLine, Results, TraceLine, TraceOut};
+use exchange_check::{Checker, Evidence, KeptLine, TraceLine, TraceOut};
 use network_model::NodeSpec;
 use std::alloc::{AllocError, Global};
 use std::marker::Model;
@@ -28,9 +27,6 @@ pub struct Story {
     /// How many messages have other octets than are written.
     differing: Differing,
     completions: Completions,
-    /// The results by the messages of the last report; none also where that is sound.
-    by_messages: Option<Results>,
-    broken: Broken,
     pasts: Pasts,
     tally: Tally,
 }
@@ -55,8 +51,6 @@ impl Story {
             evidence: Evidence::new(alloc),
             differing: Differing::new(),
             completions: Completions::new(alloc),
-            by_messages: None,
-            broken: Broken::new(alloc),
             pasts: Pasts::new(alloc),
             tally: Tally::new(),
         }
@@ -114,43 +108,29 @@ impl Story {
         ensures { (reports : List (List Why)) → self.old ≡ counts_of reports
             → OnOk result (self.new ≡ counts_of (reported.now.judgement.reasons ∷ reports)) }
     {
+        let right = self.is_right_by_messages(reported, checker);
         let slave = match checker {
             Some(checker) => index_of(checker, &reported.node),
             None => None,
         };
         self.pasts.push(slave, reported)?;
-        self.note_refused(reported, checker)?;
-        let right = self.is_right_by_messages(reported);
         self.tally.count(&reported.judgement.reasons, right);
         Ok(())
     }
 
-    /// Notes what is found of a report that isn't sound.
-    fn note_refused(
-        &mut self,
-        reported: &Reported,
-        checker: Option<&Checker>,
-    ) -> Result<(), AllocError>
-        ensures { self.new ≡ self.old }
-    {
-        self.by_messages = None;
-        let Some(checker) = checker else {
-            return Ok(());
-        };
+    /// Whether a report has the results by the messages. A sound one has: they are then those by the readings.
+    fn is_right_by_messages(&self, reported: &Reported, checker: Option<&Checker>) -> bool {
         if is_sound(reported) {
-            return Ok(());
+            return true;
         }
-        self.by_messages = self.evidence.by_messages(checker, &reported.report);
-        let known = Known {
-            checker,
-            evidence: &self.evidence,
+        let Some(checker) = checker else {
+            return false;
         };
-        self.broken.note(known, reported)
-    }
-
-    /// Whether the last report has the results by the messages. A sound one has: they are then those by the readings.
-    fn is_right_by_messages(&self, reported: &Reported) -> bool {
-        is_sound(reported) || self.by_messages == Some(results_of(&reported.report))
+        let report = &reported.report;
+        match self.evidence.by_messages(checker, report) {
+            Some(told) => told.offset2 == report.offset2 && told.path2 == report.path2,
+            None => false,
+        }
     }
 
     /// The nodes, in their order; of a transcript up to its first event.
@@ -158,7 +138,7 @@ impl Story {
         self.nodes.as_slice()
     }
 
-    /// Appends what the report that was counted last is judged to be; where it is refused, what the reasons against it met, its
+    /// Appends what the report of the last event is judged to be; where it is refused, what the reasons against it met, its
     /// exchange, and where the messages tell other results than the readings, these and which message does.
     pub fn push_report<'a>(
         &'a self,
@@ -181,8 +161,7 @@ impl Story {
             },
             reported,
             exchange: &exchange,
-            ends: self.broken.ends(),
-            by_messages: self.by_messages,
+            by_messages: self.evidence.by_messages(checker, &reported.report),
             past: match index_of(checker, &reported.node) {
                 Some(slave) => self.pasts.of(slave),
                 None => None,

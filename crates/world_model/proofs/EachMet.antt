@@ -1,7 +1,6 @@
 -- Where an event isn't accepted, something stands in its way.
 use Rattle.std.proofs.Common.{◌≡◌, ◌∙◌, ◌⊎◌, inl, inr, ℕ, ℤ, pos, ◌<◌, Bool, true, false, [], ◌∷◌, Result, Ok, Err, Option, Some, None, refl, sym, ap, subst, arith, if◌then◌else◌, option_map, option_and_then, length}
-use Rattle.std.specs.Prelude.{◌+ℤ◌, ok_or, is_some, IfSome, IsSome, unwrap_or, ◌&&◌, ◌||◌, not, nat_lt, ◌==◌, unsigned_abs}
-use Rattle.std.specs.List.{list_any}
+use Rattle.std.specs.Prelude.{◌+ℤ◌, ok_or, is_some, IfSome, IsSome, unwrap_or, ◌&&◌, ◌||◌, nat_lt, unsigned_abs}
 use Rattle.std.specs.Option.{option_map_or}
 use Rattle.std.proofs.lemmas.Bool.Decides.{nat_tests}
 use Rattle.ptp_units.specs.Moment.{bound, moment_of}
@@ -18,14 +17,14 @@ use Rattle.network_model.specs.declared.stepped.Outcome.{Outcome}
 use Rattle.network_model.specs.declared.stepped.Outcome.TheVariants.{Done, Made, Entered}
 use Rattle.network_model.specs.Network.{Network, NodeName, PortSetup, kind_of, is_named, master_port, slave_port}
 use Rattle.network_model.specs.Run.{Run, Place, place, place_at, site_of, tag_of, true_moment}
-use Rattle.network_model.specs.Kinds.{is_at, is_sync, is_follow, is_request, is_stamped, is_one_step_sync, draws_sync, is_step}
-use Rattle.network_model.specs.Kinds.{named_difference, is_leave_of}
+use Rattle.network_model.specs.Kinds.{is_at, is_sync, is_follow, is_request, is_stamped, is_one_step_sync, is_step}
+use Rattle.network_model.specs.Kinds.{named_difference}
 use Rattle.network_model.specs.Clock.{difference, reading, reading_of, clock_shows}
 use Rattle.network_model.specs.Numbering.{waiting_sync, waiting_request}
 use Rattle.network_model.specs.Truth.{copy_of}
 use Rattle.network_model.specs.Outcome.{◌>>=◌, node_as, clock_of, port_of, reads, open_transit, copy_in, left_outcome, arrived_outcome, heard, stamped_outcome}
 use Rattle.world_model.specs.declared.obstacle.Obstacle.TheVariants.{TooFar, NoSync, OneStepSync, FollowUpSent, NoDelayReq, DepartureTold}
-use Rattle.world_model.specs.Obstacle.{newest, obstacle_of, clock_set, follow_up_met, sync_met, request_met, IsMet}
+use Rattle.world_model.specs.Obstacle.{newest, is_sync_or_follow, obstacle_of, clock_set, follow_up_met, sync_met, request_met, IsMet}
 
 -- what is made of a value that is there is there
 some_mapped : {A B : Type 0} (f : A → B) (o : Option A) (x : A) → o ≡ Some x → is_some (option_map f o) ≡ true
@@ -123,51 +122,47 @@ module _ (network : Network) (run : Run) where
       elim (step_fails (reads event run) (λ (now : ℕ). Ok (outcome now)) why e)
       [ inl f ↦ reads_told event why within timed none f | inr p ↦ absurd (not_refused (outcome p.0) why p.2) ]
 
-  -- no Sync waits for its Follow_Up
-  sent_both : (node : NodeName) (run : Run) → waiting_sync node run ≡ None → newest (is_at is_follow node) run ≡ None → newest (is_at is_sync node) run ≡ None
-  sent_both node [] waits follow = refl
-  sent_both node (event ∷ earlier) waits follow = by (is_at is_sync node event) (is_at is_follow node event) waits follow (sent_both node earlier)
+  -- the last of a master's Syncs and Follow_Ups is a two-step Sync, so it waits
+  last_waits : (node : NodeName) (run : Run) (p : Place) → newest (is_at is_sync_or_follow node) run ≡ Some p
+      → is_one_step_sync p.event ≡ false → is_follow p.event ≡ false → waiting_sync node run ≡ Some p
+  last_waits node [] p there one follow = grind arith
+  last_waits node (event ∷ earlier) p there one follow =
+      by (is_sync event) (is_one_step_sync event) (is_follow event) refl refl (is_named (site_of event) node) there (λ rest. last_waits node earlier p rest one follow)
     where
-      by : (a b : Bool) → (if a then Some (place event earlier) else if b then None else waiting_sync node earlier) ≡ None
-          → (if b then Some (place event earlier) else newest (is_at is_follow node) earlier) ≡ None
-          → (waiting_sync node earlier ≡ None → newest (is_at is_follow node) earlier ≡ None → newest (is_at is_sync node) earlier ≡ None)
-          → (if a then Some (place event earlier) else newest (is_at is_sync node) earlier) ≡ None
-      by true b waits follow rest = waits
-      by false true waits follow rest = absurd (none_is follow)
+      by : (a b c : Bool) → is_one_step_sync event ≡ b → is_follow event ≡ c → (here : Bool)
+          → (if ((a || b) || c) && here then Some (place event earlier) else newest (is_at is_sync_or_follow node) earlier) ≡ Some p
+          → (newest (is_at is_sync_or_follow node) earlier ≡ Some p → waiting_sync node earlier ≡ Some p)
+          → (if a && here then Some (place event earlier) else if c && here then None else waiting_sync node earlier) ≡ Some p
+      by true b c isb isc true there rest = there
+      by true b c isb isc false there rest = rest_of c
         where
-          none_is : Some (place event earlier) ≡ None → ⊥
-          none_is e = grind arith
-      by false false waits follow rest = rest waits follow
+          rest_of : (c : Bool) → (if c && false then None else waiting_sync node earlier) ≡ Some p
+          rest_of true = rest there
+          rest_of false = rest there
+      by false true c isb isc true there rest = let same : place event earlier ≡ p = cc in
+          let yes : is_one_step_sync p.event ≡ true = subst (λ (q : Place). is_one_step_sync q.event ≡ true) same isb in cc
+      by false true true isb isc false there rest = rest there
+      by false true false isb isc false there rest = rest there
+      by false false true isb isc true there rest = let same : place event earlier ≡ p = cc in
+          let yes : is_follow p.event ≡ true = subst (λ (q : Place). is_follow q.event ≡ true) same isc in cc
+      by false false true isb isc false there rest = rest there
+      by false false false isb isc true there rest = rest there
+      by false false false isb isc false there rest = rest there
 
-  two_step : (node : NodeName) (run : Run) (p : Place) → newest (is_at draws_sync node) run ≡ Some p → is_one_step_sync p.event ≡ false
-      → IsSome (newest (is_at is_sync node) run)
-  two_step node [] p there none = grind arith
-  two_step node (event ∷ earlier) p there none = by (is_sync event) (is_one_step_sync event) refl (is_named (site_of event) node) there (two_step node earlier p)
-    where
-      by : (a b : Bool) → is_one_step_sync event ≡ b → (here : Bool) → (if (a || b) && here then Some (place event earlier) else newest (is_at draws_sync node) earlier) ≡ Some p
-          → (newest (is_at draws_sync node) earlier ≡ Some p → is_one_step_sync p.event ≡ false → IsSome (newest (is_at is_sync node) earlier))
-          → IsSome (if a && here then Some (place event earlier) else newest (is_at is_sync node) earlier)
-      by true b is true there rest = refl
-      by true b is false there rest = rest there none
-      by false true is true there rest = let same : place event earlier ≡ p = cc in
-          let one : is_one_step_sync p.event ≡ true = subst (λ (q : Place). is_one_step_sync q.event ≡ true) same is in cc
-      by false true is false there rest = rest there none
-      by false false is true there rest = rest there none
-      by false false is false there rest = rest there none
-
+  -- no Sync waits for its Follow_Up
   sync_told : (node : NodeName) (run : Run) → waiting_sync node run ≡ None → is_some (sync_met run node) ≡ true
-  sync_told node run waits = by (newest (is_at draws_sync node) run) refl
+  sync_told node run waits = by (newest (is_at is_sync_or_follow node) run) refl
     where
-      followed : (p : Place) → newest (is_at draws_sync node) run ≡ Some p → (one : Bool) → is_one_step_sync p.event ≡ one → (f : Option Place) → newest (is_at is_follow node) run ≡ f
-          → is_some (if one then Some (OneStepSync (tag_of p)) else option_map (λ (follow : Place). FollowUpSent (tag_of p) (tag_of follow)) f) ≡ true
-      followed p there true one f is = refl
-      followed p there false one (Some f) is = refl
-      followed p there false one None is = let none : newest (is_at is_sync node) run ≡ None = sent_both node run waits is in
-          let some : is_some (newest (is_at is_sync node) run) ≡ true = two_step node run p there one in cc
+      told : (p : Place) → newest (is_at is_sync_or_follow node) run ≡ Some p → (one follow : Bool) → is_one_step_sync p.event ≡ one → is_follow p.event ≡ follow
+          → is_some (if one then Some (OneStepSync (tag_of p)) else if follow
+          then Some (option_map_or (λ (sync : Place). FollowUpSent (tag_of sync) (tag_of p)) (newest (is_at is_sync node) run) NoSync) else None) ≡ true
+      told p there true follow one is = refl
+      told p there false true one is = refl
+      told p there false false one is = let waiting : waiting_sync node run ≡ Some p = last_waits node run p there one is in cc
 
-      by : (s : Option Place) → newest (is_at draws_sync node) run ≡ s → is_some (option_map_or (follow_up_met run node) s (Some NoSync)) ≡ true
+      by : (s : Option Place) → newest (is_at is_sync_or_follow node) run ≡ s → is_some (option_map_or (follow_up_met run node) s (Some NoSync)) ≡ true
       by None is = refl
-      by (Some p) is = followed p is (is_one_step_sync p.event) refl (newest (is_at is_follow node) run) refl
+      by (Some p) is = told p is (is_one_step_sync p.event) (is_follow p.event) refl refl
 
   -- no Delay_Req waits for its departure time
   told_both : (node : NodeName) (run : Run) → waiting_request node run ≡ None → newest (is_at is_stamped node) run ≡ None → newest (is_at is_request node) run ≡ None

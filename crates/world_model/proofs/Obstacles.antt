@@ -1,5 +1,5 @@
 -- Events of a run, whose list has the oldest first.
-use Rattle.std.proofs.Common.{◌≡◌, ◌∙◌, ℕ, ◌==◌, Bool, true, false, List, [], ◌∷◌, ◌++◌, length, reverse, slice_get, if◌then◌else◌, Some, None, option_map, refl, sym, ap}
+use Rattle.std.proofs.Common.{◌≡◌, ◌∙◌, ℕ, ◌==◌, Bool, true, false, List, [], ◌∷◌, length, reverse, slice_get, if◌then◌else◌, Some, option_map, refl, sym, ap}
 use Rattle.std.proofs.lemmas.List.{reverse-append, length-reverse, reverse-reverse}
 use Rattle.network_model.specs.declared.event.Event.{Event}
 use Rattle.network_model.specs.Run.{Run, Place, place, place_at}

@@ -1,5 +1,5 @@
 -- What stands in the way of an event that isn't accepted: what the first refusal met that applies to it.
-use Rattle.std.specs.Prelude.{ℕ, Bool, false, ◌&&◌, [], ◌∷◌, if◌then◌else◌, is_some, Option, Some, None, option_map, option_and_then, unwrap_or, ◌≡◌, ◌<◌, IfSome, IsSome, Err}
+use Rattle.std.specs.Prelude.{ℕ, Bool, false, ◌&&◌, ◌||◌, [], ◌∷◌, if◌then◌else◌, is_some, Option, Some, None, option_map, option_and_then, unwrap_or, ◌≡◌, ◌<◌, IfSome, IsSome, Err}
 use Rattle.std.specs.Option.{option_map_or}
 use Rattle.ptp_units.specs.Moment.{bound}
 use Rattle.network_model.specs.declared.event.Event.{Event}
@@ -9,11 +9,11 @@ use Rattle.network_model.specs.declared.refusal.WorldRefusal.{WorldRefusal}
 use Rattle.network_model.specs.declared.refusal.WorldRefusal.TheVariants as refusals
 use Rattle.network_model.specs.Network.{Network, NodeName, kind_of, is_named}
 use Rattle.network_model.specs.Run.{Run, Place, place, place_at, tag_of, site_of, true_moment}
-use Rattle.network_model.specs.Kinds.{is_at, draws_sync, is_one_step_sync, is_follow, is_request, is_stamped, is_step}
+use Rattle.network_model.specs.Kinds.{is_at, is_sync, draws_sync, is_one_step_sync, is_follow, is_request, is_stamped, is_step}
 use Rattle.network_model.specs.Kinds.{named_copy, named_transit, named_master, named_difference, entered_copy, is_leave_of}
 use Rattle.network_model.specs.Outcome.{outcome_of}
 use Rattle.world_model.specs.declared.obstacle.Obstacle.{Obstacle}
-use Rattle.world_model.specs.declared.obstacle.Obstacle.TheVariants.{NoNode, OtherKind, NoEvent, OtherEvent, LeftAlready}
+use Rattle.world_model.specs.declared.obstacle.Obstacle.TheVariants.{NoNode, OtherKind, NoEvent, SentNothing, NoEnter, LeftAlready}
 use Rattle.world_model.specs.declared.obstacle.Obstacle.TheVariants.{TooFar, ClockSet, NoSync, OneStepSync, FollowUpSent}
 use Rattle.world_model.specs.declared.obstacle.Obstacle.TheVariants.{NoDelayReq, DepartureTold}
 
@@ -32,9 +32,13 @@ abbrev pub kinds_met : Network → Event → Option Obstacle
 kinds_met network event =
     option_map (λ kind. OtherKind kind (option_and_then (kind_of network) (named_master event))) (kind_of network (site_of event))
 
--- the event of a number that is named, or that there is none
-abbrev pub event_met : Run → ℕ → Obstacle
-event_met run number = option_map_or (λ p. OtherEvent number p.event) (place_at run number) (NoEvent number)
+-- the event of this number sent no message, or there is none
+abbrev pub copy_met : Run → ℕ → Obstacle
+copy_met run number = option_map_or (λ p. SentNothing number p.event) (place_at run number) (NoEvent number)
+
+-- the event of this number is no enter of the clock that is asked for, or there is none
+abbrev pub enter_met : Run → ℕ → Obstacle
+enter_met run number = option_map_or (λ p. NoEnter number p.event) (place_at run number) (NoEvent number)
 
 -- a message entered this clock by the event of this number
 abbrev pub is_entered_at : Run → NodeName → ℕ → Bool
@@ -45,8 +49,8 @@ is_entered_at run clock number =
 abbrev pub stay_met : Run → NodeName → ℕ → Obstacle
 stay_met run clock entered =
     if is_entered_at run clock entered
-    then option_map_or (λ left. LeftAlready entered (tag_of left)) (newest (is_leave_of entered) run) (event_met run entered)
-    else event_met run entered
+    then option_map_or (λ left. LeftAlready entered (tag_of left)) (newest (is_leave_of entered) run) (enter_met run entered)
+    else enter_met run entered
 
 -- the event that set a clock last, with the difference that it set
 abbrev pub clock_set : Place → Option Obstacle
@@ -58,15 +62,21 @@ clock_met run event =
     option_map_or (λ difference. Some (TooFar difference)) (named_difference event)
     (option_and_then clock_set (newest (is_at is_step (site_of event)) run))
 
--- the Follow_Up of this Sync, the last one of the master, was sent already, or it has none
+-- a master sends a Sync, two-step or one-step, or a Follow_Up
+abbrev pub is_sync_or_follow : Event → Bool
+is_sync_or_follow event = draws_sync event || is_follow event
+
+-- what stands in the way of a Follow_Up behind this, the last Sync or Follow_Up of the master
 abbrev pub follow_up_met : Run → NodeName → Place → Option Obstacle
-follow_up_met run master sync =
-    if is_one_step_sync sync.event then Some (OneStepSync (tag_of sync))
-    else option_map (λ follow. FollowUpSent (tag_of sync) (tag_of follow)) (newest (is_at is_follow master) run)
+follow_up_met run master last =
+    if is_one_step_sync last.event then Some (OneStepSync (tag_of last))
+    else if is_follow last.event
+    then Some (option_map_or (λ sync. FollowUpSent (tag_of sync) (tag_of last)) (newest (is_at is_sync master) run) NoSync)
+    else None
 
 -- why no Sync of this master waits for its Follow_Up
 abbrev pub sync_met : Run → NodeName → Option Obstacle
-sync_met run master = option_map_or (follow_up_met run master) (newest (is_at draws_sync master) run) (Some NoSync)
+sync_met run master = option_map_or (follow_up_met run master) (newest (is_at is_sync_or_follow master) run) (Some NoSync)
 
 -- when this Delay_Req departed, the last one of the slave, was told already
 abbrev pub departure_met : Run → NodeName → Place → Option Obstacle
@@ -96,7 +106,7 @@ waiting_met run (StepClock node diff) = None
 abbrev pub obstacle_of : Network → Run → Event → WorldRefusal → Option Obstacle
 obstacle_of network run event refusals.NoNode = Some (NoNode (missing_name network event))
 obstacle_of network run event refusals.WrongKind = kinds_met network event
-obstacle_of network run event refusals.NoCopy = option_map (event_met run) (named_copy event)
+obstacle_of network run event refusals.NoCopy = option_map (copy_met run) (named_copy event)
 obstacle_of network run event refusals.NoTransit = option_map (stay_met run (site_of event)) (named_transit event)
 obstacle_of network run event refusals.ReadingOutOfRange = clock_met run event
 obstacle_of network run event refusals.NothingWaiting = waiting_met run event

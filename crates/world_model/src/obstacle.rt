@@ -1,9 +1,8 @@
 //! What stands in the way of an event that a world refuses.
-ghost use Rattle.std.specs.Prelude.{◌≡◌, ℕ, Bool, option_map, option_copied, reverse};
-ghost use Rattle.network_model.specs.declared.event.Event.{Event};
-ghost use Rattle.network_model.specs.Network.{node_of, kind_of};
+ghost use Rattle.std.specs.Prelude.{◌≡◌, option_map, reverse};
+ghost use Rattle.network_model.specs.Network.{kind_of};
 ghost use Rattle.network_model.specs.Run.{place_at};
-ghost use Rattle.world_model.specs.Obstacle.{newest, obstacle_of, missing_name, kinds_met, event_met, stay_met};
+ghost use Rattle.world_model.specs.Obstacle.{newest, obstacle_of, missing_name, kinds_met, copy_met, enter_met, stay_met};
 ghost use Rattle.world_model.specs.Obstacle.{is_entered_at, clock_met, sync_met, request_met, waiting_met, IsMet};
 ghost use Rattle.world_model.specs.Inner.Sought.{numbered, sought};
 
@@ -30,8 +29,15 @@ pub enum Obstacle {
         /// This number.
         number: u64,
     },
-    /// The event of the number that it names sent no message (605), or isn't one by which a message entered this clock (606).
-    OtherEvent {
+    /// The event of the number that it names sent no message (605).
+    SentNothing {
+        /// This number.
+        number: u64,
+        /// This event.
+        event: Event,
+    },
+    /// The event of the number that it names isn't one by which a message entered this clock (606).
+    NoEnter {
         /// This number.
         number: u64,
         /// This event.
@@ -56,14 +62,14 @@ pub enum Obstacle {
         /// By how much the clock is ahead of the true time since then, in units of 2^-16 ns.
         difference: i128,
     },
-    /// The master sent no Sync (608).
+    /// The master sent no Sync that has a Follow_Up, and nothing after it (608).
     NoSync,
-    /// The master's last Sync is a one-step Sync, which has no Follow_Up (608).
+    /// What the master sent last is a one-step Sync, which has no Follow_Up (608).
     OneStepSync {
         /// The event by which it was sent.
         sync: u64,
     },
-    /// The Follow_Up of the master's last Sync was sent already (608).
+    /// What the master sent last, but for answers, is the Follow_Up of its last two-step Sync (608).
     FollowUpSent {
         /// The event by which the Sync was sent.
         sync: u64,
@@ -91,10 +97,10 @@ pub(crate) struct NumberedEvent {
 /// What is looked for among the events of a run.
 #[derive(Clone, Copy)]
 pub(crate) enum Sought {
-    /// A Sync of this master, two-step or one-step.
-    Sync(Name),
-    /// A Follow_Up of this master.
-    FollowUp(Name),
+    /// A two-step Sync of this master.
+    TwoStepSync(Name),
+    /// A Sync of this master, two-step or one-step, or a Follow_Up.
+    SyncOrFollowUp(Name),
     /// A Delay_Req of this slave.
     DelayReq(Name),
     /// That this slave learnt when its Delay_Req departed.
@@ -111,8 +117,12 @@ impl Sought {
         ensures { result ≡ sought self.now event.now }
     {
         match self {
-            Sought::Sync(node) => event.draws_sync() && event.node() == *node,
-            Sought::FollowUp(node) => event.is_follow() && event.node() == *node,
+            Sought::TwoStepSync(node) => {
+                matches!(event, Event::Sync { .. }) && event.node() == *node
+            }
+            Sought::SyncOrFollowUp(node) => {
+                (event.draws_sync() || event.is_follow()) && event.node() == *node
+            }
             Sought::DelayReq(node) => event.is_request() && event.node() == *node,
             Sought::Departure(node) => {
                 matches!(event, Event::Stamped { .. }) && event.node() == *node
@@ -190,7 +200,7 @@ fn first_obstacle(
             name: missing_name(nodes, event),
         }),
         WorldRefusal::WrongKind => kind_obstacle(nodes, event),
-        WorldRefusal::NoCopy => Some(event_obstacle(events, event.named_copy()?)),
+        WorldRefusal::NoCopy => Some(copy_obstacle(events, event.named_copy()?)),
         WorldRefusal::NoTransit => Some(stay_obstacle(
             events,
             event.node(),
@@ -225,12 +235,22 @@ fn kind_obstacle(nodes: &[NodeSpec], event: &Event) -> Option<Obstacle>
     Some(Obstacle::OtherKind { kind, master })
 }
 
-/// The event of a number that is named.
-fn event_obstacle(events: &[Event], number: u64) -> Obstacle
-    ensures { result ≡ event_met (reverse events.now) number }
+/// Why no copy goes by this number.
+fn copy_obstacle(events: &[Event], number: u64) -> Obstacle
+    ensures { result ≡ copy_met (reverse events.now) number }
 {
     match event_numbered(events, number) {
-        Some(event) => Obstacle::OtherEvent { number, event },
+        Some(event) => Obstacle::SentNothing { number, event },
+        None => Obstacle::NoEvent { number },
+    }
+}
+
+/// Why no message entered a clock by the event of this number.
+fn enter_obstacle(events: &[Event], number: u64) -> Obstacle
+    ensures { result ≡ enter_met (reverse events.now) number }
+{
+    match event_numbered(events, number) {
+        Some(event) => Obstacle::NoEnter { number, event },
         None => Obstacle::NoEvent { number },
     }
 }
@@ -250,14 +270,14 @@ fn stay_obstacle(events: &[Event], clock: Name, entered: u64) -> Obstacle
     ensures { result ≡ stay_met (reverse events.now) clock entered }
 {
     if !is_entered(events, clock, entered) {
-        return event_obstacle(events, entered);
+        return enter_obstacle(events, entered);
     }
     match Sought::Leave(entered).newest(events) {
         Some(left) => Obstacle::LeftAlready {
             entered,
             left: left.number,
         },
-        None => event_obstacle(events, entered),
+        None => enter_obstacle(events, entered),
     }
 }
 
@@ -291,20 +311,22 @@ fn waiting_obstacle(events: &[Event], event: &Event) -> Option<Obstacle>
 fn sync_obstacle(events: &[Event], master: Name) -> Option<Obstacle>
     ensures { result ≡ sync_met (reverse events.now) master }
 {
-    let Some(
-        NumberedEvent {
-            number: sync,
-            event,
-        },
-    ) = Sought::Sync(master).newest(events)
-    else {
+    let Some(NumberedEvent { number, event }) = Sought::SyncOrFollowUp(master).newest(events) else {
         return Some(Obstacle::NoSync);
     };
     if event.is_one_step_sync() {
-        return Some(Obstacle::OneStepSync { sync });
+        return Some(Obstacle::OneStepSync { sync: number });
     }
-    let follow_up = Sought::FollowUp(master).newest(events)?.number;
-    Some(Obstacle::FollowUpSent { sync, follow_up })
+    if !event.is_follow() {
+        return None;
+    }
+    match Sought::TwoStepSync(master).newest(events) {
+        Some(sync) => Some(Obstacle::FollowUpSent {
+            sync: sync.number,
+            follow_up: number,
+        }),
+        None => Some(Obstacle::NoSync),
+    }
 }
 
 /// Why no Delay_Req of this slave waits for its departure time.
