@@ -73,8 +73,7 @@ impl Summary {
         }
     }
 
-    /// Tells the summary, in lines: whom the input is of, only what is known, where that wasn't enough. What can't be
-    /// written is lost.
+    /// Tells the summary, in lines; of whom the input is only what is known, if not all is. What can't be written is lost.
     pub fn tell<E: Write>(&self, errors: &mut E) {
         match &self.of {
             Measured::Lines(lines) => lines.tell(self.whom, self.counts, errors),
