@@ -94,7 +94,7 @@ impl Story {
             checker,
             evidence: &self.evidence,
         };
-        self.differing.count(known, line, out);
+        self.differing.count(known, line);
         let reports = matches!(out, TraceOut::Report(_));
         self.completions.count(known, line, reports)
     }
