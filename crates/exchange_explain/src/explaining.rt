@@ -262,8 +262,8 @@ impl Explaining {
         if let Some(flaws) = &self.flaws {
             flaws.push_end(self.alloc, &mut self.text)?;
             return Ok(Explained::Flawed {
-                line: flaws.line,
-                what: flaws.what,
+                line: flaws.first.line,
+                what: flaws.first.what,
             });
         }
         match self.input.found() {

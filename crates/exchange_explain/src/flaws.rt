@@ -2,23 +2,36 @@
 ghost use Rattle.std.specs.Prelude.{◌≡◌};
 
 use crate::input::Input;
-use exchange_story::{Before, push_clash, push_refused};
+use exchange_story::{Before, RefusedEvent, push_clash, push_refused};
 use line_flaws::{Flaw, FlawAt, Foreign, Form, schedule_flaw, transcript_flaw};
 use network_model::WorldRefusal;
 use schedule_lines::Line;
 use schedule_reading::{TaskFault, read_entry};
 use std::alloc::{AllocError, Global};
+use world_model::obstacle_to;
 
 /// The most lines whose flaw is told.
 const TOLD_MOST: u64 = 20;
 
+/// The first fault of an input.
+#[derive(Clone, Copy, Debug)]
+pub(crate) struct FirstFault {
+    /// Its line, counted from 1.
+    pub(crate) line: u64,
+    /// What it is.
+    pub(crate) what: TaskFault,
+}
+
 /// The first fault of an input, and what was seen of lines from there on.
 #[derive(Clone, Copy, Debug)]
 pub(crate) struct Flaws {
-    /// The line of the first fault, counted from 1.
-    pub(crate) line: u64,
-    /// The first fault.
-    pub(crate) what: TaskFault,
+    pub(crate) first: FirstFault,
+    seen: LinesSeen,
+}
+
+/// What was seen of the lines of an input from that of its first fault on.
+#[derive(Clone, Copy, Debug)]
+struct LinesSeen {
     /// Whether the input is of another kind, so that flaws of lines say nothing.
     foreign: bool,
     /// Whether the first line is empty, and nothing was told of it yet.
@@ -38,25 +51,11 @@ pub(crate) struct Flaws {
 impl Flaws {
     /// The first fault of an input is at this line, after what was read so far.
     pub(crate) fn new(line: u64, what: TaskFault, input: &Input) -> Flaws
-        ensures { (result.line ≡ line) × (result.what ≡ what) }
+        ensures { (result.first.line ≡ line) × (result.first.what ≡ what) }
     {
-        let (form, events) = match input {
-            Input::Transcript(transcript) => match transcript.events() {
-                0 => (None, 0),
-                events => (Some(Form::Transcript), events),
-            },
-            Input::Schedule(schedule) => (Some(Form::Schedule), schedule.len()),
-        };
         Flaws {
-            line,
-            what,
-            foreign: false,
-            empty: false,
-            form,
-            count: 0,
-            events,
-            or_at: None,
-            last: line,
+            first: FirstFault { line, what },
+            seen: LinesSeen::before(line, input),
         }
     }
 
@@ -68,60 +67,16 @@ impl Flaws {
         line: &[u8],
         text: &mut String,
     ) -> Result<(), AllocError>
-        ensures { (self.new.line ≡ self.old.line) × (self.new.what ≡ self.old.what) }
+        ensures { self.new.first ≡ self.old.first }
     {
-        if let TaskFault::World(why) = self.what {
-            return self.refuse(alloc, before, why, line, text);
+        match self.first.what {
+            TaskFault::World(why) => {
+                self.seen
+                    .refuse(alloc, self.first.line, before, why, line, text)
+            }
+            _ if self.first.line == 1 => self.seen.begin(alloc, line, text),
+            _ => self.seen.look_at(alloc, self.first.line, line, text),
         }
-        if self.line != 1 {
-            return self.look_at(alloc, self.line, line, text);
-        }
-        self.empty = line.is_empty();
-        match Foreign::of(line) {
-            _ if self.empty => Ok(()),
-            Some(kind) => self.tell_foreign(kind, text),
-            None => self.look_at(alloc, 1, line, text),
-        }
-    }
-
-    /// Appends why the network refuses the event of the line of the first fault, or its nodes are no network.
-    fn refuse(
-        &mut self,
-        alloc: Global,
-        before: Before<'_>,
-        why: WorldRefusal,
-        line: &[u8],
-        text: &mut String,
-    ) -> Result<(), AllocError>
-        ensures { (self.new.line ≡ self.old.line) × (self.new.what ≡ self.old.what) }
-    {
-        self.see(line);
-        self.pass(line);
-        self.count = 1;
-        if let WorldRefusal::SameName | WorldRefusal::SameIdentity = why {
-            return push_clash(alloc, text, before.nodes, why);
-        }
-        // Events of a transcript are refused for nothing else.
-        self.form = Some(Form::Schedule);
-        match read_entry(alloc, line) {
-            Ok(Line::Event(event)) => push_refused(text, self.line, before, &event, why),
-            Err(TaskFault::Memory) => Err(AllocError),
-            _ => write!(text, "line {}: {}: {why}\n", self.line, why.code()),
-        }
-    }
-
-    /// Appends that the input is of another kind.
-    fn tell_foreign(&mut self, kind: Foreign, text: &mut String) -> Result<(), AllocError>
-        ensures { (self.new.line ≡ self.old.line) × (self.new.what ≡ self.old.what) }
-    {
-        self.foreign = true;
-        self.empty = false;
-        push_foreign(text, kind)
-    }
-
-    /// Whether the input is of another kind.
-    pub(crate) fn is_foreign(&self) -> bool {
-        self.foreign
     }
 
     /// Looks at a line after that of the first fault, and appends what is wrong with it.
@@ -131,8 +86,108 @@ impl Flaws {
         line: &[u8],
         text: &mut String,
     ) -> Result<(), AllocError>
-        ensures { (self.new.line ≡ self.old.line) × (self.new.what ≡ self.old.what) }
+        ensures { self.new.first ≡ self.old.first }
     {
+        self.seen.look(alloc, line, text)
+    }
+
+    /// Whether the input is of another kind.
+    pub(crate) fn is_foreign(&self) -> bool {
+        self.seen.foreign
+    }
+
+    /// Appends a first line that is empty, where it wasn't told, and how many lines weren't.
+    pub(crate) fn push_untold(&self, alloc: Global, text: &mut String) -> Result<(), AllocError> {
+        self.seen.push_untold(alloc, text)
+    }
+
+    /// Appends how many lines weren't told, and from where on nothing was judged or happened.
+    pub(crate) fn push_end(&self, alloc: Global, text: &mut String) -> Result<(), AllocError> {
+        self.push_untold(alloc, text)?;
+        let line = self.first.line;
+        match (self.seen.foreign, self.seen.form) {
+            (true, _) => Ok(()),
+            (_, Some(Form::Schedule)) => write!(text, "no event happens from line {line} on\n"),
+            _ => write!(text, "no report was judged from line {line} on\n"),
+        }
+    }
+}
+
+impl LinesSeen {
+    /// None was seen but what was read before this line.
+    fn before(line: u64, input: &Input) -> LinesSeen {
+        let (form, events) = match input {
+            Input::Transcript(transcript) => match transcript.events() {
+                0 => (None, 0),
+                events => (Some(Form::Transcript), events),
+            },
+            Input::Schedule(schedule) => (Some(Form::Schedule), schedule.len()),
+        };
+        LinesSeen {
+            foreign: false,
+            empty: false,
+            form,
+            count: 0,
+            events,
+            or_at: None,
+            last: line,
+        }
+    }
+
+    /// Looks at the first line of the input, which has the first fault, and appends what is wrong with it or of which kind
+    /// the input is.
+    fn begin(&mut self, alloc: Global, line: &[u8], text: &mut String) -> Result<(), AllocError> {
+        self.empty = line.is_empty();
+        match Foreign::of(line) {
+            _ if self.empty => Ok(()),
+            Some(kind) => self.tell_foreign(kind, text),
+            None => self.look_at(alloc, 1, line, text),
+        }
+    }
+
+    /// Appends why the network refuses the event of this line, or its nodes are no network.
+    fn refuse(
+        &mut self,
+        alloc: Global,
+        number: u64,
+        before: Before<'_>,
+        why: WorldRefusal,
+        line: &[u8],
+        text: &mut String,
+    ) -> Result<(), AllocError> {
+        self.see(line);
+        self.pass(line);
+        self.count = 1;
+        if let WorldRefusal::SameName | WorldRefusal::SameIdentity = why {
+            return push_clash(alloc, text, before.nodes, why);
+        }
+        // Events of a transcript are refused for nothing else.
+        self.form = Some(Form::Schedule);
+        match read_entry(alloc, line) {
+            Ok(Line::Event(event)) => push_refused(
+                text,
+                &RefusedEvent {
+                    before,
+                    line: number,
+                    event: &event,
+                    why,
+                    obstacle: obstacle_to(before.nodes, before.events, &event, why),
+                },
+            ),
+            Err(TaskFault::Memory) => Err(AllocError),
+            _ => write!(text, "line {number}: {}: {why}\n", why.code()),
+        }
+    }
+
+    /// Appends that the input is of another kind.
+    fn tell_foreign(&mut self, kind: Foreign, text: &mut String) -> Result<(), AllocError> {
+        self.foreign = true;
+        self.empty = false;
+        push_foreign(text, kind)
+    }
+
+    /// Looks at the next line, and appends what is wrong with it.
+    fn look(&mut self, alloc: Global, line: &[u8], text: &mut String) -> Result<(), AllocError> {
         self.last = self.last.saturating_add(1);
         if self.foreign {
             return Ok(());
@@ -147,9 +202,7 @@ impl Flaws {
     }
 
     /// Appends what is wrong with a first line that is empty.
-    fn look_at_empty(&mut self, alloc: Global, text: &mut String) -> Result<(), AllocError>
-        ensures { (self.new.line ≡ self.old.line) × (self.new.what ≡ self.old.what) }
-    {
+    fn look_at_empty(&mut self, alloc: Global, text: &mut String) -> Result<(), AllocError> {
         self.empty = false;
         self.look_at(alloc, 1, &[], text)
     }
@@ -161,9 +214,7 @@ impl Flaws {
         number: u64,
         line: &[u8],
         text: &mut String,
-    ) -> Result<(), AllocError>
-        ensures { (self.new.line ≡ self.old.line) × (self.new.what ≡ self.old.what) }
-    {
+    ) -> Result<(), AllocError> {
         self.see(line);
         let flaw = match self.form {
             Some(Form::Schedule) => schedule_flaw(alloc, line, self.events)?,
@@ -189,9 +240,7 @@ impl Flaws {
     }
 
     /// Sees by the first event what the lines are to be: those of a transcript have what came of events.
-    fn see(&mut self, line: &[u8])
-        ensures { (self.new.line ≡ self.old.line) × (self.new.what ≡ self.old.what) }
-    {
+    fn see(&mut self, line: &[u8]) {
         if self.form.is_some() || !has_key(line, b"\"ev\"") {
             return;
         }
@@ -203,9 +252,7 @@ impl Flaws {
     }
 
     /// Passes a line, which is an event's where it says so, or where an object begins in it and there was one.
-    fn pass(&mut self, line: &[u8])
-        ensures { (self.new.line ≡ self.old.line) × (self.new.what ≡ self.old.what) }
-    {
+    fn pass(&mut self, line: &[u8]) {
         let begins = line.contains(&b'{');
         if has_key(line, b"\"ev\"") || begins && (self.events > 0 || has_key(line, b"\"out\"")) {
             self.events = self.events.saturating_add(1);
@@ -215,9 +262,7 @@ impl Flaws {
 
     /// Passes an event of this number, which isn't its place. Answers whether it goes on where one before it gave a
     /// wrong number.
-    fn pass_out_of_place(&mut self, number: u64) -> bool
-        ensures { (self.new.line ≡ self.old.line) × (self.new.what ≡ self.old.what) }
-    {
+    fn pass_out_of_place(&mut self, number: u64) -> bool {
         let goes_on = self.or_at == Some(number);
         self.or_at = if goes_on {
             None
@@ -229,29 +274,15 @@ impl Flaws {
     }
 
     /// Appends a first line that is empty, where it wasn't told, and how many lines weren't.
-    pub(crate) fn push_untold(&self, alloc: Global, text: &mut String) -> Result<(), AllocError> {
+    fn push_untold(&self, alloc: Global, text: &mut String) -> Result<(), AllocError> {
         if self.empty {
-            let mut flaws = *self;
-            flaws.look_at_empty(alloc, text)?;
+            let mut lines = *self;
+            lines.look_at_empty(alloc, text)?;
         }
         match self.count.checked_sub(TOLD_MOST) {
             None | Some(0) => Ok(()),
             Some(1) => text.push_str("and 1 line more\n"),
             Some(more) => write!(text, "and {more} lines more\n"),
-        }
-    }
-
-    /// Appends how many lines weren't told, and from where on nothing was judged or happened.
-    pub(crate) fn push_end(&self, alloc: Global, text: &mut String) -> Result<(), AllocError> {
-        self.push_untold(alloc, text)?;
-        match (self.foreign, self.form) {
-            (true, _) => Ok(()),
-            (_, Some(Form::Schedule)) => write!(
-                text,
-                "no event happens from line {} on\n",
-                self.line
-            ),
-            _ => write!(text, "no report was judged from line {} on\n", self.line),
         }
     }
 }

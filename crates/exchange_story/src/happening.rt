@@ -1,6 +1,6 @@
 //! Events and nodes in words.
 
-use network_model::{Event, Name, NodeKind, NodeSpec};
+use network_model::{Event, NodeKind};
 use std::fmt;
 use std::fmt::{Display, Formatter};
 
@@ -68,9 +68,4 @@ impl Display for Numbers {
             Some(last) => write!(f, "there are events 0 to {last}"),
         }
     }
-}
-
-/// The node of this name.
-pub(crate) fn node_named<'a>(nodes: &'a [NodeSpec], name: &Name) -> Option<&'a NodeSpec> {
-    nodes.iter().find(|node| node.name == *name)
 }

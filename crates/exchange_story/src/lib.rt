@@ -24,6 +24,6 @@ mod telling;
 mod wrong_field;
 mod wrong_value;
 
-pub use refusal::{Before, push_clash, push_refused};
+pub use refusal::{Before, RefusedEvent, push_clash, push_refused};
 pub use report::Reported;
 pub use story::Story;

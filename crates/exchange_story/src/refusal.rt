@@ -1,13 +1,13 @@
 //! Why an event of a schedule can't happen, or nodes are no network, for a person.
 
-use crate::happening::{AKind, AnEvent, Numbers, needed_kind, node_named};
+use crate::happening::{AKind, AnEvent, Numbers, needed_kind};
 use crate::moments::{Length, Moment, signed_units};
 use datagram_text::Identity;
 use event_codec::PortIdentity;
 use network_model::{Event, Name, NodeKind, NodeSpec, WorldRefusal};
-use ptp_units::ScaledTime;
 use std::alloc::{AllocError, Global};
 use std::collections::BTreeMap;
+use world_model::Obstacle;
 
 /// The most nodes whose names are told.
 const NAMES_MOST: usize = 16;
@@ -21,40 +21,175 @@ pub struct Before<'a> {
     pub events: &'a [Event],
 }
 
-/// Appends why an event, which this line has, can't happen.
-pub fn push_refused(
-    text: &mut String,
-    line: u64,
-    before: Before<'_>,
-    event: &Event,
-    why: WorldRefusal,
-) -> Result<(), AllocError> {
-    let number = before.events.len();
-    let code = why.code();
-    write!(text, "event {number}, line {line}: refused, {code}: ")?;
-    match why {
-        WorldRefusal::NoNode => push_no_node(text, before.nodes, event),
-        WorldRefusal::WrongKind => push_wrong_kind(text, before.nodes, event),
-        WorldRefusal::NoCopy => push_no_copy(text, before.events, event),
-        WorldRefusal::NoTransit => push_no_transit(text, before.events, event),
-        WorldRefusal::ReadingOutOfRange => push_no_reading(text, before.events, event),
-        WorldRefusal::NothingWaiting => push_nothing_waiting(text, before.events, event),
-        WorldRefusal::SameName | WorldRefusal::SameIdentity | WorldRefusal::Memory => {
-            write!(text, "{why}")
-        }
-    }?;
+/// An event of a schedule that the network refuses.
+#[derive(Clone, Copy)]
+pub struct RefusedEvent<'a> {
+    /// What came before it.
+    pub before: Before<'a>,
+    /// The line of the input, counted from 1.
+    pub line: u64,
+    /// The event.
+    pub event: &'a Event,
+    /// Why it is refused.
+    pub why: WorldRefusal,
+    /// What stands in its way, where that is of the network or of events before it.
+    pub obstacle: Option<Obstacle>,
+}
+
+/// Appends why an event can't happen.
+pub fn push_refused(text: &mut String, refused: &RefusedEvent<'_>) -> Result<(), AllocError> {
+    write!(
+        text,
+        "event {}, line {}: refused, {}: ",
+        refused.before.events.len(),
+        refused.line,
+        refused.why.code()
+    )?;
+    match refused.obstacle {
+        Some(obstacle) => push_obstacle(text, refused, obstacle)?,
+        None => write!(text, "{}", refused.why)?,
+    }
     text.push('\n')
 }
 
-/// Appends which name no node has, and the names that there are.
-fn push_no_node(text: &mut String, nodes: &[NodeSpec], event: &Event) -> Result<(), AllocError> {
-    let node = event.node();
-    let missing = match (node_named(nodes, &node), event.named_master()) {
-        (Some(_), Some(master)) => master,
-        _ => node,
-    };
-    write!(text, "no node is called {}; ", missing.text())?;
-    push_names(text, nodes)
+/// Appends what stands in the way of an event.
+fn push_obstacle(
+    text: &mut String,
+    refused: &RefusedEvent<'_>,
+    obstacle: Obstacle,
+) -> Result<(), AllocError> {
+    let event = refused.event;
+    let there = Numbers(refused.before.events.len());
+    match obstacle {
+        Obstacle::NoNode { name } => {
+            write!(text, "no node is called {}; ", name.text())?;
+            push_names(text, refused.before.nodes)
+        }
+        Obstacle::OtherKind { kind, master } => push_kinds(text, event, &kind, master),
+        Obstacle::NoEvent { number } => {
+            write!(text, "there is no event {number} before it; {there}")
+        }
+        Obstacle::SentNothing { number, event } => write!(
+            text,
+            "event {number} is {}, which sent no message; {there}",
+            AnEvent(&event)
+        ),
+        Obstacle::NoEnter {
+            number,
+            event: other,
+        } => push_no_enter(text, event, number, &other),
+        Obstacle::LeftAlready { entered, left } => write!(
+            text,
+            "what entered by event {entered} left already by event {left}"
+        ),
+        Obstacle::TooFar { difference } => write!(
+            text,
+            "\"diff\" is {difference}, which is {}; wanted is less than 2^48 s, ahead or behind",
+            Length(difference)
+        ),
+        Obstacle::ClockSet { set, difference } => push_clock(text, event, set, difference),
+        Obstacle::NoSync
+        | Obstacle::OneStepSync { .. }
+        | Obstacle::FollowUpSent { .. }
+        | Obstacle::NoDelayReq
+        | Obstacle::DepartureTold { .. } => push_nothing_waiting(text, &event.node(), obstacle),
+    }
+}
+
+/// Appends what the nodes are, and at which ones such an event happens.
+fn push_kinds(
+    text: &mut String,
+    event: &Event,
+    kind: &NodeKind,
+    master: Option<NodeKind>,
+) -> Result<(), AllocError> {
+    write!(text, "{} is {}; ", event.node().text(), AKind(kind))?;
+    if let (Some(name), Some(kind)) = (event.named_master(), &master) {
+        write!(
+            text,
+            "{}, which it names, is {}; ",
+            name.text(),
+            AKind(kind)
+        )?;
+    }
+    write!(text, "{} happens at {}", AnEvent(event), needed_kind(event))?;
+    match event.named_master() {
+        Some(_) => text.push_str(", and names a master"),
+        None => Ok(()),
+    }
+}
+
+/// Appends that the event of the number that a leave names isn't one by which a message entered its clock.
+fn push_no_enter(
+    text: &mut String,
+    event: &Event,
+    number: u64,
+    other: &Event,
+) -> Result<(), AllocError> {
+    match other {
+        Event::Enter { node, .. } if *node != event.node() => write!(
+            text,
+            "event {number} is an enter at {}, and this is a leave at {}",
+            node.text(),
+            event.node().text()
+        ),
+        _ => write!(text, "event {number} is {}, and no enter", AnEvent(other)),
+    }
+}
+
+/// Appends by how much the clock of an event differs, and what it would read.
+fn push_clock(
+    text: &mut String,
+    event: &Event,
+    set: u64,
+    difference: i128,
+) -> Result<(), AllocError> {
+    let name = event.node();
+    write!(
+        text,
+        "event {set} set the clock of {} to the true time and {}; ",
+        name.text(),
+        Length(difference)
+    )?;
+    if let Some(at) = event.true_moment() {
+        write!(
+            text,
+            "at {} it would read {}, and ",
+            Moment(at),
+            Length(signed_units(at).saturating_add(difference))
+        )?;
+    }
+    text.push_str("a reading is from 0 to below 2^48 s")
+}
+
+/// Appends that no Sync waits for its Follow_Up, or no Delay_Req for its departure time.
+fn push_nothing_waiting(
+    text: &mut String,
+    node: &Name,
+    obstacle: Obstacle,
+) -> Result<(), AllocError> {
+    let name = node.text();
+    text.push_str(match obstacle {
+        Obstacle::NoDelayReq | Obstacle::DepartureTold { .. } => {
+            "no Delay_Req waits for its departure time: "
+        }
+        _ => "no Sync waits for its Follow_Up: ",
+    })?;
+    match obstacle {
+        Obstacle::OneStepSync { sync } => write!(
+            text,
+            "the last one of {name} is event {sync}, a syncone, which has none"
+        ),
+        Obstacle::FollowUpSent { sync, follow_up } => write!(
+            text,
+            "event {follow_up} sent that of the last one of {name}, event {sync}"
+        ),
+        Obstacle::DepartureTold { delay_req, told } => write!(
+            text,
+            "event {told} told that of the last one of {name}, event {delay_req}"
+        ),
+        _ => write!(text, "{name} sent none"),
+    }
 }
 
 /// What stands before the name of a node in a list.
@@ -77,244 +212,6 @@ fn push_names(text: &mut String, nodes: &[NodeSpec]) -> Result<(), AllocError> {
     match nodes.len().checked_sub(NAMES_MOST) {
         None | Some(0) => Ok(()),
         Some(more) => write!(text, " and {more} more"),
-    }
-}
-
-/// Appends what the node is and what the event needs.
-fn push_wrong_kind(text: &mut String, nodes: &[NodeSpec], event: &Event) -> Result<(), AllocError> {
-    let node = event.node();
-    if let Some(spec) = node_named(nodes, &node) {
-        write!(text, "{} is {}; ", node.text(), AKind(&spec.kind))?;
-    }
-    match event.named_master() {
-        Some(master) => push_no_master(text, nodes, event, &master),
-        None => write!(text, "{} happens at {}", AnEvent(event), needed_kind(event)),
-    }
-}
-
-/// Appends what the node is that is named as a master.
-fn push_no_master(
-    text: &mut String,
-    nodes: &[NodeSpec],
-    event: &Event,
-    master: &Name,
-) -> Result<(), AllocError> {
-    if let Some(spec) = node_named(nodes, master) {
-        write!(
-            text,
-            "{}, which it names, is {}; ",
-            master.text(),
-            AKind(&spec.kind)
-        )?;
-    }
-    write!(
-        text,
-        "{} happens at {}, and names a master",
-        AnEvent(event),
-        needed_kind(event)
-    )
-}
-
-/// The event of this number, where it happened.
-fn event_at(events: &[Event], number: u64) -> Option<&Event> {
-    events.get(usize::try_from(number).ok()?)
-}
-
-/// Appends what the event is that a copy is named by.
-fn push_no_copy(text: &mut String, events: &[Event], event: &Event) -> Result<(), AllocError> {
-    let Some(copy) = event.named_copy() else {
-        return write!(text, "{}", WorldRefusal::NoCopy);
-    };
-    let there = Numbers(events.len());
-    match event_at(events, copy) {
-        Some(named) => {
-            write!(
-                text,
-                "event {copy} is {}, which sent no message; {there}",
-                AnEvent(named)
-            )
-        }
-        None => write!(text, "there is no event {copy} before it; {there}"),
-    }
-}
-
-/// Appends what the event is that a stay is named by.
-fn push_no_transit(text: &mut String, events: &[Event], event: &Event) -> Result<(), AllocError> {
-    let Some(transit) = event.named_transit() else {
-        return write!(text, "{}", WorldRefusal::NoTransit);
-    };
-    let clock = event.node();
-    match event_at(events, transit) {
-        None => write!(
-            text,
-            "there is no event {transit} before it; {}",
-            Numbers(events.len())
-        ),
-        Some(Event::Enter { node, .. }) if *node != clock => write!(
-            text,
-            "event {transit} is an enter at {}, and this is a leave at {}",
-            node.text(),
-            clock.text()
-        ),
-        Some(Event::Enter { .. }) => push_left(text, events, transit),
-        Some(named) => write!(text, "event {transit} is {}, and no enter", AnEvent(named)),
-    }
-}
-
-/// Appends by which event a message left a clock already.
-fn push_left(text: &mut String, events: &[Event], transit: u64) -> Result<(), AllocError> {
-    let left = events
-        .iter()
-        .position(|earlier| earlier.named_transit() == Some(transit));
-    match left {
-        Some(number) => write!(
-            text,
-            "what entered by event {transit} left already by event {number}"
-        ),
-        None => write!(text, "{}", WorldRefusal::NoTransit),
-    }
-}
-
-/// The last event that set the clock of a node, and the difference that it set; none where none did.
-fn clock_set(events: &[Event], node: &Name) -> Option<(usize, i128)> {
-    let mut found = None;
-    for (number, event) in events.iter().enumerate() {
-        if let Event::StepClock { node: set, diff } = event
-            && set == node
-        {
-            found = Some((number, *diff));
-        }
-    }
-    found
-}
-
-/// Appends by how much the clock differs, and what it would read.
-fn push_no_reading(text: &mut String, events: &[Event], event: &Event) -> Result<(), AllocError> {
-    match (event, event.true_moment()) {
-        (Event::StepClock { diff, .. }, _) => write!(
-            text,
-            "\"diff\" is {diff}, which is {}; wanted is less than 2^48 s, ahead or behind",
-            Length(*diff)
-        ),
-        (_, Some(at)) => push_shown(text, clock_set(events, &event.node()), &event.node(), at),
-        _ => write!(text, "{}", WorldRefusal::ReadingOutOfRange),
-    }
-}
-
-/// Appends what a clock that was set so would read at a moment.
-fn push_shown(
-    text: &mut String,
-    set: Option<(usize, i128)>,
-    node: &Name,
-    at: ScaledTime,
-) -> Result<(), AllocError> {
-    let Some((number, diff)) = set else {
-        return write!(text, "{}", WorldRefusal::ReadingOutOfRange);
-    };
-    write!(
-        text,
-        "event {number} set the clock of {} to the true time and {}; at {} it would read {}, and a reading is from 0 \
-         to below 2^48 s",
-        node.text(),
-        Length(diff),
-        Moment(at),
-        Length(signed_units(at).saturating_add(diff))
-    )
-}
-
-/// What is asked for of the events at a node.
-#[derive(Clone, Copy, PartialEq, Eq)]
-enum Sought {
-    /// A Sync, two-step or one-step.
-    AnySync,
-    Follow,
-    Request,
-    Stamped,
-}
-
-impl Sought {
-    fn is(self, event: &Event) -> bool {
-        match self {
-            Sought::AnySync => event.draws_sync(),
-            Sought::Follow => event.is_follow(),
-            Sought::Request => event.is_request(),
-            Sought::Stamped => matches!(event, Event::Stamped { .. }),
-        }
-    }
-
-    /// The number of the last such event at a node.
-    fn last(self, events: &[Event], node: &Name) -> Option<usize> {
-        let mut found = None;
-        for (number, event) in events.iter().enumerate() {
-            if self.is(event) && event.node() == *node {
-                found = Some(number);
-            }
-        }
-        found
-    }
-}
-
-/// Appends that no Sync waits for its Follow_Up, or no Delay_Req for its departure time.
-fn push_nothing_waiting(
-    text: &mut String,
-    events: &[Event],
-    event: &Event,
-) -> Result<(), AllocError> {
-    let node = event.node();
-    if event.is_follow() {
-        let sent = Sought::AnySync.last(events, &node);
-        let used = Sought::Follow.last(events, &node);
-        push_no_sync(text, events, &node, sent, used)
-    } else {
-        let sent = Sought::Request.last(events, &node);
-        let used = Sought::Stamped.last(events, &node);
-        push_no_request(text, &node, sent, used)
-    }
-}
-
-/// Appends that no Sync waits for its Follow_Up.
-fn push_no_sync(
-    text: &mut String,
-    events: &[Event],
-    node: &Name,
-    sent: Option<usize>,
-    used: Option<usize>,
-) -> Result<(), AllocError> {
-    let name = node.text();
-    let Some(sync) = sent else {
-        return write!(text, "no Sync waits for its Follow_Up: {name} sent none");
-    };
-    match (events.get(sync), used) {
-        (Some(Event::SyncOne { .. }), _) => write!(
-            text,
-            "no Sync waits for its Follow_Up: the last one of {name} is event {sync}, a syncone, which has none"
-        ),
-        (_, Some(follow)) => write!(
-            text,
-            "no Sync waits for its Follow_Up: event {follow} sent that of the last one of {name}, event {sync}"
-        ),
-        _ => write!(text, "{}", WorldRefusal::NothingWaiting),
-    }
-}
-
-/// Appends that no Delay_Req waits for its departure time.
-fn push_no_request(
-    text: &mut String,
-    node: &Name,
-    sent: Option<usize>,
-    used: Option<usize>,
-) -> Result<(), AllocError> {
-    let name = node.text();
-    match (sent, used) {
-        (Some(request), Some(stamped)) => write!(
-            text,
-            "no Delay_Req waits for its departure time: event {stamped} told that of the last one of {name}, event \
-             {request}"
-        ),
-        _ => write!(
-            text,
-            "no Delay_Req waits for its departure time: {name} sent none"
-        ),
     }
 }
 

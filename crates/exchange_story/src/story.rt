@@ -41,7 +41,7 @@ impl Model for Story {
 }
 
 impl Story {
-    /// Nothing was recorded yet.
+    /// A story of no nodes and no events.
     pub fn new(alloc: Global) -> Story
         ensures { result ≡ counts_of [] }
     {
@@ -170,10 +170,10 @@ impl Story {
         case.push(text)
     }
 
-    /// Appends how many reports there are, and how many fail which conditions; where one isn't sound, how many are right by the
-    /// messages, and how many by the readings; where octets stand against one, how many reports would be sound without
-    /// that, or in how many messages a field differs that a slave or a master reads, and how many messages have other octets;
-    /// and how many completions had no report.
+    /// Appends what is told of all reports: how many there are, and how many fail which conditions. Where one isn't
+    /// sound, that is how many are right by the messages, and how many by the readings, too; where octets stand against
+    /// one, how many reports would be sound without that, or in how many messages a field differs that a slave or a
+    /// master reads, and how many messages have other octets; and how many completions had no report.
     pub fn push_tally(&self, text: &mut String) -> Result<(), AllocError>
         ensures { OnOk result ((told : List ℕ) × TellsCounts self.now told
             × (string_bytes text.new ≡ string_bytes text.old ++ told)) }

@@ -11,7 +11,7 @@ use Rattle.exchange_explain.specs.Explained.{Seen}
 
 -- the first fault of an input, as it is kept
 abbrev pub fault_kept : Flaws → ℕ × TaskFault
-fault_kept flaws = (flaws.line, flaws.what)
+fault_kept flaws = (flaws.first.line, flaws.first.what)
 
 -- what is kept of the lines of an input
 pub record IsExplaining (task : Explaining) (seen : Seen) : Type 0 where
