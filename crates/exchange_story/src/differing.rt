@@ -7,10 +7,10 @@ use crate::field::{FIELDS, field_at};
 use crate::known::Known;
 use crate::lines::push_lines;
 use crate::moments::Length;
-use crate::octets::{Compared, Difference, difference_at};
+use crate::octets::{Compared, Difference};
 use crate::tally::messages_noun;
 use crate::wrong_field::{READ_FIELDS, WrongField};
-use exchange_check::KeptLine;
+use exchange_check::{KeptLine, TraceOut};
 use std::alloc::{AllocError, Global};
 
 /// How many messages differ in a field that is read.
@@ -70,13 +70,14 @@ impl Differing {
         }
     }
 
-    /// One more line that counts, whose message differs or not, where it makes one.
-    pub(crate) fn count(&mut self, known: Known<'_>, line: &KeptLine) {
+    /// One more line that counts, of which this came: a message, which differs or not, or none.
+    pub(crate) fn count(&mut self, known: Known<'_>, line: &KeptLine, out: &TraceOut) {
+        let TraceOut::Made(octets) = out else {
+            return;
+        };
         if line.writes_right {
             self.messages = self.messages.saturating_add(1);
-        } else if line.made
-            && let Some(compared) = difference_at(known, line.number)
-        {
+        } else if let Some(compared) = Compared::of(known, line.number, octets.as_slice()) {
             self.count_compared(&compared);
         }
     }

@@ -6,7 +6,7 @@ use crate::journey::Message;
 use crate::known::Known;
 use crate::readings::Told;
 use crate::wrong_field::{Fields, READ_FIELDS, ReadField, WrongField};
-use event_codec::{Body, DecodeRefusal, decode, encode};
+use event_codec::{Body, DecodeRefusal, PortMessage, decode, encode};
 use exchange_check::{Exchange, Finding, Why};
 use std::alloc::AllocError;
 use std::fmt;
@@ -134,42 +134,94 @@ impl Display for Differs<'_> {
     }
 }
 
+/// What octets say in fields that are read.
+#[derive(Clone, Copy)]
+enum Said {
+    /// What is wanted.
+    Wanted,
+    /// In one of them at least something else.
+    Otherwise(Fields),
+    /// Nobody can read them.
+    Unreadable(DecodeRefusal),
+}
+
 /// The message that an event is to make, and how the octets that it made differ.
 #[derive(Clone, Copy)]
 pub(crate) struct Compared {
     wanted: Fields,
-    /// What these octets say, or why nobody can read them.
-    found: Result<Fields, DecodeRefusal>,
+    said: Said,
     /// How they differ, but for fields that are read.
     pub(crate) rest: Option<Difference>,
 }
 
+impl Said {
+    /// What octets say that are to say this, and that differ so.
+    fn of(octets: &[u8], wanted: &Fields, difference: Option<Difference>) -> Said {
+        match difference {
+            None => return Said::Wanted,
+            Some(difference) if difference.is_minor_version() => return Said::Wanted,
+            Some(_) => {}
+        }
+        match fields_in(octets) {
+            Ok(found) if is_read_alike(&found, wanted) => Said::Wanted,
+            Ok(found) => Said::Otherwise(found),
+            Err(refusal) => Said::Unreadable(refusal),
+        }
+    }
+}
+
 impl Compared {
+    /// Octets that an event made beside the message that it is to make; none where it is to make none.
+    pub(crate) fn of(known: Known<'_>, number: u64, octets: &[u8]) -> Option<Compared> {
+        let message = known.checker.message_at(number)?;
+        let wanted = Fields::of(&message);
+        let mut rest = difference_from(octets, &message)?;
+        let said = Said::of(octets, &wanted, rest);
+        if let Said::Otherwise(found) = &said {
+            rest = difference_from(octets, &wanted.with_read_of(found))?;
+        }
+        Some(Compared { wanted, said, rest })
+    }
+
     /// Why nobody can read the octets, where that is so.
     pub(crate) fn refusal(&self) -> Option<DecodeRefusal> {
-        match &self.found {
-            Ok(_) => None,
-            Err(refusal) => Some(*refusal),
+        match &self.said {
+            Said::Unreadable(refusal) => Some(*refusal),
+            Said::Wanted | Said::Otherwise(_) => None,
         }
     }
 
     /// What is wrong in this field, which is read.
     pub(crate) fn wrong(&self, field: ReadField) -> Option<WrongField> {
-        match &self.found {
-            Ok(found) => field.wrong_in(found, &self.wanted),
-            Err(_) => None,
+        match &self.said {
+            Said::Otherwise(found) => field.wrong_in(found, &self.wanted),
+            Said::Wanted | Said::Unreadable(_) => None,
         }
     }
 
     /// Whether a field that is read differs, or nobody can read the octets.
     pub(crate) fn is_read_otherwise(&self) -> bool {
-        self.found.is_err() || READ_FIELDS.iter().any(|field| self.wrong(*field).is_some())
+        !matches!(self.said, Said::Wanted)
     }
 
     /// Whether all octets are right.
     pub(crate) fn is_right(&self) -> bool {
         self.rest.is_none() && !self.is_read_otherwise()
     }
+}
+
+/// Whether all fields that are read say the same.
+fn is_read_alike(found: &Fields, wanted: &Fields) -> bool {
+    READ_FIELDS
+        .iter()
+        .all(|field| field.wrong_in(found, wanted).is_none())
+}
+
+/// How octets differ from those of a message, where they do; none where that can't be written.
+fn difference_from(octets: &[u8], message: &PortMessage) -> Option<Option<Difference>> {
+    let mut room = [0; 54];
+    let length = encode(&message.message(), &mut room).ok()?;
+    Some(Difference::of(octets, room.get(..length)?))
 }
 
 /// What octets say, or why nobody can read them.
@@ -192,23 +244,10 @@ pub(crate) fn fields_at(known: Known<'_>, number: u64) -> Option<Fields> {
     }
 }
 
-/// How the octets that an event made differ from those of the message that is written; none where it makes none.
-pub(crate) fn difference_at(known: Known<'_>, number: u64) -> Option<Compared> {
+/// The octets that an event made beside the message that it is to make; none where it made or is to make none.
+fn compared_at(known: Known<'_>, number: u64) -> Option<Compared> {
     let octets = known.evidence.octets_at(known.checker, number)?;
-    let message = known.checker.message_at(number)?;
-    let wanted = Fields::of(&message);
-    let found = fields_in(octets.as_slice());
-    let but_for_read = match &found {
-        Ok(found) => wanted.with_read_of(found),
-        Err(_) => message,
-    };
-    let mut room = [0; 54];
-    let length = encode(&but_for_read.message(), &mut room).ok()?;
-    Some(Compared {
-        wanted,
-        found,
-        rest: Difference::of(octets.as_slice(), room.get(..length)?),
-    })
+    Compared::of(known, number, octets.as_slice())
 }
 
 impl Case<'_> {
@@ -251,7 +290,7 @@ impl Case<'_> {
         told: &mut Told,
         number: u64,
     ) -> Result<(), AllocError> {
-        match difference_at(self.known, number) {
+        match compared_at(self.known, number) {
             Some(compared) if compared.is_right() => Ok(()),
             _ if !told.has_room() => Ok(()),
             Some(compared) => self.push_compared(text, number, &compared),

@@ -94,7 +94,7 @@ impl Story {
             checker,
             evidence: &self.evidence,
         };
-        self.differing.count(known, line);
+        self.differing.count(known, line, out);
         let reports = matches!(out, TraceOut::Report(_));
         self.completions.count(known, line, reports)
     }
