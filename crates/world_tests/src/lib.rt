@@ -1,4 +1,4 @@
-//! Tests by the public calls of networks, worlds and the checker: worked exchanges, and lines that tell them.
+//! Tests by the public calls of networks, worlds and the checker: what no schedule and no transcript can tell.
 #![tactic(auto)]
 
 #[cfg(test)]
@@ -6,12 +6,6 @@ mod check;
 #[cfg(test)]
 mod memory;
 #[cfg(test)]
-mod moments;
-#[cfg(test)]
 mod nodes;
-#[cfg(test)]
-mod script;
-#[cfg(test)]
-mod traces;
 #[cfg(test)]
 mod worlds;

@@ -1,71 +1,33 @@
 //! Worlds from which memory is withheld: each growth in turn, by the script that runs these tests.
 
-use crate::moments::moment;
-use event_codec::{PortConfig, PortIdentity};
-use ptp_units::Seq;
+use crate::nodes::{MASTER, SLAVE, clock, master, name, slave};
+use ptp_units::{ScaledTime, Timestamp, UnitRefusal};
 use std::alloc::Global;
 use std::test::Fail;
 use world_model::{
-    Event, Heard, Name, NodeKind, NodeSpec, Nodes, Outcome, Report, World, WorldRefusal, run,
+    Event, Heard, NodeSpec, Nodes, Outcome, Report, Stepped, World, WorldRefusal, run,
 };
 
-const MASTER: PortIdentity = PortIdentity {
-    clock: [0x00, 0x11, 0x22, 0xff, 0xfe, 0x33, 0x44, 0x55],
-    port: 1,
-};
-
-const SLAVE: PortIdentity = PortIdentity {
-    clock: [0x00, 0xaa, 0xbb, 0xff, 0xfe, 0xcc, 0xdd, 0xee],
-    port: 1,
-};
-
-fn name(text: &str) -> Result<Name, Fail> {
-    Ok(Name::new(text).ok_or("no name")?)
-}
-
-fn config(identity: PortIdentity) -> PortConfig {
-    PortConfig {
-        identity,
-        domain: 0,
-        log: 0,
-    }
+/// The moment of seconds, nanoseconds and units of 2^-16 ns.
+pub(crate) fn moment(seconds: u64, nanos: u32, fraction: u16) -> Result<ScaledTime, UnitRefusal> {
+    Ok(ScaledTime::join(Timestamp::new(seconds, nanos)?, fraction))
 }
 
 /// A world of these nodes.
-fn world(alloc: Global, specs: &[NodeSpec]) -> Result<World, WorldRefusal> {
+pub(crate) fn world(alloc: Global, specs: &[NodeSpec]) -> Result<World, WorldRefusal> {
     World::new(alloc, Nodes::new(alloc, specs)?)
 }
 
 /// A master, a slave and a transparent clock.
 pub(crate) fn specs() -> Result<[NodeSpec; 3], Fail> {
-    let first = Seq(0);
-    Ok([
-        NodeSpec {
-            name: name("M")?,
-            kind: NodeKind::Master {
-                config: config(MASTER),
-                first,
-            },
-        },
-        NodeSpec {
-            name: name("S")?,
-            kind: NodeKind::Slave {
-                config: config(SLAVE),
-                first,
-            },
-        },
-        NodeSpec {
-            name: name("T")?,
-            kind: NodeKind::Clock,
-        },
-    ])
+    Ok([master("M", MASTER, 0)?, slave("S", SLAVE, 0)?, clock("T")?])
 }
 
 /// How many events the exchange has.
-const LENGTH: usize = 14;
+pub(crate) const LENGTH: usize = 14;
 
 /// The event of this tag of an exchange through a clock, with a slave that is 1,000 ns ahead.
-fn event(tag: usize) -> Result<Event, Fail> {
+pub(crate) fn event(tag: usize) -> Result<Event, Fail> {
     let node = name(match tag {
         2 | 6 | 11 => "M",
         3 | 4 | 9 | 10 => "T",
@@ -125,32 +87,50 @@ fn event(tag: usize) -> Result<Event, Fail> {
     })
 }
 
+/// What the slave reports.
+pub(crate) const REPORT: Report = Report {
+    offset2: 131_072_000,
+    path2: 131_072_000,
+    sync_tag: 5,
+    follow_tag: Some(7),
+    request_tag: 8,
+    response_tag: 13,
+};
+
 /// What comes of it where there is memory.
-fn ample(tag: usize) -> Outcome {
+pub(crate) fn ample(tag: usize) -> Outcome {
     match tag {
         0 | 1 | 12 => Outcome::Done,
         3 | 9 => Outcome::Entered,
         5 => Outcome::Heard(Heard::Held),
         7 => Outcome::Heard(Heard::Completed),
-        13 => Outcome::Heard(Heard::Report(Report {
-            offset2: 131_072_000,
-            path2: 131_072_000,
-            sync_tag: 5,
-            follow_tag: Some(7),
-            request_tag: 8,
-            response_tag: 13,
-        })),
+        13 => Outcome::Heard(Heard::Report(REPORT)),
         _ => Outcome::Made,
     }
 }
 
 /// All events of the exchange.
-fn exchange() -> Result<[Event; LENGTH], Fail> {
+pub(crate) fn exchange() -> Result<[Event; LENGTH], Fail> {
     let mut events = [event(0)?; LENGTH];
     for tag in 0..LENGTH {
         events[tag] = event(tag)?;
     }
     Ok(events)
+}
+
+/// A world in which the exchange happened, and its answers, or None where memory was refused.
+pub(crate) fn played(alloc: Global) -> Result<Option<(World, Vec<Stepped>)>, Fail> {
+    let (specs, events) = (specs()?, exchange()?);
+    let mut world = match world(alloc, &specs) {
+        Ok(world) => world,
+        Err(WorldRefusal::Memory) => return Ok(None),
+        Err(why) => return Err(why.into()),
+    };
+    match run(alloc, &mut world, &events) {
+        Ok(answers) => Ok(Some((world, answers))),
+        Err(stop) if stop.why == WorldRefusal::Memory => Ok(None),
+        Err(stop) => Err(stop.into()),
+    }
 }
 
 /// Of each event the answer is that of ample memory, or that memory was refused; the same event then

@@ -1,24 +1,25 @@
-//! The nodes of a network: worked networks, and that a call succeeds where memory is there, which no contract says.
+//! The nodes of a network: their names, and that a call succeeds where memory is there, which no contract says.
 
-use crate::script::nodes_of;
 use event_codec::{PortConfig, PortIdentity};
 use network_model::{Name, NodeKind, NodeSpec, Nodes, WorldRefusal};
 use ptp_units::Seq;
 use std::alloc::Global;
 use std::test::Fail;
-use worked_exchanges::LINE;
 
-const MASTER: PortIdentity = PortIdentity {
+/// The identity of a master.
+pub(crate) const MASTER: PortIdentity = PortIdentity {
     clock: [0x00, 0x11, 0x22, 0xff, 0xfe, 0x33, 0x44, 0x55],
     port: 1,
 };
 
-const SLAVE: PortIdentity = PortIdentity {
+/// The identity of a slave.
+pub(crate) const SLAVE: PortIdentity = PortIdentity {
     clock: [0x00, 0xaa, 0xbb, 0xff, 0xfe, 0xcc, 0xdd, 0xee],
     port: 1,
 };
 
-fn name(text: &str) -> Result<Name, Fail> {
+/// The name that this text is.
+pub(crate) fn name(text: &str) -> Result<Name, Fail> {
     Ok(Name::new(text).ok_or("no name")?)
 }
 
@@ -30,7 +31,8 @@ fn config(identity: PortIdentity, domain: u8) -> PortConfig {
     }
 }
 
-fn master(text: &str, identity: PortIdentity, domain: u8) -> Result<NodeSpec, Fail> {
+/// A master whose first number is 0.
+pub(crate) fn master(text: &str, identity: PortIdentity, domain: u8) -> Result<NodeSpec, Fail> {
     Ok(NodeSpec {
         name: name(text)?,
         kind: NodeKind::Master {
@@ -40,7 +42,8 @@ fn master(text: &str, identity: PortIdentity, domain: u8) -> Result<NodeSpec, Fa
     })
 }
 
-fn slave(text: &str, identity: PortIdentity, domain: u8) -> Result<NodeSpec, Fail> {
+/// A slave whose first number is 0.
+pub(crate) fn slave(text: &str, identity: PortIdentity, domain: u8) -> Result<NodeSpec, Fail> {
     Ok(NodeSpec {
         name: name(text)?,
         kind: NodeKind::Slave {
@@ -50,7 +53,8 @@ fn slave(text: &str, identity: PortIdentity, domain: u8) -> Result<NodeSpec, Fai
     })
 }
 
-fn clock(text: &str) -> Result<NodeSpec, Fail> {
+/// A transparent clock.
+pub(crate) fn clock(text: &str) -> Result<NodeSpec, Fail> {
     Ok(NodeSpec {
         name: name(text)?,
         kind: NodeKind::Clock,
@@ -111,53 +115,14 @@ fn size(alloc: Global, nodes: &[NodeSpec]) -> Result<usize, WorldRefusal> {
     Ok(Nodes::new(alloc, nodes)?.len())
 }
 
-/// The nodes of a script, and how many a network has of them, or why there is none.
-const NETWORKS: [(&str, Result<usize, WorldRefusal>); 10] = [
-    ("", Ok(0)),
-    (LINE, Ok(3)),
-    ("clock T\nclock U\nclock V", Ok(3)),
-    ("clock port\nclock porT\nclock por", Ok(3)),
-    (
-        "master M 001122fffe334455 0\nmaster M 001122fffe334455 0",
-        Err(WorldRefusal::SameName),
-    ),
-    (
-        "master M 001122fffe334455 0\nslave S 00aabbfffeccddee 0\nslave S 001122fffe334455 0",
-        Err(WorldRefusal::SameName),
-    ),
-    (
-        "clock T\nmaster M 001122fffe334455 0\nclock T\nslave S 001122fffe334455 0",
-        Err(WorldRefusal::SameName),
-    ),
-    (
-        "master M 001122fffe334455 0\nmaster N 001122fffe334455 0",
-        Err(WorldRefusal::SameIdentity),
-    ),
-    (
-        "master M 001122fffe334455 0\nclock T\nslave S 001122fffe334455 0 255",
-        Err(WorldRefusal::SameIdentity),
-    ),
-    (
-        "slave S 00aabbfffeccddee 0 7\nslave Z 00aabbfffeccddee 0 8\nslave S 001122fffe334455 0",
-        Err(WorldRefusal::SameIdentity),
-    ),
-];
-
-#[test]
-fn networks(rt: HostRuntime) -> Result<(), Fail> {
-    for (script, expected) in NETWORKS {
-        let nodes = nodes_of(rt.alloc(), script)?;
-        assert_eq!(rt; size(rt.alloc(), &nodes), expected, "{script}");
-    }
-    Ok(())
-}
-
 /// Names that differ in the last of sixteen octets, and a slave of domain 3.
-const NAMED: &str = "clock sixteen-octets-x\nslave S 00aabbfffeccddee 0 3\nclock sixteen-octets-y";
-
 #[test]
 fn nodes_by_name(rt: HostRuntime) -> Result<(), Fail> {
-    let nodes = nodes_of(rt.alloc(), NAMED)?;
+    let nodes = [
+        clock("sixteen-octets-x")?,
+        slave("S", SLAVE, 3)?,
+        clock("sixteen-octets-y")?,
+    ];
     let network = Nodes::new(rt.alloc(), &nodes)?;
     for node in nodes.iter() {
         assert_eq!(rt; network.get(&node.name).copied(), Some(*node));
