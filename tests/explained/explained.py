@@ -195,8 +195,11 @@ REFUSED = [
      'event 6, line 10: refused, 608: no Sync waits for its Follow_Up: the last one of M is event 2, a syncone, which has none\n'
      'no event happens from line 10 on\n'),
     (10, '{"copy":6,"ev":"hear","node":"S"}', '{"ev":"follow","node":"M"}',
-     'event 7, line 11: refused, 608: no Sync waits for its Follow_Up: event 6 sent that of the last one of M, event 2\n'
+     'event 7, line 11: refused, 608: no Sync waits for its Follow_Up: event 6 sent that of the last two-step one of M, event 2\n'
      'no event happens from line 11 on\n'),
+    (9, '{"ev":"follow","node":"M"}', '{"at":[1,5000,0],"ev":"syncone","node":"M"}\n{"ev":"follow","node":"M"}\n{"ev":"follow","node":"M"}',
+     'event 8, line 12: refused, 608: no Sync waits for its Follow_Up: event 7 sent that of the last two-step one of M, event 2\n'
+     'no event happens from line 12 on\n'),
     (10, '{"copy":6,"ev":"hear","node":"S"}', '{"ev":"stamped","node":"S"}',
      'event 7, line 11: refused, 608: no Delay_Req waits for its departure time: S sent none\n'
      'no event happens from line 11 on\n'),

@@ -32,7 +32,7 @@ pub struct RefusedEvent<'a> {
     pub event: &'a Event,
     /// Why it is refused.
     pub why: WorldRefusal,
-    /// What stands in its way, where that is of the network or of events before it.
+    /// What stands in its way; none for a reason that no such event is refused for.
     pub obstacle: Option<Obstacle>,
 }
 
@@ -182,7 +182,7 @@ fn push_nothing_waiting(
         ),
         Obstacle::FollowUpSent { sync, follow_up } => write!(
             text,
-            "event {follow_up} sent that of the last one of {name}, event {sync}"
+            "event {follow_up} sent that of the last two-step one of {name}, event {sync}"
         ),
         Obstacle::DepartureTold { delay_req, told } => write!(
             text,

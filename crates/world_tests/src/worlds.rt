@@ -37,21 +37,27 @@ fn refused_events_take_no_tag(rt: HostRuntime) -> Result<(), Fail> {
     Ok(())
 }
 
-/// Behind each event of the exchange but the last stands one that is refused, and what follows happens as
-/// if it weren't there.
+/// Behind each event of the exchange but the last stand some that are refused, and what follows happens as
+/// if they weren't there.
 #[test]
 fn a_run_stops_at_a_refused_event(rt: HostRuntime) -> Result<(), Fail> {
     let mut world = world(rt.alloc(), &specs()?)?;
     assert_eq!(rt; run(rt.alloc(), &mut world, &[])?.len(), 0);
-    let refused = Event::Tick { node: name("X")? };
+    let nowhere = Event::Tick { node: name("X")? };
     let expected = RunStop {
         done: 1,
         why: WorldRefusal::NoNode,
     };
+    let others = refused()?;
     let last = LENGTH - 1;
     for tag in 0..last {
-        let answer = run(rt.alloc(), &mut world, &[event(tag)?, refused]);
+        let answer = run(rt.alloc(), &mut world, &[event(tag)?, nowhere]);
         assert_eq!(rt; answer.err(), Some(expected));
+        // the last one isn't refused where a Delay_Req waits
+        for index in 1..5 {
+            let (other, why) = others[index];
+            assert_eq!(rt; world.step(&other).err(), Some(why));
+        }
         assert_eq!(rt; world.len(), (tag as u64).wrapping_add(1));
     }
     assert_eq!(rt; world.step(&event(last)?)?.outcome, ample(last));
