@@ -171,6 +171,12 @@ REFUSED = [
     (8, '"copy":4', '"copy":3',
      'event 5, line 9: refused, 605: event 3 is an enter, which sent no message; there are events 0 to 4\n'
      'no event happens from line 9 on\n'),
+    (3, '"diff":"65536000","ev":"stepclock"', '"copy":0,"ev":"hear"',
+     'event 0, line 4: refused, 605: there is no event 0 before it; there is no event before it\n'
+     'no event happens from line 4 on\n'),
+    (4, '"ev":"setmaster","master":"M"', '"copy":1,"ev":"hear"',
+     'event 1, line 5: refused, 605: there is no event 1 before it; there is event 0\n'
+     'no event happens from line 5 on\n'),
     (8, '"copy":4', '"copy":5',
      'event 5, line 9: refused, 605: there is no event 5 before it; there are events 0 to 4\n'
      'no event happens from line 9 on\n'),
@@ -191,6 +197,9 @@ REFUSED = [
      'event 5, line 9: refused, 607: event 0 set the clock of S to the true time and -10000000000 ns; '
      'at 1.000003000 it would read -8999997000 ns, and a reading is from 0 to below 2^48 s\n'
      'no event happens from line 9 on\n'),
+    (5, '"at":[1,0,0],"ev":"sync"', '"ev":"follow"',
+     'event 2, line 6: refused, 608: no Sync waits for its Follow_Up: M sent none\n'
+     'no event happens from line 6 on\n'),
     (5, '"sync"', '"syncone"',
      'event 6, line 10: refused, 608: no Sync waits for its Follow_Up: the last one of M is event 2, a syncone, which has none\n'
      'no event happens from line 10 on\n'),
@@ -632,6 +641,11 @@ no report was judged from line 1 on
                 ended = explain(changed(SCHEDULE, (old, new), place=place))
                 self.assertEqual(ended.output, said)
                 self.assertEqual(ended.status, 3)
+
+    def test_tells_that_there_are_no_nodes(self):
+        ended = explain(SCHEDULE[3])
+        self.assertEqual(ended.output, 'event 0, line 1: refused, 603: no node is called S; there are no nodes\nno event happens from line 1 on\n')
+        self.assertEqual(ended.status, 3)
 
     def test_tells_which_nodes_clash(self):
         text = SCHEDULE[2] + SCHEDULE[0] + SCHEDULE[2]
