@@ -1,5 +1,5 @@
 """Lines that are almost spelled as `ptpx` writes them, or in other ways, given to `replay` and `check`: each is read as spelled.py says,
-as it is behind a blank, which `ptpx` passes over, with an escape, where `ptpx` spells it again, and with a key twice, where it reads its value."""
+as it is behind a blank, with an escape, and with a key twice, where `ptpx` reads its value."""
 import functools
 import itertools
 import json
@@ -48,9 +48,9 @@ def with_key_twice(line):
     return line.replace(b'{', b'{%s:0,' % json.dumps(next(iter(value))).encode(), 1)
 
 
-def misguessed(given, subcommand, lines):
-    """What is wrong where a guess may be taken of the lines, beside the answers where each stands behind a blank, where they are
-    spelled again, and where their values are read."""
+def read_otherwise(given, subcommand, lines):
+    """What is wrong where the lines are read as they stand, beside the answers where each stands behind a blank or has an escape, and where
+    their values are read."""
     answer = given(subcommand, text_of(lines))
     escaped = [line.replace(b'"node"', b'"\\u006eode"', 1) for line in lines]
     for words, others in (('behind blanks', [b' ' + line for line in lines]), ('with an escape', escaped),
@@ -129,7 +129,7 @@ def changed(lines, originals):
 def misread(given, rng):
     """How many lines of one schedule and its transcript were changed, and what is wrong with the answers."""
     def wrongs(subcommand, lines, originals, mistaken):
-        every = itertools.chain(misguessed(given, subcommand, lines), misanswered(given, subcommand, lines, originals, mistaken))
+        every = itertools.chain(read_otherwise(given, subcommand, lines), misanswered(given, subcommand, lines, originals, mistaken))
         return list(itertools.islice(every, 3))
 
     schedule = own(inputs.walk(rng))

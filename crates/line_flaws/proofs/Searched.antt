@@ -5,8 +5,8 @@ use Rattle.std.proofs.lemmas.List.Elements.{All-append, All-contains, All-weaker
 use Rattle.serde_json.specs.Data.{Data}
 use Rattle.line_flaws.specs.declared.flaw.Form.{Form}
 use Rattle.line_flaws.specs.declared.flaw.Form.TheVariants.{Schedule, Transcript}
-use Rattle.line_flaws.specs.declared.key.Key.{Key}
-use Rattle.line_flaws.specs.declared.key.Key.TheVariants as keys
+use Rattle.line_object.specs.declared.key.Key.{Key}
+use Rattle.line_object.specs.declared.key.Key.TheVariants as keys
 use Rattle.line_flaws.specs.Keys.{is_timed, needed_keys, outcome_keys_in, told_keys}
 use Rattle.schedule_lines.specs.Json.{has_keys}
 use Rattle.schedule_lines.specs.Line.{line_of}

@@ -7,7 +7,7 @@ use Rattle.schedule_lines.specs.Json.{whole_in, whole_below}
 use Rattle.schedule_lines.specs.TranscriptLine.{follow_in}
 use Rattle.line_flaws.specs.Told.{WantedIsTold, PartsAreTold}
 use Rattle.line_flaws.specs.declared.flaw.Part.TheVariants as parts
-use Rattle.line_flaws.specs.declared.key.Key.TheVariants as keys
+use Rattle.line_object.specs.declared.key.Key.TheVariants as keys
 
 pub keys_told : WantedIsTold
 keys_told keys.Ev d = refl

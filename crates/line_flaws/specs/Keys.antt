@@ -7,32 +7,8 @@ use Rattle.serde_json.specs.Find.{get, as_str}
 use Rattle.schedule_lines.specs.Json.{field}
 use Rattle.line_flaws.specs.declared.flaw.Form.{Form}
 use Rattle.line_flaws.specs.declared.flaw.Form.TheVariants.{Schedule, Transcript}
-use Rattle.line_flaws.specs.declared.key.Key.{Key}
-use Rattle.line_flaws.specs.declared.key.Key.TheVariants as keys
-
--- a key as it stands in a line, without quotes
-abbrev pub text_of : Key → List ℕ
-text_of keys.Ev = codes "ev"
-text_of keys.Kind = codes "kind"
-text_of keys.Node = codes "node"
-text_of keys.Id = codes "id"
-text_of keys.Port = codes "port"
-text_of keys.Domain = codes "domain"
-text_of keys.First = codes "first"
-text_of keys.Log = codes "log"
-text_of keys.At = codes "at"
-text_of keys.CopyTag = codes "copy"
-text_of keys.TransitTag = codes "transit"
-text_of keys.Master = codes "master"
-text_of keys.Diff = codes "diff"
-text_of keys.Number = codes "n"
-text_of keys.Reading = codes "reading"
-text_of keys.Out = codes "out"
-text_of keys.Hex = codes "hex"
-text_of keys.Code = codes "code"
-text_of keys.Offset2 = codes "offset2"
-text_of keys.Path2 = codes "path2"
-text_of keys.Tags = codes "tags"
+use Rattle.line_object.specs.declared.key.Key.{Key}
+use Rattle.line_object.specs.declared.key.Key.TheVariants as keys
 
 -- the keys of a node that has a port
 abbrev pub port_keys : List Key

@@ -9,7 +9,7 @@ use Rattle.schedule_lines.specs.TranscriptLine.{follow_in, report_of}
 use Rattle.line_flaws.specs.Keys.{node_keys, outcome_keys}
 use Rattle.line_flaws.specs.Wanted.{is_wanted, is_wanted_part, part_wanted, place_of, wanted_of}
 use Rattle.line_flaws.specs.declared.flaw.Part.{Part}
-use Rattle.line_flaws.specs.declared.key.Key.{Key}
+use Rattle.line_object.specs.declared.key.Key.{Key}
 use Rattle.line_flaws.specs.declared.wanted.Wanted.{Wanted}
 use Rattle.line_flaws.specs.declared.wanted.Wanted.TheVariants as wanteds
 

@@ -12,13 +12,14 @@ use Rattle.schedule_lines.specs.Line.{line_of}
 use Rattle.schedule_lines.specs.TranscriptLine.{transcript_line_of}
 use Rattle.schedule_lines.specs.declared.reading.schedule.Line.TheVariants as schedules
 use Rattle.schedule_lines.specs.declared.reading.transcript.TranscriptLine.TheVariants as transcripts
-use Rattle.line_flaws.specs.Keys.{needed_keys, text_of}
+use Rattle.line_flaws.specs.Keys.{needed_keys}
+use Rattle.line_object.specs.Key.{key_text}
 use Rattle.line_flaws.specs.Wanted.{HasWanted, HasWrongPart, wanted_at}
 use Rattle.line_flaws.specs.declared.flaw.Flaw.{Flaw}
 use Rattle.line_flaws.specs.declared.flaw.Form.{Form}
 use Rattle.line_flaws.specs.declared.flaw.Form.TheVariants.{Schedule, Transcript}
-use Rattle.line_flaws.specs.declared.key.Key.{Key}
-use Rattle.line_flaws.specs.declared.key.Key.TheVariants as keys
+use Rattle.line_object.specs.declared.key.Key.{Key}
+use Rattle.line_object.specs.declared.key.Key.TheVariants as keys
 use Rattle.line_flaws.specs.declared.flaw.Flaw.TheVariants as flaws
 
 -- a flaw of octets that aren't JSON: whether they are UTF-8
@@ -59,7 +60,7 @@ HasOthers form d = IsSomeAnd (needed_keys form d) (λ needed. has_keys (length n
 -- octets are, in its quotes, a key of the value that the line doesn't need
 abbrev pub IsOther : Form → Data → List ℕ → Type 0
 IsOther form d octets = (name : List ℕ) × (octets ≡ 34 ∷ (name ++ 34 ∷ [])) × IsSome (get name d)
-    × IsSomeAnd (needed_keys form d) (All (λ key. text_of key ≢ name))
+    × IsSomeAnd (needed_keys form d) (All (λ key. key_text key ≢ name))
 
 -- a flaw of the value of a line of a form, after so many events
 abbrev pub IsSoOfValue : Form → ℕ → Data → Flaw → Type 0
@@ -68,7 +69,7 @@ IsSoOfValue form events d (flaws.NoJson octet why) = ⊥
 IsSoOfValue form events d (flaws.NoObject found) = as_object d ≡ None
 IsSoOfValue form events d (flaws.NoKind near) =
     IsSome (as_object d) × (get (codes "ev") d ≡ None) × (get (codes "kind") d ≡ None)
-IsSoOfValue form events d (flaws.Missing key near) = (get (text_of key) d ≡ None) × IsNeeded form d key
+IsSoOfValue form events d (flaws.Missing key near) = (get (key_text key) d ≡ None) × IsNeeded form d key
 IsSoOfValue form events d (flaws.Wrong key found) = (wanted_at key d ≡ Some false) × IsAsked form d key
 IsSoOfValue form events d (flaws.WrongPart key part found) =
     (wanted_at key d ≡ Some false) × HasWrongPart d key part × IsNeeded form d key

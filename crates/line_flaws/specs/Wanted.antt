@@ -7,11 +7,12 @@ use Rattle.schedule_lines.specs.Json.{has_items, item_at, whole_in, whole_below,
 use Rattle.schedule_lines.specs.Json.{octets_in, moment_in, difference_in}
 use Rattle.schedule_lines.specs.Line.{kind_of}
 use Rattle.schedule_lines.specs.TranscriptLine.{follow_in, report_of}
-use Rattle.line_flaws.specs.Keys.{node_keys, outcome_keys, text_of}
+use Rattle.line_flaws.specs.Keys.{node_keys, outcome_keys}
+use Rattle.line_object.specs.Key.{key_text}
 use Rattle.line_flaws.specs.declared.flaw.Part.{Part}
 use Rattle.line_flaws.specs.declared.flaw.Part.TheVariants as parts
-use Rattle.line_flaws.specs.declared.key.Key.{Key}
-use Rattle.line_flaws.specs.declared.key.Key.TheVariants as keys
+use Rattle.line_object.specs.declared.key.Key.{Key}
+use Rattle.line_object.specs.declared.key.Key.TheVariants as keys
 use Rattle.line_flaws.specs.declared.wanted.Wanted.{Wanted}
 use Rattle.line_flaws.specs.declared.wanted.Wanted.TheVariants as wanteds
 
@@ -51,7 +52,7 @@ is_wanted_part parts.ResponseTag d = is_some (item_at whole_in 3 d)
 
 -- whether the value of a key is one that is wanted; None where the key isn't there
 abbrev pub wanted_at : Key → Data → Option Bool
-wanted_at key d = option_map (is_wanted key) (get (text_of key) d)
+wanted_at key d = option_map (is_wanted key) (get (key_text key) d)
 
 -- a key is there, with a value that is wanted
 abbrev pub HasWanted : Data → Key → Type 0
@@ -115,7 +116,7 @@ part_count _ = 0
 -- this part isn't what is read there
 abbrev pub HasWrongPart : Data → Key → Part → Type 0
 HasWrongPart d key part =
-    IsPartOf key part × IsSomeAnd (get (text_of key) d) (λ value.
+    IsPartOf key part × IsSomeAnd (get (key_text key) d) (λ value.
     (has_items (part_count (wanted_of key)) value ≡ true) × (is_wanted_part part value ≡ false))
 
 -- the place of a part in its array

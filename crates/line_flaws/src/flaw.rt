@@ -5,8 +5,8 @@ ghost use Rattle.line_flaws.specs.Wanted.{is_wanted_part, part_wanted, place_of}
 
 use crate::excerpt::Excerpt;
 use crate::json_fault::JsonFault;
-use crate::key::Key;
 use crate::wanted::Wanted;
+use line_object::Key;
 use serde_json::Value;
 use std::fmt;
 use std::fmt::{Display, Formatter};
@@ -196,6 +196,51 @@ fn write_missing<W: fmt::Write>(f: &mut Formatter<W>, near: Option<&[u8]>) -> fm
     }
 }
 
+/// That a key is missing, and what is wanted of it where none stands near it.
+fn write_missing_key<W: fmt::Write>(
+    f: &mut Formatter<W>,
+    key: Key,
+    near: Option<&[u8]>,
+) -> fmt::Result {
+    write!(f, "\"{}\"", key.text())?;
+    write_missing(f, near)?;
+    match near {
+        Some(_) => Ok(()),
+        None => write!(f, "; {}", Wanted::of(key)),
+    }
+}
+
+/// That a key has no place in a line of this `ev` or `kind`.
+fn write_too_much<W: fmt::Write>(
+    f: &mut Formatter<W>,
+    key: &[u8],
+    kind: &[u8],
+    out: Option<&[u8]>,
+) -> fmt::Result {
+    match key {
+        [] => f.write_str("a key with escapes is too much for ")?,
+        _ => write!(f, "{} is a key too much for ", Excerpt(key))?,
+    }
+    write!(f, "{}", Excerpt(kind))?;
+    match out {
+        Some(out) => write!(f, " with \"out\" {}", Excerpt(out)),
+        None => Ok(()),
+    }
+}
+
+/// That an event's number isn't its place, and what that comes of.
+fn write_out_of_place<W: fmt::Write>(f: &mut Formatter<W>, number: u64, place: u64) -> fmt::Result {
+    let why = if number > place {
+        "an event before it is missing"
+    } else {
+        "an event comes twice"
+    };
+    write!(
+        f,
+        "\"n\" is {number}; wanted is {place}, the place among the events from 0: {why}, or \"n\" is wrong"
+    )
+}
+
 impl Display for Flaw<'_> {
     /// The sentence that stands after the line, the octet and a colon.
     fn fmt<W: fmt::Write>(&self, f: &mut Formatter<W>) -> fmt::Result {
@@ -213,34 +258,17 @@ impl Display for Flaw<'_> {
                 f.write_str("\"ev\" of an event or \"kind\" of a node")?;
                 write_missing(f, *near)
             }
-            Flaw::Missing { key, near } => {
-                write!(f, "\"{}\"", key.text())?;
-                write_missing(f, *near)?;
-                match near {
-                    Some(_) => Ok(()),
-                    None => write!(f, "; {}", key.wanted()),
-                }
-            }
+            Flaw::Missing { key, near } => write_missing_key(f, *key, *near),
             Flaw::Wrong { key, found } => {
                 write!(f, "\"{}\" ", key.text())?;
-                write_wrong(f, "is", found, key.wanted())
+                write_wrong(f, "is", found, Wanted::of(*key))
             }
             Flaw::WrongPart { key, part, found } => {
                 let (words, verb) = part.words();
                 write!(f, "{words} \"{}\" ", key.text())?;
                 write_wrong(f, verb, found, part.wanted())
             }
-            Flaw::TooMuch { key, kind, out } => {
-                match key {
-                    [] => f.write_str("a key with escapes is too much for ")?,
-                    _ => write!(f, "{} is a key too much for ", Excerpt(key))?,
-                }
-                write!(f, "{}", Excerpt(kind))?;
-                match out {
-                    Some(out) => write!(f, " with \"out\" {}", Excerpt(out)),
-                    None => Ok(()),
-                }
-            }
+            Flaw::TooMuch { key, kind, out } => write_too_much(f, key, kind, *out),
             Flaw::HasOutcome => {
                 f.write_str(
                     "an event with what came of it; wanted are the keys of a schedule alone",
@@ -252,17 +280,7 @@ impl Display for Flaw<'_> {
             Flaw::NodeAfterEvent => {
                 f.write_str("a node after an event; wanted are all nodes before the first event")
             }
-            Flaw::OutOfPlace { number, place } => {
-                let why = if number > place {
-                    "an event before it is missing"
-                } else {
-                    "an event comes twice"
-                };
-                write!(
-                    f,
-                    "\"n\" is {number}; wanted is {place}, the place among the events from 0: {why}, or \"n\" is wrong"
-                )
-            }
+            Flaw::OutOfPlace { number, place } => write_out_of_place(f, *number, *place),
         }
     }
 }

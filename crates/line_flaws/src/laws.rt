@@ -10,7 +10,7 @@ pub fn flawless_lines_are_read()
     ensures transcript { FlawlessLinesAreTold }
 {}
 
-/// A key's value is one that is read just where it is what `Key::wanted` tells, and an item of an array
+/// A key's value is one that is read just where it is what `Wanted::of` tells, and an item of an array
 /// just where it is what `Part::wanted` does.
 pub fn told_values_are_wanted()
     ensures keys { WantedIsTold }

@@ -4,11 +4,10 @@
 
 mod class;
 mod excerpt;
-mod fields;
 mod flaw;
 mod foreign;
 mod json_fault;
-mod key;
+mod keys;
 pub mod laws;
 mod line;
 mod pieces;
@@ -18,6 +17,5 @@ mod wanted;
 pub use flaw::{Flaw, FlawAt, Form, Part};
 pub use foreign::Foreign;
 pub use json_fault::JsonFault;
-pub use key::Key;
 pub use line::{schedule_flaw, transcript_flaw};
 pub use wanted::Wanted;

@@ -5,9 +5,10 @@ ghost use Rattle.serde_json.specs.View.{view};
 ghost use Rattle.serde_json.specs.Find.{as_object, as_str, get};
 ghost use Rattle.schedule_lines.specs.Json.{field, has_items};
 ghost use Rattle.line_flaws.specs.declared.flaw.Form.TheVariants.{Schedule, Transcript};
-ghost use Rattle.line_flaws.specs.declared.key.Key.TheVariants.{At, Ev, Kind, Node, Out, Tags};
+ghost use Rattle.line_object.specs.declared.key.Key.TheVariants.{At, Ev, Kind, Node, Out, Tags};
 ghost use Rattle.line_flaws.specs.declared.wanted.Wanted.TheVariants as wanteds;
-ghost use Rattle.line_flaws.specs.Keys.{is_timed, needed_keys, outcome_keys_in, text_of, told_keys};
+ghost use Rattle.line_flaws.specs.Keys.{is_timed, needed_keys, outcome_keys_in, told_keys};
+ghost use Rattle.line_object.specs.Key.{key_text};
 ghost use Rattle.line_flaws.specs.Wanted.{HasWanted, HasWrongPart, IsPartOf, array_of, is_wanted, is_wanted_part};
 ghost use Rattle.line_flaws.specs.Wanted.{part_count, wanted_at, wanted_of};
 ghost use Rattle.line_flaws.specs.Read.{HasJustNeeded};
@@ -15,8 +16,10 @@ ghost use Rattle.line_flaws.specs.Truth.{HasNeeded, HasOthers, IsAsked, IsOther,
 ghost use Rattle.line_flaws.specs.Inner.Met.{is_met};
 
 use crate::flaw::{Flaw, Form, Part};
-use crate::key::{Key, node_keys, outcome_keys, own_keys, told_keys};
+use crate::keys::{node_keys, outcome_keys, own_keys, told_keys};
 use crate::pieces::{Members, item_text, plain_name, unquoted, value_text};
+use crate::wanted::Wanted;
+use line_object::Key;
 use serde_json::Value;
 
 /// A line, the value that it is, and the form that it isn't a line of.
@@ -43,7 +46,7 @@ struct Allowed {
 impl Allowed {
     /// Whether a key is one of these, without its quotes.
     fn has(self, name: &[u8]) -> bool
-        ensures { result ≡ false → All (λ key. text_of key ≢ name.now)
+        ensures { result ≡ false → All (λ key. key_text key ≢ name.now)
             (self.common.now ++ (self.own.now ++ (self.told.now ++ self.outcome.now))) }
     {
         is_among(self.common, name)
@@ -55,7 +58,7 @@ impl Allowed {
 
 /// Whether one of the keys has this name.
 fn is_among(keys: &[Key], name: &[u8]) -> bool
-    ensures { result ≡ false → All (λ key. text_of key ≢ name.now) keys.now }
+    ensures { result ≡ false → All (λ key. key_text key ≢ name.now) keys.now }
 {
     for key in keys {
         if key.text().as_bytes() == name {
@@ -97,7 +100,7 @@ pub(crate) fn flaw_in<'a>(form: Form, line: &'a [u8], value: &Value) -> Flaw<'a>
 impl<'a, 'v> Search<'a, 'v> {
     /// Whether a key is there.
     fn has(self, key: Key) -> bool
-        ensures { result ≡ is_some (get (text_of key) (view self.entry.value.now)) }
+        ensures { result ≡ is_some (get (key_text key) (view self.entry.value.now)) }
     {
         self.value.get(key.text()).is_some()
     }
@@ -109,7 +112,7 @@ impl<'a, 'v> Search<'a, 'v> {
 
     /// The text that a key's value is.
     fn text_at(self, key: Key) -> Option<&'v str>
-        ensures { option_map (λ text. text.now) result ≡ field as_str (text_of key) (view self.entry.value.now) }
+        ensures { option_map (λ text. text.now) result ≡ field as_str (key_text key) (view self.entry.value.now) }
     {
         self.value.get(key.text())?.as_str()
     }
@@ -136,8 +139,8 @@ impl<'a, 'v> Search<'a, 'v> {
     /// The flaw of a node.
     fn node_flaw(self) -> Flaw<'a>
         requires unread { ¬ HasJustNeeded self.form (view self.value.now) }
-        requires node { is_some (get (text_of Kind) (view self.value.now)) ≡ true }
-        requires no_event { is_some (get (text_of Ev) (view self.value.now)) ≡ false }
+        requires node { is_some (get (key_text Kind) (view self.value.now)) ≡ true }
+        requires no_event { is_some (get (key_text Ev) (view self.value.now)) ≡ false }
         ensures { (events : ℕ) → IsSoOfValue self.entry.form events (view self.entry.value.now) result }
     {
         let Some(kind) = self.text_at(Key::Kind) else {
@@ -160,7 +163,7 @@ impl<'a, 'v> Search<'a, 'v> {
     /// The flaw of an event.
     fn event_flaw(self) -> Flaw<'a>
         requires unread { ¬ HasJustNeeded self.form (view self.value.now) }
-        requires event { is_some (get (text_of Ev) (view self.value.now)) ≡ true }
+        requires event { is_some (get (key_text Ev) (view self.value.now)) ≡ true }
         ensures { (events : ℕ) → IsSoOfValue self.entry.form events (view self.entry.value.now) result }
     {
         let Some(kind) = self.text_at(Key::Ev) else {
@@ -226,7 +229,7 @@ impl<'a, 'v> Search<'a, 'v> {
 
     /// The flaw of an `out` that is no text.
     fn out_flaw(self, allowed: Allowed) -> Flaw<'a>
-        requires text { field as_str (text_of Out) (view self.value.now) ≡ None }
+        requires text { field as_str (key_text Out) (view self.value.now) ≡ None }
         requires needed { IsNeeded self.form (view self.value.now) Out }
         ensures { (events : ℕ) → IsSoOfValue self.entry.form events (view self.entry.value.now) result }
     {
@@ -287,12 +290,12 @@ impl<'a, 'v> Search<'a, 'v> {
 
     /// The flaw of a key's value.
     fn value_flaw(self, key: Key, value: &Value) -> Option<Flaw<'a>>
-        requires value { get (text_of key) (view self.value.now) ≡ Some (view value.now) }
+        requires value { get (key_text key) (view self.value.now) ≡ Some (view value.now) }
         requires needed { IsNeeded self.form (view self.value.now) key }
         ensures { MatchOption result (HasWanted (view self.entry.value.now) key)
             (λ flaw. (events : ℕ) → IsSoOfValue self.entry.form events (view self.entry.value.now) flaw) }
     {
-        if !key.wanted().is_met(value) {
+        if !Wanted::of(key).is_met(value) {
             return Some(self.wrong(key));
         }
         match wrong_part(key, value) {
@@ -329,7 +332,7 @@ impl<'a, 'v> Search<'a, 'v> {
 
     /// That a key is missing, with the first near it that has no place.
     fn missing(self, key: Key, allowed: Allowed) -> Flaw<'a>
-        requires missing { get (text_of key) (view self.value.now) ≡ None }
+        requires missing { get (key_text key) (view self.value.now) ≡ None }
         requires needed { IsNeeded self.form (view self.value.now) key }
         ensures { (events : ℕ) → IsSoOfValue self.entry.form events (view self.entry.value.now) result }
     {
@@ -342,8 +345,8 @@ impl<'a, 'v> Search<'a, 'v> {
     /// That neither an event nor a node is named.
     fn no_kind(self) -> Flaw<'a>
         requires object { is_some (as_object (view self.value.now)) ≡ true }
-        requires event { is_some (get (text_of Ev) (view self.value.now)) ≡ false }
-        requires node { is_some (get (text_of Kind) (view self.value.now)) ≡ false }
+        requires event { is_some (get (key_text Ev) (view self.value.now)) ≡ false }
+        requires node { is_some (get (key_text Kind) (view self.value.now)) ≡ false }
         ensures { (events : ℕ) → IsSoOfValue self.entry.form events (view self.entry.value.now) result }
     {
         let allowed = Allowed {

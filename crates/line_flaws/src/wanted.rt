@@ -3,13 +3,14 @@ ghost use Rattle.std.specs.Prelude.{◌≡◌, is_some, option_and_then};
 ghost use Rattle.serde_json.specs.View.{view};
 ghost use Rattle.serde_json.specs.Find.{as_str};
 ghost use Rattle.schedule_lines.specs.Line.{kind_of};
+ghost use Rattle.schedule_lines.specs.TranscriptLine.{follow_in};
 ghost use Rattle.line_flaws.specs.Keys.{node_keys, outcome_keys};
+ghost use Rattle.line_flaws.specs.Wanted.{wanted_of};
 ghost use Rattle.line_flaws.specs.Inner.Met.{is_met};
 
-use crate::fields::{
-    clock_in, difference_in, follow_in, has_items, is_octets, name_in, signed_octet_in, whole_below,
-};
-use crate::key::{node_keys, outcome_keys, own_keys};
+use crate::keys::{node_keys, outcome_keys, own_keys};
+use line_object::{Key, LineValue};
+use schedule_lines::{clock_in, difference_in, name_in, octets_in, signed_octet_in, whole_below};
 use serde_json::Value;
 use std::fmt;
 use std::fmt::{Display, Formatter};
@@ -75,7 +76,43 @@ fn is_outcome(value: &Value) -> bool
     }
 }
 
+/// Whether it is a tag, or null.
+fn is_tag_or_null(value: &Value) -> bool
+    ensures { result ≡ is_some (follow_in (view value.now)) }
+{
+    value.is_null() || value.as_u64().is_some()
+}
+
 impl Wanted {
+    /// What is wanted of a key's value.
+    pub fn of(key: Key) -> Wanted
+        ensures { result ≡ wanted_of key }
+    {
+        match key {
+            Key::Ev => Wanted::EventKind,
+            Key::Kind => Wanted::NodeKind,
+            Key::Node => Wanted::Name,
+            Key::Id => Wanted::Identity,
+            Key::Port => Wanted::Whole { bound: 65_536 },
+            Key::Domain => Wanted::Whole { bound: 256 },
+            Key::First => Wanted::Whole { bound: 65_536 },
+            Key::Log => Wanted::SignedOctet,
+            Key::At => Wanted::Moment,
+            Key::CopyTag => Wanted::Tag,
+            Key::TransitTag => Wanted::Tag,
+            Key::Master => Wanted::Name,
+            Key::Diff => Wanted::Difference,
+            Key::Number => Wanted::Tag,
+            Key::Reading => Wanted::Moment,
+            Key::Out => Wanted::Outcome,
+            Key::Hex => Wanted::Octets,
+            Key::Code => Wanted::Whole { bound: 65_536 },
+            Key::Offset2 => Wanted::Difference,
+            Key::Path2 => Wanted::Difference,
+            Key::Tags => Wanted::Tags,
+        }
+    }
+
     /// Whether a value is what is wanted. Of an array only the count is looked at.
     pub(crate) fn is_met(self, value: &Value) -> bool
         ensures { result ≡ is_met self (view value.now) }
@@ -89,11 +126,11 @@ impl Wanted {
             Wanted::Whole { bound } => whole_below(value, bound).is_some(),
             Wanted::Tag => value.as_u64().is_some(),
             Wanted::SignedOctet => signed_octet_in(value).is_some(),
-            Wanted::Moment => has_items(value, 3),
+            Wanted::Moment => value.has_items(3),
             Wanted::Difference => difference_in(value).is_some(),
-            Wanted::Octets => is_octets(value),
-            Wanted::Tags => has_items(value, 4),
-            Wanted::TagOrNull => follow_in(value).is_some(),
+            Wanted::Octets => octets_in(value).is_some(),
+            Wanted::Tags => value.has_items(4),
+            Wanted::TagOrNull => is_tag_or_null(value),
         }
     }
 

@@ -1,11 +1,14 @@
 //! What lines of schedules and transcripts are, and how they are written.
 
 use crate::flaws::says_why;
+use json::Scratch;
 use line_flaws::{Flaw, schedule_flaw, transcript_flaw};
+use line_object::LineObject;
 use line_writing::{push_event, push_node};
 use schedule_lines::{Line, TranscriptLine};
 use serde_json::Value;
 use std::alloc::{AllocError, Global};
+use std::str;
 
 const NO_JSON: &str = "no JSON";
 
@@ -33,6 +36,16 @@ pub(crate) fn of_transcript(alloc: Global, line: &[u8]) -> anyhow::Result<String
         Err(_) => NO_JSON,
     };
     Ok(reasoned(alloc, what, transcript_flaw(alloc, line, 0)?)?)
+}
+
+/// Whether a line is read where it stands, or has its value read.
+pub(crate) fn way_of_reading(alloc: Global, line: &[u8]) -> anyhow::Result<String> {
+    let mut scratch = Scratch::new(alloc);
+    let way = match LineObject::parse(alloc, &mut scratch, str::from_utf8(line)?)? {
+        Some(_) => "in place",
+        None => "by its value",
+    };
+    Ok(String::from_str(alloc, way)?)
 }
 
 fn reasoned(alloc: Global, what: &str, flaw: Option<Flaw<'_>>) -> Result<String, AllocError> {

@@ -5,4 +5,7 @@
 pub mod laws;
 mod reading;
 
-pub use reading::{Line, TranscriptLine, line_value};
+pub use reading::{
+    Line, TranscriptLine, clock_in, difference_in, line_value, name_in, octets_in, signed_octet_in,
+    whole_below,
+};

@@ -3,13 +3,10 @@
 
 mod entry;
 mod fault;
-mod guess;
-mod own_spelling;
 mod reader;
 mod stage;
 mod text;
 mod transcript;
-mod within;
 
 pub use entry::{read_entry, read_recorded};
 pub use fault::TaskFault;

@@ -1,21 +1,21 @@
-//! Lines, read one by one. Most are spelled as they would be written, but for blanks, which is quickly seen; others have
-//! escapes, or their keys in another order, and are spelled again. What is left has its value read.
+//! Lines, read one by one. Almost all are objects whose values hold no others but a few in an array, which are read where they stand. Of what
+//! is left the value is read.
 ghost use Rattle.std.specs.Prelude.{◌≡◌, ◌⊎◌, MatchResult, IfOk, IfSome, Ok};
 ghost use Rattle.schedule_reading.specs.Entry.{entry_in, recorded_in, IsOwnFault};
 
 use crate::entry::{read_entry, read_recorded};
 use crate::fault::TaskFault;
-use crate::own_spelling::OwnSpelling;
-use json_spelling::Respeller;
+use json::Scratch;
+use line_object::LineObject;
 use schedule_lines::{Line, TranscriptLine};
 use std::alloc::{AllocError, Global};
+use std::str;
 
 /// A reader of lines that keeps buffers. What a line is doesn't depend on those before it.
 #[derive(Drop)]
 pub struct LineReader {
     alloc: Global,
-    own: OwnSpelling,
-    respeller: Respeller,
+    scratch: Scratch,
 }
 
 impl LineReader {
@@ -23,8 +23,7 @@ impl LineReader {
     pub fn new(alloc: Global) -> LineReader {
         LineReader {
             alloc,
-            own: OwnSpelling::new(alloc),
-            respeller: Respeller::new(alloc),
+            scratch: Scratch::new(alloc),
         }
     }
 
@@ -34,10 +33,7 @@ impl LineReader {
             (λ entry. entry_in line.now ≡ Ok entry)
             (λ fault. (fault ≡ TaskFault.Memory) ⊎ IsOwnFault entry_in fault line.now) }
     {
-        if let Some(entry) = self.own.entry(line)? {
-            return Ok(entry);
-        }
-        match self.respelled_entry(line)? {
+        match self.entry_in_place(line)? {
             Some(entry) => Ok(entry),
             None => read_entry(self.alloc, line),
         }
@@ -49,31 +45,34 @@ impl LineReader {
             (λ entry. recorded_in line.now ≡ Ok entry)
             (λ fault. (fault ≡ TaskFault.Memory) ⊎ IsOwnFault recorded_in fault line.now) }
     {
-        if let Some(entry) = self.own.recorded(line)? {
-            return Ok(entry);
-        }
-        match self.respelled_recorded(line)? {
+        match self.recorded_in_place(line)? {
             Some(entry) => Ok(entry),
             None => read_recorded(self.alloc, line),
         }
     }
 
-    /// What a line of a schedule is that is spelled as it would be written once it is spelled again.
-    fn respelled_entry(&mut self, line: &[u8]) -> Result<Option<Line>, AllocError>
+    /// What a line of a schedule is, where it can be read where it stands.
+    fn entry_in_place(&mut self, line: &[u8]) -> Result<Option<Line>, AllocError>
         ensures { IfOk result (λ found. IfSome found (λ entry. entry_in line.now ≡ Ok entry)) }
     {
-        match self.respeller.respell(line)? {
-            Some(text) => self.own.entry(text),
+        let Ok(text) = str::from_utf8(line) else {
+            return Ok(None);
+        };
+        match LineObject::parse(self.alloc, &mut self.scratch, text)? {
+            Some(members) => Ok(Line::of(&members)),
             None => Ok(None),
         }
     }
 
-    /// What a line of a transcript is that is spelled as it would be written once it is spelled again.
-    fn respelled_recorded(&mut self, line: &[u8]) -> Result<Option<TranscriptLine>, AllocError>
+    /// What a line of a transcript is, where it can be read where it stands.
+    fn recorded_in_place(&mut self, line: &[u8]) -> Result<Option<TranscriptLine>, AllocError>
         ensures { IfOk result (λ found. IfSome found (λ entry. recorded_in line.now ≡ Ok entry)) }
     {
-        match self.respeller.respell(line)? {
-            Some(text) => self.own.recorded(text),
+        let Ok(text) = str::from_utf8(line) else {
+            return Ok(None);
+        };
+        match LineObject::parse(self.alloc, &mut self.scratch, text)? {
+            Some(members) => Ok(TranscriptLine::of(&members)),
             None => Ok(None),
         }
     }

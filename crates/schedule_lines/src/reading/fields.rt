@@ -1,56 +1,36 @@
 //! The values of fields.
-ghost use Rattle.std.specs.Prelude.{◌≡◌, ◌≢◌, ◌≤◌, ◌&&◌, ℕ, pos, neg_ℤ, nat_lt, drop, length, slice_index, option_map};
-ghost use Rattle.serde_json.specs.View.{view};
-ghost use Rattle.schedule_lines.specs.Json.{field, has_keys, has_items, whole_in, whole_below};
+ghost use Rattle.std.specs.Prelude.{◌≡◌, ◌≢◌, ◌≤◌, ◌&&◌, pos, neg_ℤ, nat_lt, drop, length, slice_index, option_map};
+ghost use Rattle.schedule_lines.specs.Json.{whole_below};
 ghost use Rattle.schedule_lines.specs.Json.{item_at, octets_in, signed_octet_in, name_in, clock_in};
 ghost use Rattle.schedule_lines.specs.Json.{moment_in, positive_of, difference_of, difference_in};
 
 use arrayvec::ArrayVec;
 use hex::FromHex;
+use line_object::LineValue;
 use network_model::Name;
 use ptp_units::{ScaledTime, Timestamp};
-use serde_json::Value;
 
-/// Whether it is an object of this many keys.
-pub(crate) fn has_keys(value: &Value, count: usize) -> bool
-    ensures { result ≡ has_keys count (view value.now) }
-{
-    match value.as_object() {
-        Some(members) => members.len() == count,
-        None => false,
-    }
-}
-
-/// Whether it is an array of this many.
-pub(crate) fn has_items(value: &Value, count: usize) -> bool
-    ensures { result ≡ has_items count (view value.now) }
-{
-    match value.as_array() {
-        Some(items) => items.len() == count,
-        None => false,
-    }
-}
-
-/// A whole number below a bound.
-pub(crate) fn whole_below(value: &Value, bound: u64) -> Option<u64>
-    ensures { result ≡ whole_below bound (view value.now) }
+/// A whole number from 0 to below a bound; None for all else.
+pub fn whole_below<V: LineValue>(value: &V, bound: u64) -> Option<u64>
+    ensures { result ≡ whole_below bound (V.as_data value.now) }
 {
     let number = value.as_u64()?;
     if number < bound { Some(number) } else { None }
 }
 
 /// The item at an index, a whole number below a bound.
-fn part_below(value: &Value, index: usize, bound: u64) -> Option<u64>
-    ensures { result ≡ item_at (whole_below bound) index (view value.now) }
+fn part_below<V: LineValue>(value: &V, index: usize, bound: u64) -> Option<u64>
+    ensures { result ≡ item_at (whole_below bound) index (V.as_data value.now) }
 {
-    whole_below(value.get(index)?, bound)
+    let number = value.u64_at(index)?;
+    if number < bound { Some(number) } else { None }
 }
 
 /// A moment `[s,n,f]`: seconds, nanoseconds, and units of 2^-16 ns.
-pub(crate) fn moment_in(value: &Value) -> Option<ScaledTime>
-    ensures { result ≡ moment_in (view value.now) }
+pub(crate) fn moment_in<V: LineValue>(value: &V) -> Option<ScaledTime>
+    ensures { result ≡ moment_in (V.as_data value.now) }
 {
-    if !has_items(value, 3) {
+    if !value.has_items(3) {
         return None;
     }
     let seconds = part_below(value, 0, 1 << 48)?;
@@ -60,9 +40,9 @@ pub(crate) fn moment_in(value: &Value) -> Option<ScaledTime>
     Some(ScaledTime::join(timestamp, fraction as u16))
 }
 
-/// A whole number from -128 to 127.
-pub(crate) fn signed_octet_in(value: &Value) -> Option<i8>
-    ensures { result ≡ signed_octet_in (view value.now) }
+/// A whole number from -128 to 127; None for all else.
+pub fn signed_octet_in<V: LineValue>(value: &V) -> Option<i8>
+    ensures { result ≡ signed_octet_in (V.as_data value.now) }
 {
     let number = value.as_i64()?;
     if -128 <= number && number <= 127 {
@@ -72,23 +52,23 @@ pub(crate) fn signed_octet_in(value: &Value) -> Option<i8>
     }
 }
 
-/// A node's name.
-pub(crate) fn name_in(value: &Value) -> Option<Name>
-    ensures { result ≡ name_in (view value.now) }
+/// A node's name, a text of 1 to 16 ASCII letters, digits, `_` and `-`; None for all else.
+pub fn name_in<V: LineValue>(value: &V) -> Option<Name>
+    ensures { result ≡ name_in (V.as_data value.now) }
 {
     Name::new(value.as_str()?)
 }
 
-/// A clockIdentity: 16 hexadecimal digits of either case.
-pub(crate) fn clock_in(value: &Value) -> Option<[u8; 8]>
-    ensures { result ≡ clock_in (view value.now) }
+/// A clockIdentity: a text of 16 hexadecimal digits of either case; None for all else.
+pub fn clock_in<V: LineValue>(value: &V) -> Option<[u8; 8]>
+    ensures { result ≡ clock_in (V.as_data value.now) }
 {
     <[u8; 8] as FromHex>::from_hex(value.as_str()?).ok()
 }
 
-/// At most 54 octets in hexadecimal, of either case.
-pub(crate) fn octets_in(value: &Value) -> Option<ArrayVec<u8, 54>>
-    ensures { option_map (λ octets. octets.items) result ≡ octets_in (view value.now) }
+/// At most 54 octets: a text in hexadecimal, of either case; None for all else.
+pub fn octets_in<V: LineValue>(value: &V) -> Option<ArrayVec<u8, 54>>
+    ensures { option_map (λ octets. octets.items) result ≡ octets_in (V.as_data value.now) }
 {
     let text = value.as_str()?;
     if text.len() > 108 {
@@ -101,9 +81,9 @@ pub(crate) fn octets_in(value: &Value) -> Option<ArrayVec<u8, 54>>
 }
 
 /// A whole number as its text: in decimal within 32 octets, a sign in front of negative ones alone,
-/// and without leading zeros.
-pub(crate) fn difference_in(value: &Value) -> Option<i128>
-    ensures { result ≡ difference_in (view value.now) }
+/// and without leading zeros; None for all else.
+pub fn difference_in<V: LineValue>(value: &V) -> Option<i128>
+    ensures { result ≡ difference_in (V.as_data value.now) }
 {
     difference_of(value.as_str()?)
 }

@@ -1,17 +1,16 @@
 //! Lines of schedules, read: nodes and events.
 ghost use Rattle.std.specs.Prelude.{◌≡◌};
-ghost use Rattle.serde_json.specs.View.{view};
 ghost use Rattle.schedule_lines.specs.Line.{line_of, scheduled_in, event_in, event_at, event_keys, node_in};
 ghost use Rattle.schedule_lines.specs.Line.{at_in, copy_in, config_in, first_in, node_kind, node_spec_in};
 
 use crate::reading::fields::{
-    clock_in, difference_in, has_keys, moment_in, name_in, signed_octet_in, whole_below,
+    clock_in, difference_in, moment_in, name_in, signed_octet_in, whole_below,
 };
 use crate::reading::kind::{EventKind, kind_of};
 use event_codec::{PortConfig, PortIdentity};
+use line_object::{Key, LineMembers, LineValue};
 use network_model::{Event, Name, NodeKind, NodeSpec};
 use ptp_units::{ScaledTime, Seq};
-use serde_json::Value;
 
 /// A line of a schedule.
 #[derive(Clone, Copy, Debug, PartialEq, Eq)]
@@ -26,23 +25,23 @@ impl Line {
     /// The node or the event that a line's value is: with the key `ev` it is an event, without it and
     /// with `kind` a node. None for every other value, and where a key of the form
     /// is missing, one is there that isn't of the form, or a key's value isn't what is asked for.
-    pub fn of(value: &Value) -> Option<Line>
-        ensures { result ≡ line_of (view value.now) }
+    pub fn of<M: LineMembers>(members: &M) -> Option<Line>
+        ensures { result ≡ line_of (M.as_data members.now) }
     {
-        if value.get("ev").is_some() {
-            Some(Line::Event(scheduled_in(value)?))
+        if members.get(Key::Ev).is_some() {
+            Some(Line::Event(scheduled_in(members)?))
         } else {
-            Some(Line::Node(node_spec_in(value)?))
+            Some(Line::Node(node_spec_in(members)?))
         }
     }
 }
 
 /// The event that an object is, with just its keys.
-fn scheduled_in(value: &Value) -> Option<Event>
-    ensures { result ≡ scheduled_in (view value.now) }
+fn scheduled_in<M: LineMembers>(members: &M) -> Option<Event>
+    ensures { result ≡ scheduled_in (M.as_data members.now) }
 {
-    let event = event_in(value)?;
-    if has_keys(value, event_keys(&event)) {
+    let event = event_in(members)?;
+    if members.has_keys(event_keys(&event)) {
         Some(event)
     } else {
         None
@@ -50,11 +49,11 @@ fn scheduled_in(value: &Value) -> Option<Event>
 }
 
 /// The event that an object's keys are, whatever keys stand beside them.
-pub(crate) fn event_in(value: &Value) -> Option<Event>
-    ensures { result ≡ event_in (view value.now) }
+pub(crate) fn event_in<M: LineMembers>(members: &M) -> Option<Event>
+    ensures { result ≡ event_in (M.as_data members.now) }
 {
-    let kind = kind_of(value.get("ev")?.as_str()?)?;
-    event_at(kind, node_in(value)?, value)
+    let kind = kind_of(members.get(Key::Ev)?.as_str()?)?;
+    event_at(kind, node_in(members)?, members)
 }
 
 /// How many keys an event has, `ev` and `node` among them.
@@ -74,113 +73,113 @@ pub(crate) fn event_keys(event: &Event) -> usize
 }
 
 /// The event of a kind at a node.
-fn event_at(kind: EventKind, node: Name, value: &Value) -> Option<Event>
-    ensures { result ≡ event_at kind node (view value.now) }
+fn event_at<M: LineMembers>(kind: EventKind, node: Name, members: &M) -> Option<Event>
+    ensures { result ≡ event_at kind node (M.as_data members.now) }
 {
     let event = match kind {
         EventKind::Sync => Event::Sync {
             node,
-            at: at_in(value)?,
+            at: at_in(members)?,
         },
         EventKind::SyncOne => Event::SyncOne {
             node,
-            at: at_in(value)?,
+            at: at_in(members)?,
         },
         EventKind::Follow => Event::Follow { node },
         EventKind::Enter => Event::Enter {
             node,
-            copy: copy_in(value)?,
-            at: at_in(value)?,
+            copy: copy_in(members)?,
+            at: at_in(members)?,
         },
         EventKind::Leave => Event::Leave {
             node,
-            transit: value.get("transit")?.as_u64()?,
-            at: at_in(value)?,
+            transit: members.get(Key::TransitTag)?.as_u64()?,
+            at: at_in(members)?,
         },
         EventKind::Arrive => Event::Arrive {
             node,
-            copy: copy_in(value)?,
-            at: at_in(value)?,
+            copy: copy_in(members)?,
+            at: at_in(members)?,
         },
         EventKind::Hear => Event::Hear {
             node,
-            copy: copy_in(value)?,
+            copy: copy_in(members)?,
         },
         EventKind::Request => Event::Request {
             node,
-            at: at_in(value)?,
+            at: at_in(members)?,
         },
         EventKind::Stamped => Event::Stamped { node },
         EventKind::Tick => Event::Tick { node },
         EventKind::SetMaster => Event::SetMaster {
             node,
-            master: name_in(value.get("master")?)?,
+            master: name_in(members.get(Key::Master)?)?,
         },
         EventKind::StepClock => Event::StepClock {
             node,
-            diff: difference_in(value.get("diff")?)?,
+            diff: difference_in(members.get(Key::Diff)?)?,
         },
     };
     Some(event)
 }
 
 /// The node's name.
-fn node_in(value: &Value) -> Option<Name>
-    ensures { result ≡ node_in (view value.now) }
+fn node_in<M: LineMembers>(members: &M) -> Option<Name>
+    ensures { result ≡ node_in (M.as_data members.now) }
 {
-    name_in(value.get("node")?)
+    name_in(members.get(Key::Node)?)
 }
 
 /// The event's moment.
-fn at_in(value: &Value) -> Option<ScaledTime>
-    ensures { result ≡ at_in (view value.now) }
+fn at_in<M: LineMembers>(members: &M) -> Option<ScaledTime>
+    ensures { result ≡ at_in (M.as_data members.now) }
 {
-    moment_in(value.get("at")?)
+    moment_in(members.get(Key::At)?)
 }
 
 /// The copy, named by its tag.
-fn copy_in(value: &Value) -> Option<u64>
-    ensures { result ≡ copy_in (view value.now) }
+fn copy_in<M: LineMembers>(members: &M) -> Option<u64>
+    ensures { result ≡ copy_in (M.as_data members.now) }
 {
-    value.get("copy")?.as_u64()
+    members.get(Key::CopyTag)?.as_u64()
 }
 
 /// The node that an object is.
-pub(crate) fn node_spec_in(value: &Value) -> Option<NodeSpec>
-    ensures { result ≡ node_spec_in (view value.now) }
+pub(crate) fn node_spec_in<M: LineMembers>(members: &M) -> Option<NodeSpec>
+    ensures { result ≡ node_spec_in (M.as_data members.now) }
 {
-    let text = value.get("kind")?.as_str()?;
-    let name = node_in(value)?;
-    let kind = node_kind(text, value)?;
+    let text = members.get(Key::Kind)?.as_str()?;
+    let name = node_in(members)?;
+    let kind = node_kind(text, members)?;
     Some(NodeSpec { name, kind })
 }
 
 /// What the node is.
-fn node_kind(text: &str, value: &Value) -> Option<NodeKind>
-    ensures { result ≡ node_kind text.now (view value.now) }
+fn node_kind<M: LineMembers>(text: &str, members: &M) -> Option<NodeKind>
+    ensures { result ≡ node_kind text.now (M.as_data members.now) }
 {
     match text {
-        "master" if has_keys(value, 7) => Some(NodeKind::Master {
-            config: config_in(value)?,
-            first: first_in(value)?,
+        "master" if members.has_keys(7) => Some(NodeKind::Master {
+            config: config_in(members)?,
+            first: first_in(members)?,
         }),
-        "slave" if has_keys(value, 7) => Some(NodeKind::Slave {
-            config: config_in(value)?,
-            first: first_in(value)?,
+        "slave" if members.has_keys(7) => Some(NodeKind::Slave {
+            config: config_in(members)?,
+            first: first_in(members)?,
         }),
-        "clock" if has_keys(value, 2) => Some(NodeKind::Clock),
+        "clock" if members.has_keys(2) => Some(NodeKind::Clock),
         _ => None,
     }
 }
 
 /// What the node's port is set up with.
-fn config_in(value: &Value) -> Option<PortConfig>
-    ensures { result ≡ config_in (view value.now) }
+fn config_in<M: LineMembers>(members: &M) -> Option<PortConfig>
+    ensures { result ≡ config_in (M.as_data members.now) }
 {
-    let clock = clock_in(value.get("id")?)?;
-    let port = whole_below(value.get("port")?, 65_536)?;
-    let domain = whole_below(value.get("domain")?, 256)?;
-    let log = signed_octet_in(value.get("log")?)?;
+    let clock = clock_in(members.get(Key::Id)?)?;
+    let port = whole_below(members.get(Key::Port)?, 65_536)?;
+    let domain = whole_below(members.get(Key::Domain)?, 256)?;
+    let log = signed_octet_in(members.get(Key::Log)?)?;
     Some(PortConfig {
         identity: PortIdentity {
             clock,
@@ -192,8 +191,8 @@ fn config_in(value: &Value) -> Option<PortConfig>
 }
 
 /// The number that the node's port draws first.
-fn first_in(value: &Value) -> Option<Seq>
-    ensures { result ≡ first_in (view value.now) }
+fn first_in<M: LineMembers>(members: &M) -> Option<Seq>
+    ensures { result ≡ first_in (M.as_data members.now) }
 {
-    Some(Seq(whole_below(value.get("first")?, 65_536)? as u16))
+    Some(Seq(whole_below(members.get(Key::First)?, 65_536)? as u16))
 }

@@ -1,18 +1,16 @@
 //! Lines of transcripts, read: nodes, and events with what was recorded of them.
 ghost use Rattle.std.specs.Prelude.{◌≡◌};
-ghost use Rattle.serde_json.specs.View.{view};
 ghost use Rattle.schedule_lines.specs.TranscriptLine.{trace_line_in};
 ghost use Rattle.schedule_lines.specs.TranscriptLine.{transcript_line_of, traced_in, trace_line_in, line_keys};
 ghost use Rattle.schedule_lines.specs.TranscriptLine.{reading_in, out_of, out_keys, made_in, code_in, report_in};
 ghost use Rattle.schedule_lines.specs.TranscriptLine.{report_of, follow_in};
+ghost use Rattle.schedule_lines.specs.Json.{item_at};
 
-use crate::reading::fields::{
-    difference_in, has_items, has_keys, moment_in, octets_in, whole_below,
-};
+use crate::reading::fields::{difference_in, moment_in, octets_in, whole_below};
 use crate::reading::schedule::{event_in, event_keys, node_spec_in};
+use line_object::{Key, LineMembers, LineValue};
 use network_model::{NodeSpec, Report};
 use ptp_units::ScaledTime;
-use serde_json::Value;
 use trace_model::{TraceLine, TraceOut};
 
 /// A line of a transcript.
@@ -34,24 +32,24 @@ impl TranscriptLine {
     /// event, without it and with `kind` a node. None for every other value, and where a key is
     /// missing, one is there that has no place, or a key's value isn't what is asked for. It takes no
     /// memory.
-    pub fn of(value: &Value) -> Option<TranscriptLine>
-        ensures { result ≡ transcript_line_of (view value.now) }
+    pub fn of<M: LineMembers>(members: &M) -> Option<TranscriptLine>
+        ensures { result ≡ transcript_line_of (M.as_data members.now) }
     {
-        if value.get("ev").is_some() {
-            traced_in(value)
+        if members.get(Key::Ev).is_some() {
+            traced_in(members)
         } else {
-            Some(TranscriptLine::Node(node_spec_in(value)?))
+            Some(TranscriptLine::Node(node_spec_in(members)?))
         }
     }
 }
 
 /// The event's line that an object is, with just its keys.
-fn traced_in(value: &Value) -> Option<TranscriptLine>
-    ensures { result ≡ traced_in (view value.now) }
+fn traced_in<M: LineMembers>(members: &M) -> Option<TranscriptLine>
+    ensures { result ≡ traced_in (M.as_data members.now) }
 {
-    let line = trace_line_in(value)?;
-    let number = value.get("n")?.as_u64()?;
-    if has_keys(value, line_keys(&line)) {
+    let line = trace_line_in(members)?;
+    let number = members.get(Key::Number)?.as_u64()?;
+    if members.has_keys(line_keys(&line)) {
         Some(TranscriptLine::Event { number, line })
     } else {
         None
@@ -59,13 +57,13 @@ fn traced_in(value: &Value) -> Option<TranscriptLine>
 }
 
 /// What was recorded of an event, whatever keys stand beside those that tell it.
-fn trace_line_in(value: &Value) -> Option<TraceLine>
-    ensures { result ≡ trace_line_in (view value.now) }
+fn trace_line_in<M: LineMembers>(members: &M) -> Option<TraceLine>
+    ensures { result ≡ trace_line_in (M.as_data members.now) }
 {
-    let event = event_in(value)?;
-    let reading = reading_in(event.true_moment(), value)?;
-    let text = value.get("out")?.as_str()?;
-    let out = out_of(text, value)?;
+    let event = event_in(members)?;
+    let reading = reading_in(event.true_moment(), members)?;
+    let text = members.get(Key::Out)?.as_str()?;
+    let out = out_of(text, members)?;
     Some(TraceLine {
         event,
         reading,
@@ -96,66 +94,66 @@ fn out_keys(out: &TraceOut) -> usize
 }
 
 /// What the node's clock is said to have read, for an event that has a true moment and for no other.
-fn reading_in(at: Option<ScaledTime>, value: &Value) -> Option<Option<ScaledTime>>
-    ensures { result ≡ reading_in at (view value.now) }
+fn reading_in<M: LineMembers>(at: Option<ScaledTime>, members: &M) -> Option<Option<ScaledTime>>
+    ensures { result ≡ reading_in at (M.as_data members.now) }
 {
     match at {
-        Some(_) => Some(Some(moment_in(value.get("reading")?)?)),
+        Some(_) => Some(Some(moment_in(members.get(Key::Reading)?)?)),
         None => Some(None),
     }
 }
 
 /// What an event is said to have brought about, from the text of `out`.
-fn out_of(text: &str, value: &Value) -> Option<TraceOut>
-    ensures { result ≡ out_of text.now (view value.now) }
+fn out_of<M: LineMembers>(text: &str, members: &M) -> Option<TraceOut>
+    ensures { result ≡ out_of text.now (M.as_data members.now) }
 {
     match text {
         "done" => Some(TraceOut::Done),
-        "made" => made_in(value),
+        "made" => made_in(members),
         "entered" => Some(TraceOut::Entered),
         "held" => Some(TraceOut::Held),
         "completed" => Some(TraceOut::Completed),
-        "report" => Some(TraceOut::Report(report_in(value)?)),
-        "ignored" => Some(TraceOut::Ignored(code_in(value)?)),
-        "refused" => Some(TraceOut::Refused(code_in(value)?)),
+        "report" => Some(TraceOut::Report(report_in(members)?)),
+        "ignored" => Some(TraceOut::Ignored(code_in(members)?)),
+        "refused" => Some(TraceOut::Refused(code_in(members)?)),
         _ => None,
     }
 }
 
 /// The octets of the message that was made.
-fn made_in(value: &Value) -> Option<TraceOut>
-    ensures { result ≡ made_in (view value.now) }
+fn made_in<M: LineMembers>(members: &M) -> Option<TraceOut>
+    ensures { result ≡ made_in (M.as_data members.now) }
 {
-    Some(TraceOut::Made(octets_in(value.get("hex")?)?))
+    Some(TraceOut::Made(octets_in(members.get(Key::Hex)?)?))
 }
 
 /// The number of a reason or a refusal.
-fn code_in(value: &Value) -> Option<u16>
-    ensures { result ≡ code_in (view value.now) }
+fn code_in<M: LineMembers>(members: &M) -> Option<u16>
+    ensures { result ≡ code_in (M.as_data members.now) }
 {
-    Some(whole_below(value.get("code")?, 65_536)? as u16)
+    Some(whole_below(members.get(Key::Code)?, 65_536)? as u16)
 }
 
 /// The report that a slave gave.
-fn report_in(value: &Value) -> Option<Report>
-    ensures { result ≡ report_in (view value.now) }
+fn report_in<M: LineMembers>(members: &M) -> Option<Report>
+    ensures { result ≡ report_in (M.as_data members.now) }
 {
-    let offset2 = difference_in(value.get("offset2")?)?;
-    let path2 = difference_in(value.get("path2")?)?;
-    report_of(offset2, path2, value.get("tags")?)
+    let offset2 = difference_in(members.get(Key::Offset2)?)?;
+    let path2 = difference_in(members.get(Key::Path2)?)?;
+    report_of(offset2, path2, members.get(Key::Tags)?)
 }
 
 /// A report with the tags in an array: sync, follow, request, response.
-fn report_of(offset2: i128, path2: i128, tags: &Value) -> Option<Report>
-    ensures { result ≡ report_of offset2 path2 (view tags.now) }
+fn report_of<V: LineValue>(offset2: i128, path2: i128, tags: &V) -> Option<Report>
+    ensures { result ≡ report_of offset2 path2 (V.as_data tags.now) }
 {
-    if !has_items(tags, 4) {
+    if !tags.has_items(4) {
         return None;
     }
-    let sync_tag = tags.get(0)?.as_u64()?;
-    let follow_tag = follow_in(tags.get(1)?)?;
-    let request_tag = tags.get(2)?.as_u64()?;
-    let response_tag = tags.get(3)?.as_u64()?;
+    let sync_tag = tags.u64_at(0)?;
+    let follow_tag = follow_in(tags)?;
+    let request_tag = tags.u64_at(2)?;
+    let response_tag = tags.u64_at(3)?;
     Some(Report {
         offset2,
         path2,
@@ -166,12 +164,13 @@ fn report_of(offset2: i128, path2: i128, tags: &Value) -> Option<Report>
     })
 }
 
-/// The tag of a Follow_Up, or null after a one-step Sync.
-fn follow_in(value: &Value) -> Option<Option<u64>>
-    ensures { result ≡ follow_in (view value.now) }
+/// The tag of a Follow_Up, which stands second, or null after a one-step Sync.
+fn follow_in<V: LineValue>(tags: &V) -> Option<Option<u64>>
+    ensures { result ≡ item_at follow_in 1 (V.as_data tags.now) }
 {
-    match value {
-        Value::Null => Some(None),
-        _ => Some(Some(value.as_u64()?)),
+    if tags.is_null_at(1) {
+        Some(None)
+    } else {
+        Some(Some(tags.u64_at(1)?))
     }
 }

@@ -1,6 +1,6 @@
 use Rattle.std.proofs.Common.{sym, subst, inr}
 use Rattle.serde_json.specs.View.{view}
-use Rattle.line_flaws.specs.declared.key.Key.TheVariants.{Out}
+use Rattle.line_object.specs.declared.key.Key.TheVariants.{Out}
 use Rattle.line_flaws.specs.Truth.{IsNeeded}
 use Rattle.line_flaws.proofs.Searched.{out_needed}
 use Rattle.line_flaws.proofs.search.Search.told_flaw.Goals as goal

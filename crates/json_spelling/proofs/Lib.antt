@@ -1,9 +1,0 @@
-pub mod Puts
-pub mod Swaps
-pub mod Objects
-pub mod Scalars
-pub mod Walks
-pub mod PieceSwaps
-pub mod Joins
-pub mod WithoutBlanks
-pub mod Compacted

@@ -1,0 +1,4 @@
+pub mod Key
+pub mod PlainValue
+pub mod Object
+pub mod Inner
