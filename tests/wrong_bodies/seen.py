@@ -1,5 +1,9 @@
 """What the prover sees of a file from elsewhere, in parts: of code types, constants, traits and functions, these without bodies; of definitions each one.
-Comments and attributes are left out. A part says what it is called, and which words stand in it, so that one can ask which parts a text rests upon."""
+Comments and attributes are left out. A part says what it is called, and what stands in it, so that one can ask which parts a text rests upon.
+
+What stands in code are its words, its paths (`Pair::new`), its calls by a point (`.sum`), and, behind CODE_MARK, the words outside of clauses. In definitions these
+are words, and the same behind MEANT_MARK. A crate above names a function by one of the ways in which it is called, since no definition can call
+it, and a private type or field in definitions alone."""
 import re
 from dataclasses import dataclass
 
@@ -24,6 +28,9 @@ CLAUSES = ('requires', 'ensures')
 
 # Words before the name of a definition.
 BEFORE = ('pub', 'abbrev', 'record', 'data')
+
+# What stands before a word of code outside of clauses, and before a word of a definition.
+CODE_MARK, MEANT_MARK = '!', '?'
 
 
 @dataclass(frozen=True)
@@ -130,6 +137,63 @@ def unattributed(all_pieces):
     return kept
 
 
+def outside_of_clauses(all_pieces):
+    """Pieces without clauses and what else is there for clauses alone."""
+    kept, place = [], 0
+    while place < len(all_pieces):
+        piece = all_pieces[place]
+        if piece == '{' and is_clause(all_pieces[:place]):
+            place = group_end(all_pieces, place)
+        elif piece == 'ghost' and all_pieces[place + 1:place + 2] == ['use'] and ';' in all_pieces[place:]:
+            place = all_pieces.index(';', place) + 1
+        else:
+            kept.append(piece)
+            place += 1
+    return kept
+
+
+def named_in(all_pieces):
+    """What stands in pieces of code: words, paths, calls by a point, and words outside of clauses."""
+    words = {it for it in all_pieces if re.match(r'\w', it)}
+    paths = {f'{one}::{other}' for one, *colons, other in zip(all_pieces, all_pieces[1:], all_pieces[2:], all_pieces[3:]) if colons == [':', ':']}
+    calls = {f'.{other}' for one, other in zip(all_pieces, all_pieces[1:]) if one == '.'}
+    return words | paths | calls | {CODE_MARK + it for it in outside_of_clauses(all_pieces) if re.match(r'\w', it)}
+
+
+def has_receiver(told):
+    """Whether a function is called by a point."""
+    start = told.index('(', told.index('fn'))
+    return 'self' in told[start + 1:start + 6][:next((place for place, it in enumerate(told[start + 1:start + 6]) if it in (',', ')', ':')), 5)]
+
+
+def ways_to_call(names, told, from_above):
+    """What has to stand in a text that calls a function, in each way in which it can be called."""
+    *owner, name = names
+    if not from_above:
+        return [names]
+    if not owner:
+        return [(CODE_MARK + name,)]
+    by_path = (f'{owner[0]}::{name}',)
+    return [by_path, (owner[0], f'.{name}')] if has_receiver(told) else [by_path]
+
+
+def without_private_fields(told):
+    """A type without the fields that crates above can't name."""
+    opening = next((place for place, it in enumerate(told) if it in '({'), None)
+    if 'struct' not in told or opening is None or told[opening - 1] in ('pub', 'crate'):
+        return told
+    end, fields, field, depth = group_end(told, opening), [], [], 0
+    for piece in told[opening + 1:end - 1]:
+        depth += (piece in '([{<') - (piece in ')]}>')
+        if piece == ',' and depth == 0:
+            fields.append(field)
+            field = []
+        else:
+            field.append(piece)
+    shown = [it for it in [*fields, field] if it[:1] == ['ghost'] or it[:1] == ['pub'] and it[1:2] != ['(']]
+    return told[:opening + 1] + [piece for it in shown for piece in [*it, ',']] + told[end - 1:]
+
+
 def is_public(head):
     """Whether crates above can name what has this head."""
     return any(one == 'pub' and other != '(' for one, other in zip(head, [*head[1:], 'fn']))
@@ -147,7 +211,8 @@ def code_parts(all_pieces, from_above, others):
             body, end = function_end(all_pieces, place)
             told = head + all_pieces[place:end if 'const' in head else body or end]
             if 'const' in head or is_public(head) or not from_above:
-                yield (*others, all_pieces[place + 1]), told
+                for names in ways_to_call((*others, all_pieces[place + 1]), told, from_above):
+                    yield names, told
             head = []
         elif piece == '{' and 'mod' in head:
             yield from code_parts(all_pieces[place + 1:end - 1], from_above, others)
@@ -157,8 +222,9 @@ def code_parts(all_pieces, from_above, others):
             if len(names) == 2:
                 yield names, head + unattributed(unbodied(inner))
             else:
-                yield names, head
-                yield from code_parts(inner, from_above, names)
+                if not from_above:
+                    yield names, head
+                yield from ((it, head + told) if from_above else (it, told) for it, told in code_parts(inner, from_above, names))
             head = []
         elif piece == '{' and 'trait' in head:
             yield (head[head.index('trait') + 1],), head + unattributed(unbodied(all_pieces[place + 1:end - 1]))
@@ -167,7 +233,13 @@ def code_parts(all_pieces, from_above, others):
             told = head + unattributed(all_pieces[place:end])
             kind = next((it for it in head if it in ('struct', 'enum', 'macro_rules', 'const', 'static', 'type')), None)
             if kind and 'use' not in head:
-                yield (*others, next(it for it in head[head.index(kind) + 1:] if re.match(r'\w', it))), told
+                name = next(it for it in head[head.index(kind) + 1:] if re.match(r'\w', it))
+                is_hidden = from_above and kind in ('struct', 'enum') and not is_public(head)
+                shown = told if not from_above or kind != 'struct' else without_private_fields(told)
+                if not is_hidden:
+                    yield (*others, name), shown
+                if is_hidden or shown != told:
+                    yield (*others, MEANT_MARK + name), told
             head = []
         else:
             head += all_pieces[place:end]
@@ -175,37 +247,46 @@ def code_parts(all_pieces, from_above, others):
 
 
 def aliases(text):
-    """What names stand for that `use` gives: the words of what is renamed."""
+    """What names stand for that `use` gives: the words of what is renamed, and the module of a definition."""
     found = {}
     for use in re.findall(r'\buse ([^\n;]*)', text):
         for path, name in re.findall(r'([^\s{},]+) as ([\w◌-]+)', use):
             found.setdefault(name, set()).update(BETWEEN.split(use.partition('{')[0] if '{' in use else path), BETWEEN.split(path))
+        if use.startswith('Rattle.') and '{' in use:
+            path, _, names = use.partition('{')
+            for name in re.findall(r'[^\s{},]+', names):
+                found.setdefault(name, set()).update(BETWEEN.split(path))
     return found
 
 
 def with_aliases(words, known):
-    return frozenset(words).union(*(known[it] for it in known.keys() & words))
+    """Words and what they stand for; a path begins with what its first word stands for, too."""
+    found = set(words).union(*(known[it] for it in known.keys() & words))
+    for one, _, other in (it.partition('::') for it in words if '::' in it):
+        found.update(f'{it}::{other}' for it in known.get(one, ()))
+    return frozenset(found)
 
 
 def of_code(text, from_above=True):
     r"""The parts of code.
 
     >>> [(' '.join(it.names), it.text) for it in of_code('/// Doubles.\npub fn twice(a: u8) -> u8\n    ensures is { result ≡ 2 * a }\n{\n    once(a) * 2 // {\n}')]
-    [('twice', 'pub fn twice ( a : u8 ) - > u8 ensures is { result ≡ 2 * a }')]
-    >>> [it.text for it in of_code("fn once(a: u8) -> u8 { a } pub(crate) fn other() {} pub struct Pair<'a> { one: &'a u8 }")]
-    ["pub struct Pair < 'a > { one : & 'a u8 }"]
-    >>> [(it.names, it.text) for it in of_code("impl<T> Pair<T> { #[inline] fn one() { '}' } pub fn other() { \"}\" } } impl Copy for Pair { fn one() { 1 } }")]
-    [(('Pair',), 'impl < T > Pair < T >'), (('Pair', 'other'), 'pub fn other ( )'), (('Pair', 'Copy'), 'impl Copy for Pair fn one ( )')]
+    [('!twice', 'pub fn twice ( a : u8 ) - > u8 ensures is { result ≡ 2 * a }')]
+    >>> [(it.names, it.text) for it in of_code("fn once(a: u8) -> u8 { a } pub(crate) fn other() {} pub struct Pair<'a> { one: &'a u8, pub two: u8 } struct Three;")]
+    [(('Pair',), "pub struct Pair < 'a > { pub two : u8 , }"), (('?Pair',), "pub struct Pair < 'a > { one : & 'a u8 , pub two : u8 }"), (('?Three',), 'struct Three ;')]
+    >>> [(it.names, it.text) for it in of_code("impl<T> Pair<T> { #[inline] fn one() { '}' } pub fn other(&self) { \"}\" } } impl Copy for Pair { fn one() { 1 } }")]
+    [(('Pair::other',), 'impl < T > Pair < T > pub fn other ( & self )'), (('Pair', '.other'), 'impl < T > Pair < T > pub fn other ( & self )'), (('Pair', 'Copy'), 'impl Copy for Pair fn one ( )')]
     >>> [(it.names, it.text) for it in of_code('use std::io; trait Table { fn size(&self) -> u8; } pub const LIMIT: u8 = size(); const fn size() -> u8 { 9 }')]
-    [(('Table',), 'trait Table fn size ( & self ) - > u8 ;'), (('LIMIT',), 'pub const LIMIT : u8 = size ( ) ;'), (('size',), 'const fn size ( ) - > u8 { 9 }')]
+    [(('Table',), 'trait Table fn size ( & self ) - > u8 ;'), (('LIMIT',), 'pub const LIMIT : u8 = size ( ) ;'), (('!size',), 'const fn size ( ) - > u8 { 9 }')]
     >>> [it.names for it in of_code('impl Four for [u8; 4] { fn four(&self) -> u8 { self[3] } } fn once() {}', False)]
     [('u8', 'Four'), ('once',)]
     >>> sorted(of_code('use one::Two as Three; pub fn four(it: Three) {}')[0].words & {'Two', 'one'})
     ['Two', 'one']
+    >>> sorted(words_of('use one::Two as Three; fn four(it: Three) ensures { five it } { Three::new(it.six()) }') & {'five', '!five', 'Two::new', '.six', '!six'})
+    ['!six', '.six', 'Two::new', 'five']
     """
     known = aliases(text)
-    return [Part(names, ' '.join(told), with_aliases({it for it in told if re.match(r'\w', it)}, known))
-            for names, told in code_parts(pieces(text), from_above, ())]
+    return [Part(names, ' '.join(told), with_aliases(named_in(told), known)) for names, told in code_parts(pieces(text), from_above, ())]
 
 
 def without_comments(text):
@@ -224,7 +305,8 @@ def of_definitions(text, module):
         name = next((it for it in words if it not in BEFORE), None)
         if name not in (None, 'use', 'mod'):
             found.setdefault(name, []).extend(words)
-    return [Part((name, module), ' '.join(words), with_aliases(set(BETWEEN.split(' '.join(words))), known)) for name, words in found.items()]
+    parts = {name: with_aliases({module, *BETWEEN.split(' '.join(words))}, known) for name, words in found.items()}
+    return [Part((name, module), ' '.join(words), parts[name] | {MEANT_MARK + it for it in parts[name]}) for name, words in found.items()]
 
 
 def whole(path):
@@ -234,8 +316,8 @@ def whole(path):
 
 
 def words_of(text):
-    """The words of a text of code."""
-    return {it for it in pieces(text) if re.match(r'\w', it)}
+    """What stands in a text of code."""
+    return with_aliases(named_in(pieces(text)), aliases(text))
 
 
 def parts(path, from_above):
