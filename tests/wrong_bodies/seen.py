@@ -153,17 +153,21 @@ def outside_of_clauses(all_pieces):
 
 
 def named_in(all_pieces):
-    """What stands in pieces of code: words, paths, calls by a point, and words outside of clauses."""
+    """What stands in pieces of code: words, paths, calls by a point, words outside of clauses, and words in them. What `Self` or a type with
+    parameters begins may be a path of any type."""
     words = {it for it in all_pieces if re.match(r'\w', it)}
-    paths = {f'{one}::{other}' for one, *colons, other in zip(all_pieces, all_pieces[1:], all_pieces[2:], all_pieces[3:]) if colons == [':', ':']}
+    paths = {(one, other) for one, *colons, other in zip(all_pieces, all_pieces[1:], all_pieces[2:], all_pieces[3:]) if colons == [':', ':']}
+    paths |= {(word, other) for one, other in paths if one in ('Self', '>') for word in words if word[0].isupper()}
     calls = {f'.{other}' for one, other in zip(all_pieces, all_pieces[1:]) if one == '.'}
-    return words | paths | calls | {CODE_MARK + it for it in outside_of_clauses(all_pieces) if re.match(r'\w', it)}
+    code = [it for it in outside_of_clauses(all_pieces) if re.match(r'\w', it)]
+    meant = set(words) if len(code) < sum(1 for it in all_pieces if re.match(r'\w', it)) else set()
+    return words | {'::'.join(it) for it in paths} | calls | {CODE_MARK + it for it in code} | {MEANT_MARK + it for it in meant}
 
 
 def has_receiver(told):
     """Whether a function is called by a point."""
-    start = told.index('(', told.index('fn'))
-    return 'self' in told[start + 1:start + 6][:next((place for place, it in enumerate(told[start + 1:start + 6]) if it in (',', ')', ':')), 5)]
+    behind = after_generics(told[told.index('fn') + 2:])
+    return 'self' in behind[1:6][:next((place for place, it in enumerate(behind[1:6]) if it in (',', ')', ':')), 5)]
 
 
 def ways_to_call(names, told, from_above):
@@ -183,8 +187,8 @@ def without_private_fields(told):
     if 'struct' not in told or opening is None or told[opening - 1] in ('pub', 'crate'):
         return told
     end, fields, field, depth = group_end(told, opening), [], [], 0
-    for piece in told[opening + 1:end - 1]:
-        depth += (piece in '([{<') - (piece in ')]}>')
+    for before, piece in zip(told[opening:], told[opening + 1:end - 1]):
+        depth += (piece in '([{<') - (piece in ')]}>' and (before, piece) != ('-', '>'))
         if piece == ',' and depth == 0:
             fields.append(field)
             field = []
@@ -201,12 +205,13 @@ def is_public(head):
 
 def code_parts(all_pieces, from_above, others):
     """The parts of code, as one crate sees another, or itself; `others` are names that it is asked for besides its own."""
-    head, place = [], 0
+    head, place, derived = [], 0, set()
     while place < len(all_pieces):
         piece = all_pieces[place]
         end = group_end(all_pieces, place) if piece in OPENS else place + 1
         if piece == '#' and all_pieces[place + 1] == '[':
             end = group_end(all_pieces, place + 1)
+            derived = set(all_pieces[place:end]) if not head else derived | set(all_pieces[place:end])
         elif piece == 'fn' and all_pieces[place + 1] != '(':
             body, end = function_end(all_pieces, place)
             told = head + all_pieces[place:end if 'const' in head else body or end]
@@ -232,13 +237,16 @@ def code_parts(all_pieces, from_above, others):
         elif piece == ';' or piece == '{' and {'struct', 'enum', 'macro_rules'} & set(head):
             told = head + unattributed(all_pieces[place:end])
             kind = next((it for it in head if it in ('struct', 'enum', 'macro_rules', 'const', 'static', 'type')), None)
-            if kind and 'use' not in head:
+            if head[:2] == ['pub', 'use'] and 'as' in head:
+                for name in (after for one, after in zip(head, head[1:]) if one == 'as'):
+                    yield (name,), head
+            elif kind and 'use' not in head:
                 name = next(it for it in head[head.index(kind) + 1:] if re.match(r'\w', it))
                 is_hidden = from_above and kind in ('struct', 'enum') and not is_public(head)
-                shown = told if not from_above or kind != 'struct' else without_private_fields(told)
+                is_whole = not from_above or kind != 'struct' or derived & {'PartialOrd', 'Ord'}
                 if not is_hidden:
-                    yield (*others, name), shown
-                if is_hidden or shown != told:
+                    yield (*others, name), told if is_whole else without_private_fields(told)
+                if from_above and kind in ('struct', 'enum'):
                     yield (*others, MEANT_MARK + name), told
             head = []
         else:
@@ -246,16 +254,21 @@ def code_parts(all_pieces, from_above, others):
         place = end
 
 
-def aliases(text):
-    """What names stand for that `use` gives: the words of what is renamed, and the module of a definition."""
+def aliases(text, is_code=True):
+    """What names stand for that `use` or `type` gives: the words of what is renamed, and the module of a definition."""
     found = {}
-    for use in re.findall(r'\buse ([^\n;]*)', text):
-        for path, name in re.findall(r'([^\s{},]+) as ([\w◌-]+)', use):
-            found.setdefault(name, set()).update(BETWEEN.split(use.partition('{')[0] if '{' in use else path), BETWEEN.split(path))
-        if use.startswith('Rattle.') and '{' in use:
+    text = ' '.join(pieces(text)) if is_code else text
+    for use in re.findall(r'\buse ([^;]*);' if is_code else r'\buse ([^\n]*)', text):
+        words = {it for it in BETWEEN.split(use) if it}
+        for name in re.findall(r' as ([\w◌-]+)', use):
+            found.setdefault(name, set()).update(words)
+        if use.startswith('Rattle') and '{' in use:
             path, _, names = use.partition('{')
             for name in re.findall(r'[^\s{},]+', names):
-                found.setdefault(name, set()).update(BETWEEN.split(path))
+                found.setdefault(name, set()).update(it for it in BETWEEN.split(path) if it)
+    if is_code:
+        for name, meant in re.findall(r'\btype (\w+)[^=;]*= ([^;]*);', text):
+            found.setdefault(name, set()).update(it for it in BETWEEN.split(meant) if it)
     return found
 
 
@@ -293,20 +306,26 @@ def without_comments(text):
     return ''.join(it for it in DEFINITION.findall(text) if not it.startswith('--'))
 
 
+def called(name, module):
+    """What names a definition: its name or its symbols, and its module; what stands in a part with parameters of its own, the module alone."""
+    return (module,) if name == 'module' else (*(it for it in name.split('◌') if it), module)
+
+
 def of_definitions(text, module):
     r"""The parts of definitions: each with all of its clauses. Who names one names its module, too.
 
     >>> [(it.names, it.text) for it in of_definitions('use A.{b as c}\n-- the sum\nabbrev pub sum : ℕ\nsum = a-c\n    + "--"  -- of two\npub record Both : Type 0 where\n  pub one : ℕ', 'Sums')]
     [(('sum', 'Sums'), 'abbrev pub sum : ℕ sum = a-c + "--"'), (('Both', 'Sums'), 'pub record Both : Type 0 where pub one : ℕ')]
     """
-    known, found = aliases(text), {}
+    known, found, last = aliases(text, False), {}, None
     for clause in re.split(r'\n(?=\S)', without_comments(text)):
         words = clause.split()
         name = next((it for it in words if it not in BEFORE), None)
         if name not in (None, 'use', 'mod'):
-            found.setdefault(name, []).extend(words)
+            last = name if name in found or last is None or name == 'module' or words[:1] != [name] or words[1:2] == [':'] else last
+            found.setdefault(last, []).extend(words)
     parts = {name: with_aliases({module, *BETWEEN.split(' '.join(words))}, known) for name, words in found.items()}
-    return [Part((name, module), ' '.join(words), parts[name] | {MEANT_MARK + it for it in parts[name]}) for name, words in found.items()]
+    return [Part(called(name, module), ' '.join(words), parts[name] | {MEANT_MARK + it for it in parts[name]}) for name, words in found.items()]
 
 
 def whole(path):
