@@ -1,10 +1,9 @@
 //! How a report is judged by what is kept: in `Inner.Judged` each `x_by` is `x`, `x_line` or `are_x` of
 //! `trace_model`'s `Sound`, as `proofs/Exchanges` and `proofs/Standing` show.
 
-ghost use Rattle.std.specs.Prelude.{◌≡◌, ◌+◌, ◌<◌, ◌-ℤ◌, ◌&&◌, pos, option_map, Some};
+ghost use Rattle.std.specs.Prelude.{◌≡◌, ◌+◌, ◌-ℤ◌, ◌&&◌, pos, option_map, Some};
 ghost use Rattle.std.specs.Ordering.{int_eq};
 ghost use Rattle.ptp_units.specs.Exchange.{offset2, path2};
-ghost use Rattle.ptp_units.specs.Moment.{bound};
 ghost use Rattle.trace_model.specs.Sound.{is_of_line, is_domain, are_later};
 ghost use Rattle.exchange_check.specs.Inner.Kept.{port_setup};
 ghost use Rattle.exchange_check.specs.Inner.Stays.{once_in};
@@ -133,20 +132,12 @@ pub(crate) fn fits(journey: &FoundJourney) -> bool
     u128::from(fraction_sent(&journey.origin)) + journey.kept.residence.units() < (1 << 63) - 1
 }
 
-/// The units of a moment, as a signed number.
-fn signed_units(time: ScaledTime) -> i128
-    ensures value { result ≡ pos time }
-    ensures within { time < bound }
-{
-    time.value() as i128
-}
-
 /// What a clock read at the arrival, less what another read at the departure, less the residence.
 fn elapsed(arrival: ScaledTime, departure: ScaledTime, residence: Residence) -> i128
     ensures value { result ≡ (pos arrival -ℤ pos departure) -ℤ pos residence }
     ensures within { IsElapsed result }
 {
-    signed_units(arrival) - signed_units(departure) - residence.units() as i128
+    arrival.signed_units() - departure.signed_units() - residence.units() as i128
 }
 
 /// The same of an arrival and the journey to it.

@@ -1,6 +1,6 @@
 //! The lines of a report, for a person: when its messages departed, were in clocks and arrived.
 
-use crate::moments::{Length, Moment, digits, signed, signed_units};
+use crate::moments::{Length, Moment, digits, signed};
 use exchange_check::{Exchange, ExchangeLine, Leg, Stay};
 use std::alloc::AllocError;
 use std::fmt;
@@ -110,7 +110,7 @@ fn line_of(nodes: u64, at: &ExchangeLine) -> u64 {
 
 /// How long a message was in a clock, by its readings.
 fn length_of(stay: &Stay) -> i128 {
-    signed_units(stay.left.reading).saturating_sub(signed_units(stay.entered.reading))
+    stay.left.reading.signed_units().saturating_sub(stay.entered.reading.signed_units())
 }
 
 /// Appends the stays of a message in clocks, the first one first.
@@ -139,8 +139,8 @@ fn push_stays(text: &mut String, nodes: u64, leg: &Leg) -> Result<(), AllocError
 
 /// What a clock read at the arrival, less what another read at the departure, less the residence.
 fn elapsed(leg: &Leg) -> i128 {
-    signed_units(leg.arrived.reading)
-        .saturating_sub(signed_units(leg.departed.reading))
+    leg.arrived.reading.signed_units()
+        .saturating_sub(leg.departed.reading.signed_units())
         .saturating_sub(signed(leg.residence))
 }
 

@@ -55,8 +55,3 @@ impl Display for Length {
 pub(crate) fn signed(units: u128) -> i128 {
     i128::try_from(units).unwrap_or(i128::MAX)
 }
-
-/// The units of a moment, as a signed number.
-pub(crate) fn signed_units(time: ScaledTime) -> i128 {
-    time.value() as i128
-}

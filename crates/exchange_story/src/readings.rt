@@ -2,7 +2,7 @@
 
 use crate::case::Case;
 use crate::journey::{Journey, Message, journey_to};
-use crate::moments::{Length, Moment, signed_units};
+use crate::moments::{Length, Moment};
 use exchange_check::{Exchange, Finding, Leg, Why};
 use ptp_units::ScaledTime;
 use std::alloc::AllocError;
@@ -159,7 +159,7 @@ impl Case<'_> {
         let Some((before, after)) = self.reading_at(entered).zip(self.reading_at(left)) else {
             return Ok(());
         };
-        let fall = signed_units(before).saturating_sub(signed_units(after));
+        let fall = before.signed_units().saturating_sub(after.signed_units());
         if fall <= 0 || !told.has_room() {
             return Ok(());
         }
@@ -196,7 +196,7 @@ fn push_found(
             ": read is {}, the true moment is {}, and they differ by {}",
             Moment(reading),
             Moment(at),
-            Length(signed_units(reading).saturating_sub(signed_units(at)))
+            Length(reading.signed_units().saturating_sub(at.signed_units()))
         ),
         None => write!(text, ": no reading, the true moment is {}", Moment(at)),
     }

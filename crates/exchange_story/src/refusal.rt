@@ -1,7 +1,7 @@
 //! Why an event of a schedule can't happen, or nodes are no network, for a person.
 
 use crate::happening::{AKind, AnEvent, Numbers, needed_kind};
-use crate::moments::{Length, Moment, signed_units};
+use crate::moments::{Length, Moment};
 use datagram_text::Identity;
 use event_codec::PortIdentity;
 use network_model::{Event, Name, NodeKind, NodeSpec, WorldRefusal};
@@ -156,7 +156,7 @@ fn push_clock(
             text,
             "at {} it would read {}, and ",
             Moment(at),
-            Length(signed_units(at).saturating_add(difference))
+            Length(at.signed_units().saturating_add(difference))
         )?;
     }
     text.push_str("a reading is from 0 to below 2^48 s")

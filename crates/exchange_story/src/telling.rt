@@ -2,7 +2,7 @@
 
 use crate::case::Case;
 use crate::known::Place;
-use crate::moments::{Length, signed, signed_units};
+use crate::moments::{Length, signed};
 use crate::octets::fields_at;
 use crate::wrong_field::Fields;
 use exchange_check::{Exchange, Leg, Why};
@@ -37,7 +37,7 @@ fn fraction_of(time: ScaledTime) -> i128 {
 
 /// The whole nanoseconds of a moment, in units of 2^-16 ns.
 fn whole_of(time: ScaledTime) -> i128 {
-    signed_units(time).saturating_sub(fraction_of(time))
+    time.signed_units().saturating_sub(fraction_of(time))
 }
 
 impl Case<'_> {

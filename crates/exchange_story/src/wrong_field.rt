@@ -1,7 +1,7 @@
 //! The fields of a message that a slave or a master reads, where they say something else than the message that a port or a
 //! clock writes.
 
-use crate::moments::{Length, Moment, signed_units};
+use crate::moments::{Length, Moment};
 use datagram_text::Identity;
 use event_codec::{Body, Header, PortIdentity, PortMessage, TWO_STEP};
 use ptp_units::{ScaledTime, Timestamp};
@@ -231,7 +231,7 @@ impl Value {
 
 /// A timestamp in units of 2^-16 ns.
 fn units_of(timestamp: Timestamp) -> i128 {
-    signed_units(ScaledTime::join(timestamp, 0))
+    ScaledTime::join(timestamp, 0).signed_units()
 }
 
 impl Display for Value {

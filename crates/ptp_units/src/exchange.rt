@@ -1,25 +1,15 @@
-ghost use Rattle.std.specs.Prelude.{◌≡◌, pos};
-ghost use Rattle.std.specs.Prelude.{◌<◌};
-ghost use Rattle.ptp_units.specs.Moment.{bound};
+ghost use Rattle.std.specs.Prelude.{◌≡◌};
 ghost use Rattle.ptp_units.specs.Exchange.{departure, sync_bracket, delay_bracket, offset2, path2, IsBracket};
 
 use crate::scaled_time::ScaledTime;
 use crate::timestamp::Timestamp;
-
-/// The units of a moment, as a signed number.
-fn signed_units(time: ScaledTime) -> i128
-    ensures value { result ≡ pos time }
-    ensures within { time < bound }
-{
-    time.value() as i128
-}
 
 /// The Sync's departure from the master: the Follow_Up's timestamp and correction together.
 fn departure(precise: Timestamp, c_follow: i64) -> i128
     ensures value { result ≡ departure precise c_follow }
     ensures within { IsBracket result }
 {
-    signed_units(ScaledTime::join(precise, 0)) + i128::from(c_follow)
+    ScaledTime::join(precise, 0).signed_units() + i128::from(c_follow)
 }
 
 /// The Sync's arrival at the slave, less its corrected departure and its own correction: `a`, in
@@ -29,7 +19,7 @@ pub fn sync_bracket(t2: ScaledTime, precise: Timestamp, c_follow: i64, c_sync: i
     ensures value { result ≡ sync_bracket t2 precise c_follow c_sync }
     ensures within { IsBracket result }
 {
-    signed_units(t2) - departure(precise, c_follow) - i128::from(c_sync)
+    t2.signed_units() - departure(precise, c_follow) - i128::from(c_sync)
 }
 
 /// The Delay_Req's corrected arrival at the master, less its departure from the slave: `b`, in
@@ -38,8 +28,8 @@ pub fn delay_bracket(receive: Timestamp, c_resp: i64, t3: ScaledTime) -> i128
     ensures value { result ≡ delay_bracket receive c_resp t3 }
     ensures within { IsBracket result }
 {
-    let arrival = signed_units(ScaledTime::join(receive, 0)) - i128::from(c_resp);
-    arrival - signed_units(t3)
+    let arrival = ScaledTime::join(receive, 0).signed_units() - i128::from(c_resp);
+    arrival - t3.signed_units()
 }
 
 /// Twice offsetFromMaster, in units of 2^-16 ns, of two brackets, which lie between -2^96 and 2^96 (IEEE

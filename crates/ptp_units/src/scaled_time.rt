@@ -45,6 +45,14 @@ impl ScaledTime {
         self.units
     }
 
+    /// The number of units, as a signed number.
+    pub fn signed_units(self) -> i128
+        ensures value { result ≡ pos self }
+        ensures within { self < bound }
+    {
+        self.value() as i128
+    }
+
     /// The moment that is later by this many units, or earlier where the number is negative. Refused
     /// with 101 where that is no moment.
     pub fn shifted(self, units: i128) -> Result<ScaledTime, UnitRefusal>

@@ -1,5 +1,4 @@
 ghost use Rattle.std.specs.Prelude.{◌≡◌, ◌<◌, ◌^◌, pos, negsuc, ◌<ℤ◌};
-ghost use Rattle.ptp_units.specs.Moment.{bound};
 ghost use Rattle.ptp_units.specs.Exchange.{IsBracket};
 ghost use Rattle.tap_crossing.specs.Crossing.{is_too_big, is_any_too_big, timestamp_told};
 ghost use Rattle.tap_crossing.specs.Crossing.{is_other_timestamp, no_crossing, correction_of, growth, taken, corrected};
@@ -64,14 +63,6 @@ pub enum Outcome {
     Crossed(Crossing),
     /// The record closed, and is no crossing.
     Closed(NoCrossing),
-}
-
-/// The units of a moment, as a signed number.
-fn signed_units(time: ScaledTime) -> i128
-    ensures value { result ≡ pos time }
-    ensures within { time < bound }
-{
-    time.value() as i128
 }
 
 fn is_too_big(place: Option<Sighting>) -> bool
@@ -161,7 +152,7 @@ impl Complete {
         ensures value { result ≡ taken self.now }
         ensures within { IsBracket result }
     {
-        signed_units(self.second.time) - signed_units(self.first.time)
+        self.second.time.signed_units() - self.first.time.signed_units()
     }
 
     fn corrected(&self) -> i128
