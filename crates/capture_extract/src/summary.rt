@@ -12,7 +12,7 @@ const REASONS: usize = 5;
 
 /// Why a packet of a known link type gave no line.
 #[derive(Clone, Copy, Debug, PartialEq, Eq)]
-enum Why {
+enum NoLine {
     Other,
     Fragment,
     TooLong,
@@ -21,34 +21,34 @@ enum Why {
 }
 
 /// Every reason, in the order of the summary.
-const ALL_REASONS: [Why; REASONS] = [
-    Why::Other,
-    Why::Fragment,
-    Why::TooLong,
-    Why::Timeless,
-    Why::Simple,
+const ALL_REASONS: [NoLine; REASONS] = [
+    NoLine::Other,
+    NoLine::Fragment,
+    NoLine::TooLong,
+    NoLine::Timeless,
+    NoLine::Simple,
 ];
 
-impl Why {
+impl NoLine {
     /// What the summary says after a count of one.
     fn name(self) -> &'static str {
         match self {
-            Why::Other => "packet without PTP",
-            Why::Fragment => "fragment of IP, which isn't put together",
-            Why::TooLong => "datagram of more than 2035 octets",
-            Why::Timeless => "packet with a time that can't be",
-            Why::Simple => "packet of a kind that has no time",
+            NoLine::Other => "packet without PTP",
+            NoLine::Fragment => "fragment of IP, which isn't put together",
+            NoLine::TooLong => "datagram of more than 2035 octets",
+            NoLine::Timeless => "packet with a time that can't be",
+            NoLine::Simple => "packet of a kind that has no time",
         }
     }
 
     /// What it says after any other.
     fn names(self) -> &'static str {
         match self {
-            Why::Other => "packets without PTP",
-            Why::Fragment => "fragments of IP, which aren't put together",
-            Why::TooLong => "datagrams of more than 2035 octets",
-            Why::Timeless => "packets with a time that can't be",
-            Why::Simple => "packets of a kind that has no time",
+            NoLine::Other => "packets without PTP",
+            NoLine::Fragment => "fragments of IP, which aren't put together",
+            NoLine::TooLong => "datagrams of more than 2035 octets",
+            NoLine::Timeless => "packets with a time that can't be",
+            NoLine::Simple => "packets of a kind that has no time",
         }
     }
 }
@@ -83,7 +83,7 @@ impl Summary {
         }
     }
 
-    fn count(&mut self, why: Why) {
+    fn count(&mut self, why: NoLine) {
         let count = &mut self.counts[usize::from(why as u8)];
         *count = count.saturating_add(1);
     }
@@ -96,10 +96,10 @@ impl Summary {
                 self.lines = self.lines.saturating_add(1);
                 self.whole = Some(self.whole.unwrap_or(true) && time.nanos() % 1000 == 0);
             }
-            Found::Fragment => self.count(Why::Fragment),
-            Found::TooLong => self.count(Why::TooLong),
+            Found::Fragment => self.count(NoLine::Fragment),
+            Found::TooLong => self.count(NoLine::TooLong),
             Found::OtherLink => self.links.count(link),
-            Found::Other => self.count(Why::Other),
+            Found::Other => self.count(NoLine::Other),
         }
     }
 
@@ -111,13 +111,13 @@ impl Summary {
     /// Counts a packet whose time is none.
     pub fn count_timeless(&mut self) {
         self.packets = self.packets.saturating_add(1);
-        self.count(Why::Timeless);
+        self.count(NoLine::Timeless);
     }
 
     /// Counts a packet of a kind that has no time.
     pub fn count_simple(&mut self) {
         self.packets = self.packets.saturating_add(1);
-        self.count(Why::Simple);
+        self.count(NoLine::Simple);
     }
 
     /// Tells the summary, in lines. What can't be written is lost.

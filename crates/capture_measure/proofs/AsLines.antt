@@ -9,7 +9,7 @@ use Rattle.std.proofs.lemmas.List.Elements.{All-head, All-tail}
 use Rattle.capture_file.specs.Packet.{InterfaceOf}
 use Rattle.capture_model.specs.declared.watched.Watched.{Watched}
 use Rattle.capture_model.specs.Recorded.{Recorded}
-use Rattle.capture_measure.specs.declared.watch.Wanted.{Wanted}
+use Rattle.capture_measure.specs.declared.watch.WantedPorts.{WantedPorts}
 use Rattle.capture_measure.specs.Watch.{is_request, port_in, watched_by, watched_in}
 use Rattle.capture_model.specs.Told.{is_sync}
 use Rattle.capture_measure.specs.Row.{Row, datagrams, heard, kept_most}
@@ -21,7 +21,7 @@ use Rattle.capture_measure.specs.AsLines.{AsksForNothing, rows_of, OneInterfaceI
 use Rattle.capture_measure.proofs.Interfaces.{same_interface}
 use Rattle.capture_measure.proofs.Told.{watched-stays}
 
-module _ (w : Wanted) (asks : AsksForNothing w) where
+module _ (w : WantedPorts) (asks : AsksForNothing w) where
   all_met : (ds : List Recorded) → is_met w ds ≡ true
   all_met ds = λ i. is_domain_met (asks.domain i) ds && (is_port_met (asks.master i) ds && is_port_met (asks.slave i) ds)
 
@@ -59,7 +59,7 @@ module _ (interface : InterfaceOf) where
       ∙ ap (λ b. b || false) ((same_interface interface r.interface).1
       (sym (All-head (λ (r : InterfaceRow). r.interface ≡ interface) r rows at)))
 
-module _ (w : Wanted) (asks : AsksForNothing w) (interface : InterfaceOf) where
+module _ (w : WantedPorts) (asks : AsksForNothing w) (interface : InterfaceOf) where
   -- whom the rows at the interface of the newest are of
   newest : (r : InterfaceRow) (rows : List InterfaceRow) → AreAt interface (r ∷ rows)
       → watched_at w (datagrams (rows_at r.interface (r ∷ rows))) ≡ watched_in w (datagrams (rows_of (r ∷ rows)))

@@ -6,7 +6,7 @@ use Rattle.std.proofs.Math.ListN.{drop_of_length-le}
 use Rattle.capture_file.specs.Packet.{InterfaceOf}
 use Rattle.capture_model.specs.declared.watched.Watched.{Watched}
 use Rattle.capture_measure.specs.declared.tally.Counts.{Counts}
-use Rattle.capture_measure.specs.declared.watch.Wanted.{Wanted}
+use Rattle.capture_measure.specs.declared.watch.WantedPorts.{WantedPorts}
 use Rattle.capture_measure.specs.Row.{Row, datagrams}
 use Rattle.capture_measure.specs.Interfaces.{InterfaceRow, is_same_interface, rows_at}
 use Rattle.capture_measure.specs.Chosen.{chosen, heard_at, watched_at, capture_watched}
@@ -14,7 +14,7 @@ use Rattle.capture_measure.specs.Counts.{Fate, fate_at, fates, early_with, early
 use Rattle.capture_measure.specs.Inner.Counting.{CountsSoFar}
 use Rattle.capture_measure.proofs.Chosen.{capture-stays, heard-known}
 
-module _ (w : Wanted) (interface : InterfaceOf) where
+module _ (w : WantedPorts) (interface : InterfaceOf) where
   -- where it is known
   pub known-fates : (rows : List InterfaceRow) (those : List Row) (watched : Watched) → capture_watched w rows ≡ Some watched
       → heard_at w rows ≡ those
@@ -75,18 +75,18 @@ module _ (w : Wanted) (interface : InterfaceOf) where
         ∙ first_early is_kept watched same known)
 
 -- what is counted so far, where the interface is known, or isn't
-pub so_far : (w : Wanted) (rows : List InterfaceRow) (interface : InterfaceOf) (counts : Counts) → chosen w rows ≡ Some interface
+pub so_far : (w : WantedPorts) (rows : List InterfaceRow) (interface : InterfaceOf) (counts : Counts) → chosen w rows ≡ Some interface
     → IsCounts (capture_fates w interface rows) counts → CountsSoFar w (chosen w rows) rows counts
 so_far w rows interface counts is so = subst (λ (o : Option InterfaceOf). CountsSoFar w o rows counts) (sym is) so
 
-pub so_far_known : (w : Wanted) (rows : List InterfaceRow) (interface : InterfaceOf) (counts : Counts) → chosen w rows ≡ Some interface
+pub so_far_known : (w : WantedPorts) (rows : List InterfaceRow) (interface : InterfaceOf) (counts : Counts) → chosen w rows ≡ Some interface
     → CountsSoFar w (chosen w rows) rows counts → IsCounts (capture_fates w interface rows) counts
 so_far_known w rows interface counts is so = subst (λ (o : Option InterfaceOf). CountsSoFar w o rows counts) is so
 
-pub none_so_far : (w : Wanted) (rows : List InterfaceRow) (counts : Counts) → chosen w rows ≡ None → IsCounts [] counts
+pub none_so_far : (w : WantedPorts) (rows : List InterfaceRow) (counts : Counts) → chosen w rows ≡ None → IsCounts [] counts
     → CountsSoFar w (chosen w rows) rows counts
 none_so_far w rows counts none so = subst (λ (o : Option InterfaceOf). CountsSoFar w o rows counts) (sym none) so
 
-pub none_known : (w : Wanted) (rows : List InterfaceRow) (counts : Counts) → chosen w rows ≡ None
+pub none_known : (w : WantedPorts) (rows : List InterfaceRow) (counts : Counts) → chosen w rows ≡ None
     → CountsSoFar w (chosen w rows) rows counts → IsCounts [] counts
 none_known w rows counts none so = subst (λ (o : Option InterfaceOf). CountsSoFar w o rows counts) none so

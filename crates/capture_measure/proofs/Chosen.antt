@@ -9,7 +9,7 @@ use Rattle.capture_file.specs.Packet.{InterfaceOf}
 use Rattle.capture_model.specs.declared.watched.Watched.{Watched}
 use Rattle.capture_model.specs.Recorded.{Recorded}
 use Rattle.capture_measure.specs.Made.{Measured}
-use Rattle.capture_measure.specs.declared.watch.Wanted.{Wanted}
+use Rattle.capture_measure.specs.declared.watch.WantedPorts.{WantedPorts}
 use Rattle.capture_measure.specs.Watch.{watched_in}
 use Rattle.capture_measure.specs.Row.{Row, datagrams, kept_most}
 use Rattle.capture_measure.specs.Measured.{measured_at, measurements}
@@ -34,7 +34,7 @@ port_stays : (port : Option PortIdentity) (d : Recorded) (ds : List Recorded) �
 port_stays None d ds is = refl
 port_stays (Some port) d ds is = or_stays _ (is_port_met (Some port) ds) is
 
-met_stays : (w : Wanted) (d : Recorded) (ds : List Recorded) → is_met w ds ≡ true → is_met w (d ∷ ds) ≡ true
+met_stays : (w : WantedPorts) (d : Recorded) (ds : List Recorded) → is_met w ds ≡ true → is_met w (d ∷ ds) ≡ true
 met_stays w d ds is =
     let (domain, ports) = and_parts (is_domain_met w.domain ds) (is_port_met w.master ds && is_port_met w.slave ds) is in
     let (master, slave) = and_parts (is_port_met w.master ds) (is_port_met w.slave ds) ports in
@@ -43,26 +43,26 @@ met_stays w d ds is =
     (and_from (is_port_met w.master (d ∷ ds)) (is_port_met w.slave (d ∷ ds)) (port_stays w.master d ds master)
     (port_stays w.slave d ds slave))
 
-pub where_met : (w : Wanted) (ds : List Recorded) (watched : Watched) (met : Bool) → is_met w ds ≡ met
+pub where_met : (w : WantedPorts) (ds : List Recorded) (watched : Watched) (met : Bool) → is_met w ds ≡ met
     → (if met then watched_in w ds else None) ≡ Some watched → (is_met w ds ≡ true) × (watched_in w ds ≡ Some watched)
 where_met w ds watched true is known = (is, known)
 where_met w ds watched false is known = absurd cc
 
-watched_at-stays : (w : Wanted) (d : Recorded) (ds : List Recorded) (watched : Watched) → watched_at w ds ≡ Some watched
+watched_at-stays : (w : WantedPorts) (d : Recorded) (ds : List Recorded) (watched : Watched) → watched_at w ds ≡ Some watched
     → watched_at w (d ∷ ds) ≡ Some watched
 watched_at-stays w d ds watched known =
     let (met, is) = where_met w ds watched (is_met w ds) refl known in
     ap (λ b. if b then watched_in w (d ∷ ds) else None) (met_stays w d ds met) ∙ watched-stays w d ds watched is
 
 -- ---- one more row
-rows_more : (interface : InterfaceOf) (r : InterfaceRow) (rows : List InterfaceRow) (w : Wanted) (watched : Watched) (same : Bool)
+rows_more : (interface : InterfaceOf) (r : InterfaceRow) (rows : List InterfaceRow) (w : WantedPorts) (watched : Watched) (same : Bool)
     → watched_at w (datagrams (rows_at interface rows)) ≡ Some watched
     → watched_at w (datagrams (if same then r.row ∷ rows_at interface rows else rows_at interface rows)) ≡ Some watched
 rows_more interface r rows w watched true known =
     watched_at-stays w r.row.datagram (datagrams (rows_at interface rows)) watched known
 rows_more interface r rows w watched false known = known
 
-module _ (w : Wanted) (rows : List InterfaceRow) (r : InterfaceRow) where
+module _ (w : WantedPorts) (rows : List InterfaceRow) (r : InterfaceRow) where
   pub chosen-stays : (interface : InterfaceOf) → chosen w rows ≡ Some interface → chosen w (r ∷ rows) ≡ Some interface
   chosen-stays interface is = ap (λ o. option_or o (chosen_by w r rows)) is
 
@@ -116,16 +116,16 @@ module _ (w : Wanted) (rows : List InterfaceRow) (r : InterfaceRow) where
       ap (option_and_then (λ i. watched_at w (datagrams (rows_at i (r ∷ rows))))) is ∙ known
 
 -- ---- what is measured
-pub measured-known : (w : Wanted) (rows : List InterfaceRow) (watched : Watched) → capture_watched w rows ≡ Some watched
+pub measured-known : (w : WantedPorts) (rows : List InterfaceRow) (watched : Watched) → capture_watched w rows ≡ Some watched
     → capture_measured w rows ≡ measurements watched (heard_at w rows)
 measured-known w rows watched known = ap (λ o. option_map_or (λ watched. measurements watched (heard_at w rows)) o []) known
 
-pub measured-unknown : (w : Wanted) (rows : List InterfaceRow) → chosen w rows ≡ None → capture_measured w rows ≡ []
+pub measured-unknown : (w : WantedPorts) (rows : List InterfaceRow) → chosen w rows ≡ None → capture_measured w rows ≡ []
 measured-unknown w rows none =
     ap (λ o. option_map_or (λ watched. measurements watched (heard_at w rows))
     (option_and_then (λ i. watched_at w (datagrams (rows_at i rows))) o) []) none
 
-module _ (w : Wanted) (rows : List InterfaceRow) (r : InterfaceRow) where
+module _ (w : WantedPorts) (rows : List InterfaceRow) (r : InterfaceRow) where
   -- one more that is heard
   pub measured-more : (interface : InterfaceOf) (watched : Watched) → chosen w rows ≡ Some interface
       → capture_watched w rows ≡ Some watched → is_same_interface interface r.interface ≡ true

@@ -24,8 +24,8 @@ use Rattle.capture_measure.specs.declared.listener.Became.TheVariants as became
 use Rattle.capture_measure.specs.declared.tally.Counts.{Counts}
 use Rattle.capture_measure.specs.declared.tally.Kind.{Kind}
 use Rattle.capture_measure.specs.declared.tally.Kind.TheVariants as kinds
-use Rattle.capture_measure.specs.declared.tally.Why.{Why}
-use Rattle.capture_measure.specs.declared.tally.Why.TheVariants as whys
+use Rattle.capture_measure.specs.declared.tally.NoReport.{NoReport}
+use Rattle.capture_measure.specs.declared.tally.NoReport.TheVariants as whys
 use Rattle.capture_measure.specs.Counts.{kind_number, why_number, kind_of, kind_of_refused, why_refused, place_of, at_most}
 use Rattle.capture_measure.specs.Counts.{Fate, fate_in, early_fate, noted_of, meeting_of, is_so, IsCounts}
 use Rattle.capture_measure.specs.Meetings.{meeting_at}
@@ -46,7 +46,7 @@ kind_few kinds.Management = omega arith
 kind_few kinds.Reserved = omega arith
 kind_few kinds.Malformed = omega arith
 
-why_few : (why : Why) → why_number why < 14
+why_few : (why : NoReport) → why_number why < 14
 why_few whys.Held = omega arith
 why_few whys.Alone = omega arith
 why_few whys.OfSlave = omega arith
@@ -65,7 +65,7 @@ why_few whys.NoPart = omega arith
 place_within : (k y : ℕ) → k < 10 → y < 14 → k * 14 + y < 140
 place_within k y few some = omega (arith, few, some)
 
-pub place_few : (kind : Kind) (why : Why) → place_of kind why < 140
+pub place_few : (kind : Kind) (why : NoReport) → place_of kind why < 140
 place_few kind why = place_within (kind_number kind) (why_number why) (kind_few kind) (why_few why)
 
 -- ---- one more, or none
@@ -126,20 +126,20 @@ anew_same became.Repeated counts = refl
 anew_same became.Anew counts = refl
 anew_same became.Foreign counts = refl
 
-pub why_same : (kind : Kind) (why : Option Why) (counts : Counts) → (with_why kind why counts).others ≡ counts.others
+pub why_same : (kind : Kind) (why : Option NoReport) (counts : Counts) → (with_why kind why counts).others ≡ counts.others
 why_same kind None counts = refl
 why_same kind (Some why) counts = refl
 
 -- the counts of those that gave no report
 abbrev Table : List Fate → List ℕ → Type 0
-Table all there = (kind : Kind) (why : Why) → get_or there (place_of kind why) 0 ≡ at_most (count_by (is_so kind why) all)
+Table all there = (kind : Kind) (why : NoReport) → get_or there (place_of kind why) 0 ≡ at_most (count_by (is_so kind why) all)
 
 module _ (fate : Fate) (all : List Fate) (there : List ℕ) (many : length there ≡ 140) (so : Table all there) where
   table_none : fate.why ≡ None → Table (fate ∷ all) there
   table_none none kind why = count_no (is_so kind why) fate all _
-      (ap (λ (o : Option Why). is_so kind why (record fate { why = o })) none) (so kind why)
+      (ap (λ (o : Option NoReport). is_so kind why (record fate { why = o })) none) (so kind why)
 
-  table_more : (own : Why) → fate.why ≡ Some own
+  table_more : (own : NoReport) → fate.why ≡ Some own
       → Table (fate ∷ all) (slice_set there (place_of fate.kind own) (with_one (get_or there (place_of fate.kind own) 0)))
   table_more own is kind why = by_place (cases_eq (place_of fate.kind own) (place_of kind why))
     where
@@ -150,7 +150,7 @@ module _ (fate : Fate) (all : List Fate) (there : List ℕ) (many : length there
       within = subst (λ (n : ℕ). mine < n) (sym many) (place_few fate.kind own)
 
       counted : is_so kind why fate ≡ (mine == place_of kind why)
-      counted = ap (λ (o : Option Why). is_so kind why (record fate { why = o })) is
+      counted = ap (λ (o : Option NoReport). is_so kind why (record fate { why = o })) is
 
       by_place : (mine ≡ place_of kind why) ⊎ (mine ≡ place_of kind why → ⊥)
           → get_or (slice_set there mine (with_one (get_or there mine 0))) (place_of kind why) 0
@@ -195,7 +195,7 @@ noted_counts fate all counts later so others better = record {
   others = subst (AreOthers (filter_map meeting_of all)) (sym (ap (λ (c : Counts). c.others) others)) so.others;
 }
 
-more_by : (why : Option Why) (b : Became) (fate : Fate) (all : List Fate) (counts : Counts) (others : Others) → fate.why ≡ why
+more_by : (why : Option NoReport) (b : Became) (fate : Fate) (all : List Fate) (counts : Counts) (others : Others) → fate.why ≡ why
     → fate.measured ≡ None → fate.slave_anew ≡ is_slave_anew b → fate.master_anew ≡ is_master_anew b → IsNoted fate all counts
     → AreOthers (filter_map meeting_of (fate ∷ all)) others
     → IsCounts (fate ∷ all) (record (with_why fate.kind why (with_anew b counts)) { others = others })
@@ -238,7 +238,7 @@ heard_counts w d m l b all counts others said is so met =
     (sym (ap is_slave_anew is ∙ slave-became w d.line d.time m m.body l))
     (sym (ap is_master_anew is ∙ master-became w d.line d.time m m.body l))
     (subst (λ (s : Reading). IsNoted (fate_in w (record d { said = s }) l) all counts) said so)
-    (subst (λ (y : Option Why). AreOthers (cons_option (meeting_at d.line d.time m.body m.header y) (filter_map meeting_of all)) others)
+    (subst (λ (y : Option NoReport). AreOthers (cons_option (meeting_at d.line d.time m.body m.header y) (filter_map meeting_of all)) others)
     why met))
 
 -- of one that isn't one of the four messages

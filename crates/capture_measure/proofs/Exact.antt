@@ -16,7 +16,7 @@ use Rattle.capture_model.specs.Told.{AreNumbered}
 use Rattle.capture_model.specs.Exact.{IsExact, EachReportIsExact}
 use Rattle.capture_measure.specs.Made.{Measured}
 use Rattle.capture_measure.specs.declared.measuring.Form.{Form}
-use Rattle.capture_measure.specs.declared.watch.Wanted.{Wanted}
+use Rattle.capture_measure.specs.declared.watch.WantedPorts.{WantedPorts}
 use Rattle.capture_measure.specs.Watch.{watched_in}
 use Rattle.capture_measure.specs.Row.{Row, datagrams, is_known, heard, kept_most}
 use Rattle.capture_measure.specs.Measured.{texts_as, measurements, written}
@@ -97,7 +97,7 @@ heard_by n row heard earlier false true true more all = all
 heard_by n row heard earlier false true false more all = (tt, all.1)
 
 -- so the lines that are heard are numbered
-pub heard_numbered : (w : Wanted) (rows : List Row) → AreCounted rows
+pub heard_numbered : (w : WantedPorts) (rows : List Row) → AreCounted rows
     → AreNumbered (datagrams (heard w rows)) × IsUpTo (length rows) (datagrams (heard w rows))
 heard_numbered w [] counted = (tt, tt)
 heard_numbered w (row ∷ rows) counted =
@@ -112,7 +112,7 @@ nothing_of (Some w) = refl
 nothing_of None = refl
 
 -- what was written of lines whose watch is known
-written_exactly : (form : Form) (wanted : Wanted) (w : Watched) (read : Recording) (text : List ℕ)
+written_exactly : (form : Form) (wanted : WantedPorts) (w : Watched) (read : Recording) (text : List ℕ)
     → IsReadOn (begun form wanted) read text → watched_in wanted (datagrams read.rows) ≡ Some w
     → text ≡ texts_as form (measurements w (heard wanted read.rows))
 written_exactly form wanted w read text on known =

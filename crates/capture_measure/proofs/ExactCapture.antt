@@ -11,7 +11,7 @@ use Rattle.capture_model.specs.declared.watched.Watched.{Watched}
 use Rattle.capture_model.specs.Told.{AreNumbered}
 use Rattle.capture_model.specs.Exact.{IsExact, EachReportIsExact}
 use Rattle.capture_measure.specs.declared.measuring.Form.{Form}
-use Rattle.capture_measure.specs.declared.watch.Wanted.{Wanted}
+use Rattle.capture_measure.specs.declared.watch.WantedPorts.{WantedPorts}
 use Rattle.capture_measure.specs.Row.{Row, datagrams, kept_most}
 use Rattle.capture_measure.specs.Measured.{texts_as, measurements}
 use Rattle.capture_measure.specs.Interfaces.{InterfaceRow, is_same_interface, rows_at}
@@ -62,7 +62,7 @@ with_rising n None (Some interface) r rows heard rising those =
     few_rising n r.row (rows_at interface (r ∷ rows)) (nat_le (length (r ∷ rows)) kept_most) rising.0 rising.1
     (rows_rising n interface (r ∷ rows) rising)
 
-heard_rising : (n : ℕ) (w : Wanted) (rows : List InterfaceRow) → ArePackets n rows → AreRising n (heard_at w rows)
+heard_rising : (n : ℕ) (w : WantedPorts) (rows : List InterfaceRow) → ArePackets n rows → AreRising n (heard_at w rows)
 heard_rising n w [] rising = tt
 heard_rising n w (r ∷ rows) rising =
     with_rising n (chosen w rows) (chosen w (r ∷ rows)) r rows (heard_at w rows) rising
@@ -87,7 +87,7 @@ row_number asked number (Captured interface time link octets) r is = is.4.number
 row_number asked number Timeless r is = absurd is
 row_number asked number Simple r is = absurd is
 
-pub read_on : (form : Form) (wanted : Wanted) (packets : List PacketOf) (read : Capture) (text : List ℕ)
+pub read_on : (form : Form) (wanted : WantedPorts) (packets : List PacketOf) (read : Capture) (text : List ℕ)
     → TakesPackets capture_rules (capture_begun form wanted) packets read text
     → HasReadOn (capture_begun form wanted) read text (length packets)
 read_on form wanted [] read text (same, nothing) = record {
@@ -114,7 +114,7 @@ read_on form wanted (packet ∷ earlier) read text (state, before, out, taken, i
           (packets_more (length earlier) (suc (length earlier)) state.rows (omega arith) so_far.rising);
     }
 
-written_exactly : (form : Form) (wanted : Wanted) (w : Watched) (read : Capture) (text : List ℕ) (most : ℕ)
+written_exactly : (form : Form) (wanted : WantedPorts) (w : Watched) (read : Capture) (text : List ℕ) (most : ℕ)
     → HasReadOn (capture_begun form wanted) read text most → capture_watched wanted read.rows ≡ Some w
     → text ≡ texts_as form (measurements w (heard_at wanted read.rows))
 written_exactly form wanted w read text most on known =

@@ -7,7 +7,7 @@ use Rattle.event_codec.specs.declared.message.Body.{Body}
 use Rattle.event_codec.specs.declared.message.Body.TheVariants as bodies
 use Rattle.event_codec.specs.Packet.{Contents}
 use Rattle.event_codec.specs.Reading.{Reading}
-use Rattle.slave_port.specs.declared.exchange.Exchange.{Exchange}
+use Rattle.slave_port.specs.declared.exchange.LastExchange.{LastExchange}
 use Rattle.slave_port.specs.declared.heard.Heard.{Heard}
 use Rattle.slave_port.specs.declared.heard.Heard.TheVariants as answers
 use Rattle.slave_port.specs.declared.heard.Report.{Report}
@@ -35,8 +35,8 @@ report_is answers.Completed report is = absurd cc
 report_is (answers.Ignored reason) report is = absurd cc
 
 -- an exchange is there, and a report is of it
-abbrev IsThere : Option Exchange → Report → Type 0
-IsThere there report = (x : Exchange) × (there ≡ Some x) × IsReportOf x report
+abbrev IsThere : Option LastExchange → Report → Type 0
+IsThere there report = (x : LastExchange) × (there ≡ Some x) × IsReportOf x report
 
 after_report : (setup : Setup) (call : Call) (earlier : List Call) (report : Report) → answer setup earlier call ≡ answers.Report report
     → IsThere (last_exchange setup (call ∷ earlier)) report

@@ -7,7 +7,7 @@ use Rattle.capture_model.specs.declared.watched.Watched.{Watched}
 use Rattle.capture_model.specs.Listening.{after_all}
 use Rattle.capture_model.specs.Recorded.{Recorded}
 use Rattle.capture_measure.specs.Made.{Measured}
-use Rattle.capture_measure.specs.declared.watch.Wanted.{Wanted}
+use Rattle.capture_measure.specs.declared.watch.WantedPorts.{WantedPorts}
 use Rattle.capture_measure.specs.Watch.{watched_in}
 use Rattle.capture_measure.specs.Row.{Row, datagrams, heard}
 use Rattle.capture_measure.specs.Measured.{measured_at}
@@ -16,21 +16,21 @@ use Rattle.capture_measure.proofs.Rows.{heard-known, heard-unknown, unknown_befo
 use Rattle.capture_measure.proofs.Told.{watched-stays}
 
 -- before the first line
-no_fates : (w : Wanted) (known : Option Watched) → option_map_or (λ watched. fates watched (heard w [])) known [] ++ [] ≡ []
+no_fates : (w : WantedPorts) (known : Option Watched) → option_map_or (λ watched. fates watched (heard w [])) known [] ++ [] ≡ []
 no_fates w None = refl
 no_fates w (Some watched) = refl
 
-pub fates-nil : (w : Wanted) → fates_in w [] ≡ []
+pub fates-nil : (w : WantedPorts) → fates_in w [] ≡ []
 fates-nil w = no_fates w (watched_in w [])
 
 -- where it isn't known whom to watch
-pub fates-unknown : (w : Wanted) (rows : List Row) → watched_in w (datagrams rows) ≡ None → fates_in w rows ≡ early_fates rows
+pub fates-unknown : (w : WantedPorts) (rows : List Row) → watched_in w (datagrams rows) ≡ None → fates_in w rows ≡ early_fates rows
 fates-unknown w rows unknown =
     ap (λ (o : Option Watched). option_map_or (λ watched. fates watched (heard w rows)) o []
     ++ early_fates (drop (length (heard w rows)) rows)) unknown
     ∙ ap (λ (h : List Row). early_fates (drop (length h) rows)) (heard-unknown w rows unknown)
 
-pub fates-still : (w : Wanted) (rows : List Row) (row : Row) → watched_in w (datagrams (row ∷ rows)) ≡ None
+pub fates-still : (w : WantedPorts) (rows : List Row) (row : Row) → watched_in w (datagrams (row ∷ rows)) ≡ None
     → fates_in w (row ∷ rows) ≡ early_fate row.datagram ∷ fates_in w rows
 fates-still w rows row unknown = fates-unknown w (row ∷ rows) unknown
     ∙ ap (λ (all : List Fate). early_fate row.datagram ∷ all) (sym (fates-unknown w rows (unknown_before w rows row unknown)))
@@ -40,12 +40,12 @@ pub no-early : (rows : List Row) → early_fates (drop (length rows) rows) ≡ [
 no-early rows = ap early_fates (drop_of_length-le rows (omega arith))
 
 -- where it is known
-pub fates-known : (w : Wanted) (rows those : List Row) (watched : Watched) → watched_in w (datagrams rows) ≡ Some watched
+pub fates-known : (w : WantedPorts) (rows those : List Row) (watched : Watched) → watched_in w (datagrams rows) ≡ Some watched
     → heard w rows ≡ those → fates_in w rows ≡ fates watched those ++ early_fates (drop (length those) rows)
 fates-known w rows those watched known same = λ i.
     option_map_or (λ watched. fates watched (same i)) (known i) [] ++ early_fates (drop (length (same i)) rows)
 
-pub fates-more : (w : Wanted) (rows : List Row) (row : Row) (watched : Watched) → watched_in w (datagrams rows) ≡ Some watched
+pub fates-more : (w : WantedPorts) (rows : List Row) (row : Row) (watched : Watched) → watched_in w (datagrams rows) ≡ Some watched
     → fates_in w (row ∷ rows) ≡ fate_at watched (heard w rows) row ∷ fates_in w rows
 fates-more w rows row watched known =
     fates-known w (row ∷ rows) (row ∷ heard w rows) watched (watched-stays w row.datagram (datagrams rows) watched known)
@@ -54,7 +54,7 @@ fates-more w rows row watched known =
     (sym (fates-known w rows (heard w rows) watched known refl))
 
 -- the line by which it is known
-pub fates-first : (w : Wanted) (rows : List Row) (row : Row) (watched : Watched) (earlier : List Row) (all : List Fate)
+pub fates-first : (w : WantedPorts) (rows : List Row) (row : Row) (watched : Watched) (earlier : List Row) (all : List Fate)
     → watched_in w (datagrams (row ∷ rows)) ≡ Some watched → heard w (row ∷ rows) ≡ row ∷ earlier
     → early_fates (drop (length earlier) rows) ≡ all → fates_in w (row ∷ rows) ≡ fates watched (row ∷ earlier) ++ all
 fates-first w rows row watched earlier all known first those =

@@ -7,7 +7,7 @@ use Rattle.event_codec.specs.declared.message.Message.{Message}
 use Rattle.event_codec.specs.declared.refusal.DecodeRefusal.{DecodeRefusal}
 use Rattle.event_codec.specs.Packet.{contents}
 use Rattle.event_codec.specs.Reading.{Reading, Answers}
-use Rattle.slave_port.specs.declared.exchange.Exchange.{Exchange}
+use Rattle.slave_port.specs.declared.exchange.LastExchange.{LastExchange}
 use Rattle.slave_port.specs.declared.heard.Report.{Report}
 use Rattle.capture_model.specs.declared.watched.Watched.{Watched}
 use Rattle.capture_model.specs.Listening.{report_at}
@@ -37,7 +37,7 @@ said_err refusal (Ok m) answers = absurd answers
 said_err refusal (Err first) answers = ap Err (sym answers)
 
 -- what is measured at a row by its report, and by the exchange that it was made of
-abbrev pub measured_with : Half → (line : ℕ) → (time : List ℕ) → Option Exchange → Option Report → List Measured
+abbrev pub measured_with : Half → (line : ℕ) → (time : List ℕ) → Option LastExchange → Option Report → List Measured
 measured_with by line time exchange report = option_to_list
     (option_map (λ r. record { by = by; line = line; time = time; report = r; exchange = exchange }) report)
 
@@ -45,15 +45,15 @@ measured_with by line time exchange report = option_to_list
 abbrev half_said : Recorded → Half
 half_said d = option_map_or (λ m. half_of m.body) (result_ok d.said) halves.Sync
 
-abbrev completed_by : Half → Option Exchange → Report → Completed
+abbrev completed_by : Half → Option LastExchange → Report → Completed
 completed_by by exchange report = record { by = by; report = report; exchange = exchange }
 
-none_completed : (by : Half) (exchange : Option Exchange) (report : Option Report)
+none_completed : (by : Half) (exchange : Option LastExchange) (report : Option Report)
     → option_map (λ r. completed_by by exchange r) report ≡ None → report ≡ None
 none_completed by exchange None none = refl
 none_completed by exchange (Some report) none = absurd cc
 
-one_completed : (by : Half) (line : ℕ) (time : List ℕ) (exchange : Option Exchange) (report : Option Report) (completed : Completed)
+one_completed : (by : Half) (line : ℕ) (time : List ℕ) (exchange : Option LastExchange) (report : Option Report) (completed : Completed)
     → option_map (λ r. completed_by by exchange r) report ≡ Some completed
     → measured_with by line time exchange report ≡ measured_by completed time line ∷ []
 one_completed by line time exchange None completed is = absurd cc

@@ -15,10 +15,10 @@ use Rattle.capture_model.specs.declared.watched.Watched.{Watched}
 use Rattle.capture_model.specs.Listening.{after_all}
 use Rattle.capture_measure.specs.declared.listener.Listener.{Listener}
 use Rattle.capture_measure.specs.declared.packets.CaptureMeasuring.{CaptureMeasuring}
-use Rattle.capture_measure.specs.declared.packets.Stage.{Stage}
-use Rattle.capture_measure.specs.declared.packets.Stage.TheVariants.{Looking, Hearing}
+use Rattle.capture_measure.specs.declared.packets.PacketStage.{PacketStage}
+use Rattle.capture_measure.specs.declared.packets.PacketStage.TheVariants.{Looking, Hearing}
 use Rattle.capture_measure.specs.declared.recording.Recording.{Recording}
-use Rattle.capture_measure.specs.declared.watch.Wanted.{Wanted}
+use Rattle.capture_measure.specs.declared.watch.WantedPorts.{WantedPorts}
 use Rattle.capture_measure.specs.Row.{Row, datagrams, kept_most}
 use Rattle.capture_measure.specs.Measured.{texts_as, measured_at}
 use Rattle.capture_measure.specs.Interfaces.{InterfaceRow, is_same_interface, rows_at, is_among, interfaces_in}
@@ -49,7 +49,7 @@ still_looking task k r count form wanted stage counted none are nothing = record
   form = form;
   wanted = wanted;
   stage = subst (IsCaptureStage k.wanted (r ∷ k.rows) task.recordings.recordings.items) (sym stage) (none, are, omega (arith, counted));
-  whom = ap (λ (s : Stage). whom_at s task.recordings.recordings.items) stage
+  whom = ap (λ (s : PacketStage). whom_at s task.recordings.recordings.items) stage
       ∙ sym (ap (option_map (λ i. whom_in k.wanted (datagrams (rows_at i (r ∷ k.rows))))) none);
   counts = none_so_far k.wanted (r ∷ k.rows) task.reports.reports.tally.counts none nothing;
 }
@@ -62,11 +62,11 @@ adds_all k r none =
     sym (append-nil all) ∙ ap (λ (ms : List Measured). all ++ ms) (sym (measured-unknown k.wanted k.rows none))
 
 -- an interface that isn't looked at
-pub unlooked_still : (w : Wanted) (rows : List InterfaceRow) (r : InterfaceRow) → chosen w rows ≡ None
+pub unlooked_still : (w : WantedPorts) (rows : List InterfaceRow) (r : InterfaceRow) → chosen w rows ≡ None
     → is_among r.interface (interfaces_in (r ∷ rows)) ≡ false → chosen w (r ∷ rows) ≡ None
 unlooked_still w rows r none other = chosen-after w rows r none ∙ unlooked w rows r other
 
-module _ (w : Wanted) (rows : List InterfaceRow) (r : InterfaceRow) (recordings : List Recording) (place : ℕ)
+module _ (w : WantedPorts) (rows : List InterfaceRow) (r : InterfaceRow) (recordings : List Recording) (place : ℕ)
     (are : AreRecordings w (r ∷ rows) recordings) (within : place < length recordings)
     (there : (d : Recording) → interface_in (get_or recordings place d) ≡ r.interface) where
   -- what is known at the interface of the datagram
@@ -96,22 +96,22 @@ few_enough true rows r is = let few = ltb-true (length rows) kept_most (sym is) 
 few_enough false rows r is = let many = ltb-false (length rows) kept_most (sym is) in lt-leb (length (r ∷ rows)) kept_most (omega (arith, many))
 
 -- from this datagram on a port hears them
-pub chosen_now : (w : Wanted) (rows : List InterfaceRow) (r : InterfaceRow) (watched : Watched) → chosen w rows ≡ None
+pub chosen_now : (w : WantedPorts) (rows : List InterfaceRow) (r : InterfaceRow) (watched : Watched) → chosen w rows ≡ None
     → is_among r.interface (interfaces_in (r ∷ rows)) ≡ true → watched_at w (datagrams (rows_at r.interface (r ∷ rows))) ≡ Some watched
     → chosen w (r ∷ rows) ≡ Some r.interface
 chosen_now w rows r watched none among known = chosen-after w rows r none ∙ known_there w rows r watched among known
 
-pub unknown_still : (w : Wanted) (rows : List InterfaceRow) (r : InterfaceRow) → chosen w rows ≡ None
+pub unknown_still : (w : WantedPorts) (rows : List InterfaceRow) (r : InterfaceRow) → chosen w rows ≡ None
     → watched_at w (datagrams (rows_at r.interface (r ∷ rows))) ≡ None → chosen w (r ∷ rows) ≡ None
 unknown_still w rows r none not_known = chosen-after w rows r none ∙ unknown w rows r not_known
 
-pub heard_now : (w : Wanted) (rows : List InterfaceRow) (r : InterfaceRow) (is_kept : Bool) → chosen w rows ≡ None
+pub heard_now : (w : WantedPorts) (rows : List InterfaceRow) (r : InterfaceRow) (is_kept : Bool) → chosen w rows ≡ None
     → chosen w (r ∷ rows) ≡ Some r.interface → is_kept ≡ nat_lt (length rows) kept_most
     → heard_at w (r ∷ rows) ≡ (if is_kept then rows_at r.interface (r ∷ rows) else r.row ∷ [])
 heard_now w rows r is_kept none is few = heard-first w rows r r.interface is_kept none is (few_enough is_kept rows r few)
 
-pub began : (w : Wanted) (rows : List InterfaceRow) (r : InterfaceRow) (recordings : List Recording) (place : ℕ) (watched : Watched)
-    (heard : List Row) (stage : Stage) → place < length recordings
+pub began : (w : WantedPorts) (rows : List InterfaceRow) (r : InterfaceRow) (recordings : List Recording) (place : ℕ) (watched : Watched)
+    (heard : List Row) (stage : PacketStage) → place < length recordings
     → ((d : Recording) → interface_in (get_or recordings place d) ≡ r.interface) → chosen w (r ∷ rows) ≡ Some r.interface
     → watched_at w (datagrams (rows_at r.interface (r ∷ rows))) ≡ Some watched → heard_at w (r ∷ rows) ≡ heard
     → IsHearingAt watched place heard stage → IsCaptureStage w (r ∷ rows) recordings stage
@@ -131,7 +131,7 @@ not_found interface known None recordings is none = is
 not_found interface known (Some place) recordings is none = absurd (none place refl)
 
 -- ---- once it is known, those at the interface are heard, and no others
-module _ (w : Wanted) (rows : List InterfaceRow) (r : InterfaceRow) (recordings : List Recording) (place : ℕ) (watched : Watched)
+module _ (w : WantedPorts) (rows : List InterfaceRow) (r : InterfaceRow) (recordings : List Recording) (place : ℕ) (watched : Watched)
     (within : place < length recordings) (is : (d : Recording) → chosen w rows ≡ Some (interface_in (get_or recordings place d)))
     (known : capture_watched w rows ≡ Some watched) where
   pub hears_more : (listener : Listener) → ((d : Recording) → is_same_interface (interface_in (get_or recordings place d)) r.interface ≡ true)
@@ -170,7 +170,7 @@ module _ (w : Wanted) (rows : List InterfaceRow) (r : InterfaceRow) (recordings 
 
 -- ---- whom the packets are of that are measured
 -- once that is known, one more row changes nothing of it
-row_whom : (w : Wanted) (interface : InterfaceOf) (r : InterfaceRow) (rows : List InterfaceRow) (watched : Watched) (same : Bool)
+row_whom : (w : WantedPorts) (interface : InterfaceOf) (r : InterfaceRow) (rows : List InterfaceRow) (watched : Watched) (same : Bool)
     → watched_at w (datagrams (rows_at interface rows)) ≡ Some watched
     → whom_in w (datagrams (if same then r.row ∷ rows_at interface rows else rows_at interface rows))
     ≡ whom_in w (datagrams (rows_at interface rows))
@@ -178,7 +178,7 @@ row_whom w interface r rows watched true known = whom_stays w r.row.datagram (da
     (where_met w (datagrams (rows_at interface rows)) watched (is_met w (datagrams (rows_at interface rows))) refl known).1
 row_whom w interface r rows watched false known = refl
 
-pub capture_whom_stays : (w : Wanted) (rows : List InterfaceRow) (r : InterfaceRow) (interface : InterfaceOf) (watched : Watched)
+pub capture_whom_stays : (w : WantedPorts) (rows : List InterfaceRow) (r : InterfaceRow) (interface : InterfaceOf) (watched : Watched)
     → chosen w rows ≡ Some interface → capture_watched w rows ≡ Some watched → capture_whom w (r ∷ rows) ≡ capture_whom w rows
 capture_whom_stays w rows r interface watched is known =
     ap (option_map (λ i. whom_in w (datagrams (rows_at i (r ∷ rows))))) (chosen-stays w rows r interface is)
@@ -187,8 +187,8 @@ capture_whom_stays w rows r interface watched is known =
     ∙ sym (ap (option_map (λ i. whom_in w (datagrams (rows_at i rows)))) is)
 
 -- it is known at the interface of the newest row
-pub whom_began : (w : Wanted) (rows : List InterfaceRow) (r : InterfaceRow) (recordings : List Recording) (place : ℕ)
-    (watched : Watched) (heard : List Row) (stage : Stage) → AreRecordings w (r ∷ rows) recordings → place < length recordings
+pub whom_began : (w : WantedPorts) (rows : List InterfaceRow) (r : InterfaceRow) (recordings : List Recording) (place : ℕ)
+    (watched : Watched) (heard : List Row) (stage : PacketStage) → AreRecordings w (r ∷ rows) recordings → place < length recordings
     → ((d : Recording) → interface_in (get_or recordings place d) ≡ r.interface) → chosen w (r ∷ rows) ≡ Some r.interface
     → IsHearingAt watched place heard stage → whom_at stage recordings ≡ capture_whom w (r ∷ rows)
 whom_began w rows r recordings place watched heard (Looking count) are within there is hearing = absurd hearing

@@ -23,9 +23,9 @@ use Rattle.capture_measure.specs.Made.{Measured}
 use Rattle.capture_measure.specs.declared.tally.Counts.{Counts}
 use Rattle.capture_measure.specs.declared.tally.Kind.{Kind}
 use Rattle.capture_measure.specs.declared.tally.Kind.TheVariants as kinds
-use Rattle.capture_measure.specs.declared.tally.Why.{Why}
-use Rattle.capture_measure.specs.declared.tally.Why.TheVariants as whys
-use Rattle.capture_measure.specs.declared.watch.Wanted.{Wanted}
+use Rattle.capture_measure.specs.declared.tally.NoReport.{NoReport}
+use Rattle.capture_measure.specs.declared.tally.NoReport.TheVariants as whys
+use Rattle.capture_measure.specs.declared.watch.WantedPorts.{WantedPorts}
 use Rattle.capture_measure.specs.Watch.{watched_in}
 use Rattle.capture_measure.specs.Row.{Row, datagrams, is_known, heard, kept_most}
 use Rattle.capture_measure.specs.Counts.{Fate, fate_at, fates, early_fate, early_fates, fates_in, why_heard, why_said, why_answered}
@@ -79,7 +79,7 @@ all_heard : (rows : List Row) (known : Option Watched) → All IsOnce (option_ma
 all_heard rows None = All-nil IsOnce
 all_heard rows (Some w) = heard_once w rows
 
-all_once : (w : Wanted) (rows : List Row) → All IsOnce (fates_in w rows)
+all_once : (w : WantedPorts) (rows : List Row) → All IsOnce (fates_in w rows)
 all_once w rows =
     All-append IsOnce (option_map_or (λ watched. fates watched (heard w rows)) (watched_in w (datagrams rows)) [])
     (early_fates (drop (length (heard w rows)) rows)) (all_heard (heard w rows) (watched_in w (datagrams rows)))
@@ -90,7 +90,7 @@ fates_length : (w : Watched) (rows : List Row) → length (fates w rows) ≡ len
 fates_length w [] = refl
 fates_length w (row ∷ earlier) = ap suc (fates_length w earlier)
 
-few_heard : (w : Wanted) (rows : List Row) → length (heard w rows) ≤ length rows
+few_heard : (w : WantedPorts) (rows : List Row) → length (heard w rows) ≤ length rows
 few_heard w [] = omega arith
 few_heard w (row ∷ earlier) =
     by (is_known w earlier) (is_known w (row ∷ earlier)) (nat_le (length (row ∷ earlier)) kept_most) (few_heard w earlier)
@@ -103,7 +103,7 @@ few_heard w (row ∷ earlier) =
     by false true true fewer = omega arith
     by false true false fewer = omega arith
 
-as_many : (w : Wanted) (rows : List Row) → length (fates_in w rows) ≡ length rows
+as_many : (w : WantedPorts) (rows : List Row) → length (fates_in w rows) ≡ length rows
 as_many w rows = by (watched_in w (datagrams rows)) refl
   where
     those : List Row
@@ -178,7 +178,7 @@ no_place from (fate ∷ all) =
     let one : hits_of from 0 fate ≡ 0 = none fate.kind fate.why in
     omega (arith, rest, one)
   where
-    none : (kind : Kind) (why : Option Why) → option_map_or (λ why. hits from 0 (place_of kind why)) why 0 ≡ 0
+    none : (kind : Kind) (why : Option NoReport) → option_map_or (λ why. hits from 0 (place_of kind why)) why 0 ≡ 0
     none kind None = refl
     none kind (Some why) = refl
 
@@ -193,7 +193,7 @@ next_place from count (fate ∷ all) =
     split fate.kind fate.why in
     omega (arith, rest, more, one)
   where
-    split : (kind : Kind) (why : Option Why)
+    split : (kind : Kind) (why : Option NoReport)
         → option_map_or (λ why. hits from (suc count) (place_of kind why)) why 0
         ≡ cond (option_map_or (λ why. place_of kind why == from) why false) 1 0
         + option_map_or (λ why. hits (suc from) count (place_of kind why)) why 0
@@ -235,7 +235,7 @@ kind_at (suc (suc (suc (suc (suc (suc (suc (suc zero)))))))) few = (kinds.Reserv
 kind_at (suc (suc (suc (suc (suc (suc (suc (suc (suc zero))))))))) few = (kinds.Malformed, refl)
 kind_at (suc (suc (suc (suc (suc (suc (suc (suc (suc (suc k)))))))))) few = absurd (omega (arith, few))
 
-why_at : (y : ℕ) → y < 14 → (why : Why) × (why_number why ≡ y)
+why_at : (y : ℕ) → y < 14 → (why : NoReport) × (why_number why ≡ y)
 why_at zero few = (whys.Held, refl)
 why_at (suc zero) few = (whys.Alone, refl)
 why_at (suc (suc zero)) few = (whys.OfSlave, refl)
@@ -255,7 +255,7 @@ why_at (suc (suc (suc (suc (suc (suc (suc (suc (suc (suc (suc (suc (suc (suc y))
 parted : (i : ℕ) → i < 140 → (k : ℕ) × (y : ℕ) × (k < 10) × (y < 14) × (k * 14 + y ≡ i)
 parted i few = (i / 14, i % 14, omega (arith, few), omega arith, omega arith)
 
-placed : (i : ℕ) → i < 140 → (kind : Kind) × (why : Why) × (place_of kind why ≡ i)
+placed : (i : ℕ) → i < 140 → (kind : Kind) × (why : NoReport) × (place_of kind why ≡ i)
 placed i few =
     let (k, y, low, least, is) = parted i few in
     let (kind, same) = kind_at k low in
@@ -269,7 +269,7 @@ has_reason fate = is_some fate.why
 abbrev has_report : Fate → Bool
 has_report fate = is_some fate.measured
 
-every_hit : (n : ℕ) → ((kind : Kind) (why : Why) → place_of kind why < n) → (all : List Fate)
+every_hit : (n : ℕ) → ((kind : Kind) (why : NoReport) → place_of kind why < n) → (all : List Fate)
     → all_hits 0 n all ≡ count_by has_reason all
 every_hit n few [] = refl
 every_hit n few (fate ∷ all) =
@@ -279,7 +279,7 @@ every_hit n few (fate ∷ all) =
     let one : hits_of 0 n fate ≡ cond (has_reason fate) 1 0 = hit fate.kind fate.why in
     omega (arith, rest, more, one)
   where
-    hit : (kind : Kind) (why : Option Why)
+    hit : (kind : Kind) (why : Option NoReport)
         → option_map_or (λ why. hits 0 n (place_of kind why)) why 0 ≡ cond (is_some why) 1 0
     hit kind None = refl
     hit kind (Some why) = hits_once 0 n (place_of kind why) (omega arith) (let low = few kind why in omega (arith, low))
@@ -327,7 +327,7 @@ each_once = record {
     zero_plus a = omega arith
 
     at_place : (all : List Fate) (counts : Counts) → IsCounts all counts → (most : ℕ) (i : ℕ) → count_by (is_at i) all ≤ most
-        → most < 2 ^ 64 → (kind : Kind) (why : Why) → place_of kind why ≡ i
+        → most < 2 ^ 64 → (kind : Kind) (why : NoReport) → place_of kind why ≡ i
         → get_or counts.unreported i 0 ≡ count_by (is_at i) all
     at_place all counts so most i few low kind why is =
         ap (λ (place : ℕ). get_or counts.unreported place 0) (sym is) ∙ so.unreported kind why

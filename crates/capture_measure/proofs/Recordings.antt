@@ -19,7 +19,7 @@ use Rattle.capture_model.specs.Recorded.{Recorded}
 use Rattle.capture_measure.specs.declared.recording.Kept.{Kept}
 use Rattle.capture_measure.specs.declared.recording.Met.{Met}
 use Rattle.capture_measure.specs.declared.recording.Recording.{Recording}
-use Rattle.capture_measure.specs.declared.watch.Wanted.{Wanted}
+use Rattle.capture_measure.specs.declared.watch.WantedPorts.{WantedPorts}
 use Rattle.capture_measure.specs.Row.{Row, datagrams, kept_most}
 use Rattle.capture_measure.specs.Interfaces.{InterfaceRow, is_same_interface, rows_at, is_among, with_interface, interfaces_in}
 use Rattle.capture_measure.specs.Interfaces.{interfaces_most}
@@ -63,7 +63,7 @@ port_more (Some port) d ds m old new said was is =
     ∙ or_swap (is_port_met (Some port) ds) (is_same_port m.header.source port)
     ∙ ap (λ b. b || is_port_met (Some port) ds) (sym (tells_said (λ header. is_same_port header.source port) d m said))
 
-pub IsMet-said : (w : Wanted) (d : Recorded) (ds : List Recorded) (m : Contents) (old new : Met) → d.said ≡ Ok m
+pub IsMet-said : (w : WantedPorts) (d : Recorded) (ds : List Recorded) (m : Contents) (old new : Met) → d.said ≡ Ok m
     → IsMet w ds old → new.domain ≡ (old.domain || option_map_or (λ n. m.header.domain == n) w.domain false)
     → new.master ≡ (old.master || option_map_or (is_same_port m.header.source) w.master false)
     → new.slave ≡ (old.slave || option_map_or (is_same_port m.header.source) w.slave false) → IsMet w (d ∷ ds) new
@@ -85,7 +85,7 @@ port_untold None d ds refusal said = refl
 port_untold (Some port) d ds refusal said =
     ap (λ b. b || is_port_met (Some port) ds) (sym (tells_untold (λ header. is_same_port header.source port) d refusal said))
 
-pub IsMet-untold : (w : Wanted) (d : Recorded) (ds : List Recorded) (met : Met) (refusal : DecodeRefusal) → d.said ≡ Err refusal
+pub IsMet-untold : (w : WantedPorts) (d : Recorded) (ds : List Recorded) (met : Met) (refusal : DecodeRefusal) → d.said ≡ Err refusal
     → IsMet w ds met → IsMet w (d ∷ ds) met
 IsMet-untold w d ds met refusal said is = record {
   domain = is.domain ∙ domain_untold w.domain d ds refusal said;
@@ -128,7 +128,7 @@ more_rows : (interface : InterfaceOf) (r : InterfaceRow) (rows : List InterfaceR
 more_rows interface r rows is = ap (λ b. if b then r.row ∷ rows_at interface rows else rows_at interface rows)
     ((same_interface interface r.interface).1 is)
 
-IsRecording-other : (w : Wanted) (rows : List InterfaceRow) (r : InterfaceRow) (x : Recording)
+IsRecording-other : (w : WantedPorts) (rows : List InterfaceRow) (r : InterfaceRow) (x : Recording)
     → is_same_interface (interface_in x) r.interface ≡ false → IsRecording w rows x → IsRecording w (r ∷ rows) x
 IsRecording-other w rows r x other is =
     let same = sym (same_rows (interface_in x) r rows other) in record {
@@ -137,7 +137,7 @@ IsRecording-other w rows r x other is =
       early = subst (λ (rs : List Row). IsCounts (early_at w rs) x.early.counts) same is.early;
     }
 
-pub IsRecording-there : (w : Wanted) (rows : List InterfaceRow) (r : InterfaceRow) (interface : InterfaceOf) (x : Recording)
+pub IsRecording-there : (w : WantedPorts) (rows : List InterfaceRow) (r : InterfaceRow) (interface : InterfaceOf) (x : Recording)
     → interface ≡ r.interface → interface_in x ≡ interface
     → IsNoticed w (r.row.datagram ∷ datagrams (rows_at interface rows)) x
     → (length rows + 1 ≤ kept_most → AreKeptRows [] x.kept.items (r.row ∷ rows_at interface rows))
@@ -169,7 +169,7 @@ map-set [] place x same = refl
 map-set (y ∷ xs) zero x same = ap (λ (i : InterfaceOf). i ∷ map interface_in xs) (same x)
 map-set (y ∷ xs) (suc place) x same = ap (λ (is : List InterfaceOf). interface_in y ∷ is) (map-set xs place x same)
 
-pub taken_there : (w : Wanted) (rows : List InterfaceRow) (r : InterfaceRow) (added : List Recording) (place : ℕ) (x : Recording)
+pub taken_there : (w : WantedPorts) (rows : List InterfaceRow) (r : InterfaceRow) (added : List Recording) (place : ℕ) (x : Recording)
     → map interface_in added ≡ interfaces_in (r ∷ rows) → place < length added
     → ((d : Recording) → interface_in (get_or added place d) ≡ r.interface) → interface_in x ≡ r.interface
     → All (IsRecording w rows) added → IsRecording w (r ∷ rows) x → AreRecordings w (r ∷ rows) (slice_set added place x)
@@ -187,7 +187,7 @@ taken_there w rows r added place x are within there is each new = record {
         (others_differ (interfaces_in (r ∷ rows)) added k place d r.interface are (distinct_in (r ∷ rows)) other inside within (there d))
         (each k d inside))
 
-pub taken_nowhere : (w : Wanted) (rows : List InterfaceRow) (r : InterfaceRow) (added : List Recording)
+pub taken_nowhere : (w : WantedPorts) (rows : List InterfaceRow) (r : InterfaceRow) (added : List Recording)
     → map interface_in added ≡ interfaces_in (r ∷ rows) → is_among r.interface (map interface_in added) ≡ false
     → All (IsRecording w rows) added → AreRecordings w (r ∷ rows) added
 taken_nowhere w rows r added are none each = record {
@@ -200,7 +200,7 @@ taken_nowhere w rows r added are none each = record {
 }
 
 -- ---- an interface that was found or added
-fresh_recording : (w : Wanted) (rows : List InterfaceRow) (interface : InterfaceOf) (x : Recording) → IsFresh w interface x
+fresh_recording : (w : WantedPorts) (rows : List InterfaceRow) (interface : InterfaceOf) (x : Recording) → IsFresh w interface x
     → rows_at interface rows ≡ [] → IsRecording w rows x
 fresh_recording w rows interface x fresh none =
     let nothing : [] ≡ rows_at (interface_in x) rows = sym (ap (λ (i : InterfaceOf). rows_at i rows) fresh.is_at ∙ none) in record {
@@ -209,7 +209,7 @@ fresh_recording w rows interface x fresh none =
       early = subst (λ (rs : List Row). IsCounts (early_at w rs) x.early.counts) nothing fresh.early;
     }
 
-pub each_added : (w : Wanted) (rows : List InterfaceRow) (interface : InterfaceOf) (found : Option ℕ) (old new : List Recording)
+pub each_added : (w : WantedPorts) (rows : List InterfaceRow) (interface : InterfaceOf) (found : Option ℕ) (old new : List Recording)
     → AreRecordings w rows old → HasAdded w interface found old new → All (IsRecording w rows) new
 each_added w rows interface found old new are added = go added.recordings
   where
@@ -222,13 +222,13 @@ each_added w rows interface found old new are added = go added.recordings
         subst (All (IsRecording w rows)) (sym more)
         (All-push (IsRecording w rows) old fresh are.each (fresh_recording w rows interface fresh is nothing))
 
-pub interfaces_added : (w : Wanted) (rows : List InterfaceRow) (r : InterfaceRow) (found : Option ℕ) (old new : List Recording)
+pub interfaces_added : (w : WantedPorts) (rows : List InterfaceRow) (r : InterfaceRow) (found : Option ℕ) (old new : List Recording)
     → AreRecordings w rows old → HasAdded w r.interface found old new → map interface_in new ≡ interfaces_in (r ∷ rows)
 interfaces_added w rows r found old new are added =
     added.interfaces ∙ ap (with_interface r.interface) are.interfaces
 
 -- an interface that wasn't there was added
-pub added_one : (w : Wanted) (interface : InterfaceOf) (old new : List Recording) (x : Recording) → IsFresh w interface x
+pub added_one : (w : WantedPorts) (interface : InterfaceOf) (old new : List Recording) (x : Recording) → IsFresh w interface x
     → new ≡ old ++ x ∷ [] → (place : ℕ) → place ≡ length old → is_among interface (map interface_in old) ≡ false
     → length old < interfaces_most → HasAdded w interface (Some place) old new
 added_one w interface old new x fresh more place at none room = subst (λ (n : ℕ). HasAdded w interface (Some n) old new) (sym at) (
@@ -248,7 +248,7 @@ added_one w interface old new x fresh more place at none room = subst (λ (n : �
     })
 
 -- a datagram at an interface that was found or added, whose recording took it
-pub added_taken : (w : Wanted) (rows : List InterfaceRow) (r : InterfaceRow) (place : ℕ) (old added : List Recording) (was x : Recording)
+pub added_taken : (w : WantedPorts) (rows : List InterfaceRow) (r : InterfaceRow) (place : ℕ) (old added : List Recording) (was x : Recording)
     → AreRecordings w rows old → HasAdded w r.interface (Some place) old added → was ≡ get_or added place was
     → interface_in x ≡ interface_in was → ((ds : List Recorded) → IsNoticed w ds was → IsNoticed w (r.row.datagram ∷ ds) x)
     → (length rows + 1 ≤ kept_most → (rs : List Row) → AreKeptRows [] was.kept.items rs → AreKeptRows [] x.kept.items (r.row ∷ rs))
@@ -275,7 +275,7 @@ added_taken w rows r place old added was x are has at is noticed kept early =
     )
 
 -- a datagram at an interface that isn't looked at
-pub added_nowhere : (w : Wanted) (rows : List InterfaceRow) (r : InterfaceRow) (found : Option ℕ) (old added : List Recording)
+pub added_nowhere : (w : WantedPorts) (rows : List InterfaceRow) (r : InterfaceRow) (found : Option ℕ) (old added : List Recording)
     → AreRecordings w rows old → HasAdded w r.interface found old added → ((place : ℕ) → found ≡ Some place → ⊥)
     → AreRecordings w (r ∷ rows) added × IsFoundAt r.interface (interfaces_in (r ∷ rows)) found added
 added_nowhere w rows r (Some place) old added are has other = absurd (other place refl)

@@ -12,7 +12,7 @@ use Rattle.capture_lines.specs.Timed.{parts_of}
 use Rattle.capture_lines.specs.declared.timed.Timed.{Timed}
 use Rattle.capture_model.specs.declared.watched.Watched.{Watched}
 use Rattle.capture_measure.specs.Made.{Measured}
-use Rattle.capture_measure.specs.declared.watch.Wanted.{Wanted}
+use Rattle.capture_measure.specs.declared.watch.WantedPorts.{WantedPorts}
 use Rattle.capture_measure.specs.Watch.{watched_in}
 use Rattle.capture_measure.specs.Row.{Row, datagrams, is_known, heard, kept_most, IsRow}
 use Rattle.capture_measure.specs.Measured.{measured_at, measurements, measured_in}
@@ -53,7 +53,7 @@ measured_ahead watched earlier rows (line ∷ lines) are =
     let those : List Measured = option_to_list (measured_at watched earlier are.0) in
     (rest ++ those, same ∙ sym (append_assoc rest those (measurements watched earlier)))
 
-module _ (w : Wanted) (rows : List Row) (row : Row) (watched : Watched) where
+module _ (w : WantedPorts) (rows : List Row) (row : Row) (watched : Watched) where
   -- where it was known whom to watch, one line more is heard
   pub heard-known : watched_in w (datagrams rows) ≡ Some watched → heard w (row ∷ rows) ≡ row ∷ heard w rows
   heard-known known = ap (λ (b : Bool). if b then row ∷ heard w rows
@@ -91,19 +91,19 @@ module _ (w : Wanted) (rows : List Row) (row : Row) (watched : Watched) where
       → measured_in w rows ≡ measurements watched (heard w rows)
   measured-known known = ap (λ o. option_map_or (λ watched. measurements watched (heard w rows)) o []) known
 
-unknown_by : (w : Wanted) (rows : List Row) (row : Row) (known : Option Watched) → watched_in w (datagrams rows) ≡ known
+unknown_by : (w : WantedPorts) (rows : List Row) (row : Row) (known : Option Watched) → watched_in w (datagrams rows) ≡ known
     → watched_in w (datagrams (row ∷ rows)) ≡ None → watched_in w (datagrams rows) ≡ None
 unknown_by w rows row None is unknown = is
 unknown_by w rows row (Some watched) is unknown =
     absurd (true≢false (ap is_some (sym (watched-stays w row.datagram (datagrams rows) watched is) ∙ unknown)))
 
 -- what isn't known by one line more wasn't before
-pub unknown_before : (w : Wanted) (rows : List Row) (row : Row) → watched_in w (datagrams (row ∷ rows)) ≡ None
+pub unknown_before : (w : WantedPorts) (rows : List Row) (row : Row) → watched_in w (datagrams (row ∷ rows)) ≡ None
     → watched_in w (datagrams rows) ≡ None
 unknown_before w rows row unknown = unknown_by w rows row (watched_in w (datagrams rows)) refl unknown
 
 -- no line is heard before that
-heard-none : (w : Wanted) (rows : List Row) (row : Row) → watched_in w (datagrams rows) ≡ None
+heard-none : (w : WantedPorts) (rows : List Row) (row : Row) → watched_in w (datagrams rows) ≡ None
     → watched_in w (datagrams (row ∷ rows)) ≡ None → heard w (row ∷ rows) ≡ []
 heard-none w rows row before unknown =
     ap (λ (b : Bool). if b then row ∷ heard w rows
@@ -114,15 +114,15 @@ heard-none w rows row before unknown =
     else if nat_le (length (row ∷ rows)) kept_most then row ∷ rows
     else row ∷ []) (ap is_some unknown)
 
-pub heard-unknown : (w : Wanted) (rows : List Row) → watched_in w (datagrams rows) ≡ None → heard w rows ≡ []
+pub heard-unknown : (w : WantedPorts) (rows : List Row) → watched_in w (datagrams rows) ≡ None → heard w rows ≡ []
 heard-unknown w [] unknown = refl
 heard-unknown w (row ∷ rows) unknown = heard-none w rows row (unknown_before w rows row unknown) unknown
 
-pub measured-unknown : (w : Wanted) (rows : List Row) → watched_in w (datagrams rows) ≡ None → measured_in w rows ≡ []
+pub measured-unknown : (w : WantedPorts) (rows : List Row) → watched_in w (datagrams rows) ≡ None → measured_in w rows ≡ []
 measured-unknown w rows unknown = ap (λ o. option_map_or (λ watched. measurements watched (heard w rows)) o []) unknown
 
 -- what one more line adds where it was known whom to watch
-pub measured-more : (w : Wanted) (rows : List Row) (row : Row) (watched : Watched)
+pub measured-more : (w : WantedPorts) (rows : List Row) (row : Row) (watched : Watched)
     → watched_in w (datagrams rows) ≡ Some watched
     → measured_in w (row ∷ rows) ≡ option_to_list (measured_at watched (heard w rows) row) ++ measured_in w rows
 measured-more w rows row watched known =
@@ -132,7 +132,7 @@ measured-more w rows row watched known =
     (sym (measured-known w rows row watched known))
 
 -- what was measured stays
-grows_by : (w : Wanted) (rows : List Row) (row : Row) (known : Option Watched) → watched_in w (datagrams rows) ≡ known
+grows_by : (w : WantedPorts) (rows : List Row) (row : Row) (known : Option Watched) → watched_in w (datagrams rows) ≡ known
     → (more : List Measured) × (measured_in w (row ∷ rows) ≡ more ++ measured_in w rows)
 grows_by w rows row None unknown =
     let all : List Measured = measured_in w (row ∷ rows) in
@@ -140,7 +140,7 @@ grows_by w rows row None unknown =
 grows_by w rows row (Some watched) known =
     (option_to_list (measured_at watched (heard w rows) row), measured-more w rows row watched known)
 
-pub grows : (w : Wanted) (rows : List Row) (row : Row)
+pub grows : (w : WantedPorts) (rows : List Row) (row : Row)
     → (more : List Measured) × (measured_in w (row ∷ rows) ≡ more ++ measured_in w rows)
 grows w rows row = grows_by w rows row (watched_in w (datagrams rows)) refl
 

@@ -20,11 +20,11 @@ use Rattle.capture_measure.specs.declared.input.Summary.{Summary}
 use Rattle.capture_measure.specs.declared.measuring.Form.{Form}
 use Rattle.capture_measure.specs.declared.measuring.Measuring.{Measuring}
 use Rattle.capture_measure.specs.declared.packets.CaptureMeasuring.{CaptureMeasuring}
-use Rattle.capture_measure.specs.declared.packets.Stage.{Stage}
-use Rattle.capture_measure.specs.declared.packets.Stage.TheVariants.{Looking, Hearing}
+use Rattle.capture_measure.specs.declared.packets.PacketStage.{PacketStage}
+use Rattle.capture_measure.specs.declared.packets.PacketStage.TheVariants.{Looking, Hearing}
 use Rattle.capture_measure.specs.declared.recording.Recording as recordings
 use Rattle.capture_measure.specs.declared.tally.Counts.{Counts}
-use Rattle.capture_measure.specs.declared.watch.Wanted.{Wanted}
+use Rattle.capture_measure.specs.declared.watch.WantedPorts.{WantedPorts}
 use Rattle.capture_measure.specs.Row.{datagrams}
 use Rattle.capture_measure.specs.Interfaces.{InterfaceRow, rows_at}
 use Rattle.capture_measure.specs.Chosen.{chosen, watched_at}
@@ -41,12 +41,12 @@ use Rattle.capture_measure.proofs.ExactCapture as exact_capture
 
 -- ---- lines
 -- of a task that has in it what measures
-module _ {T : Type 0} (of : T → Measuring) (form : Form) (w : Wanted) (octets : List ℕ) (task : T) (summary : Summary)
+module _ {T : Type 0} (of : T → Measuring) (form : Form) (w : WantedPorts) (octets : List ℕ) (task : T) (summary : Summary)
     (is : (r : Recording) → IsMeasuring (of task) r → IsLinesSummary r.wanted summary r.rows)
   where
     told : (those : List (List ℕ)) (read : Recording) (text : List ℕ) → lines.TakesLines measure_rules 1 those (begun form w) read text
         → IsMeasuring (of task) read → IsLinesSummary w summary read.rows
-    told those read text taken at = subst (λ (v : Wanted). IsLinesSummary v summary read.rows)
+    told those read text taken at = subst (λ (v : WantedPorts). IsLinesSummary v summary read.rows)
         (exact.read_on 1 those (begun form w) read text taken).wanted (is read at)
 
     lines_until : (earlier line : ℕ) (what : Cause LineFault) (state : Recording) (text : List ℕ) → line ≡ earlier + 1
@@ -77,13 +77,13 @@ module _ {T : Type 0} (of : T → Measuring) (form : Form) (w : Wanted) (octets 
 
 -- ---- packets
 -- the same
-module _ {T : Type 0} (of : T → CaptureMeasuring) (is_left : T → T → LineFault → Type 0) (form : Form) (w : Wanted) (octets : List ℕ)
+module _ {T : Type 0} (of : T → CaptureMeasuring) (is_left : T → T → LineFault → Type 0) (form : Form) (w : WantedPorts) (octets : List ℕ)
     (task : T) (summary : Summary) (is : (c : Capture) → IsCapturing (of task) c → IsCaptureSummary c.wanted summary c.rows)
   where
     captured : (parts : List Part) (rest : List ℕ) (read : Capture) (text : List ℕ)
         → packets.HasTaken capture_rules (capture_begun form w) octets parts rest read text
         → IsCapturing (of task) read → IsCaptureSummary w summary read.rows
-    captured parts rest read text has at = subst (λ (v : Wanted). IsCaptureSummary v summary read.rows)
+    captured parts rest read text has at = subst (λ (v : WantedPorts). IsCaptureSummary v summary read.rows)
         (exact_capture.read_on form w (packets_of parts) read text has.taken).wanted (is read at)
 
     packets_until : (count : ℕ) (what : CaptureCause LineFault) (parts : List Part) (rest : List ℕ) (state : Capture) (text : List ℕ)
@@ -121,18 +121,18 @@ at_place (suc place) [] interface within is = absurd (omega (arith, within))
 at_place zero (one ∷ others) interface within is = sym (is one)
 at_place (suc place) (one ∷ others) interface within is = at_place place others interface (omega (arith, within)) is
 
-pub interface_chosen : (w : Wanted) (rows : List InterfaceRow) (known : List recordings.Recording) (stage : Stage)
+pub interface_chosen : (w : WantedPorts) (rows : List InterfaceRow) (known : List recordings.Recording) (stage : PacketStage)
     → IsCaptureStage w rows known stage → interface_at stage known ≡ chosen w rows
 interface_chosen w rows known (Looking count) (none, are, few) = sym none
 interface_chosen w rows known (Hearing place listener) (watched, within, is, of, listens) = at_place place known (chosen w rows) within is
 
-counted : (w : Wanted) (rows : List InterfaceRow) (interface : Option InterfaceOf) (watched : Watched) (counts : Counts)
+counted : (w : WantedPorts) (rows : List InterfaceRow) (interface : Option InterfaceOf) (watched : Watched) (counts : Counts)
     → option_and_then (λ i. watched_at w (datagrams (rows_at i rows))) interface ≡ Some watched
     → CountsSoFar w interface rows counts → AreCaptured w interface rows (Some counts)
 counted w rows None watched counts known so_far = absurd cc
 counted w rows (Some interface) watched counts known so_far = so_far
 
-pub counts_captured : (w : Wanted) (rows : List InterfaceRow) (known : List recordings.Recording) (stage : Stage) (counts : Counts)
+pub counts_captured : (w : WantedPorts) (rows : List InterfaceRow) (known : List recordings.Recording) (stage : PacketStage) (counts : Counts)
     → IsCaptureStage w rows known stage → CountsSoFar w (chosen w rows) rows counts
     → AreCaptured w (chosen w rows) rows (counts_at stage counts)
 counts_captured w rows known (Looking count) counts (none, are, few) so_far =

@@ -13,9 +13,9 @@ use Rattle.capture_measure.specs.declared.measuring.Form.{Form}
 use Rattle.capture_measure.specs.declared.measuring.Measuring.{Measuring}
 use Rattle.text_lines.specs.declared.line_fault.LineFault.{LineFault}
 use Rattle.text_lines.specs.declared.line_fault.LineFault.TheVariants.{Write, Field, Memory}
-use Rattle.capture_measure.specs.declared.measuring.Stage.{Stage}
-use Rattle.capture_measure.specs.declared.measuring.Stage.TheVariants.{Kept, Passed, Hearing}
-use Rattle.capture_measure.specs.declared.watch.Wanted.{Wanted}
+use Rattle.capture_measure.specs.declared.measuring.LineStage.{LineStage}
+use Rattle.capture_measure.specs.declared.measuring.LineStage.TheVariants.{Kept, Passed, Hearing}
+use Rattle.capture_measure.specs.declared.watch.WantedPorts.{WantedPorts}
 use Rattle.capture_measure.specs.Watch.{watched_in}
 use Rattle.capture_measure.specs.Row.{Row, datagrams, heard}
 use Rattle.capture_measure.specs.Measured.{measurements, measured_in}
@@ -51,25 +51,25 @@ nothing_fails (Ok x) o is = refl
 nothing_fails (Err fault) o is = subst (λ (f : LineFault). HasFailedIf (is_write f) o o) (sym is) refl
 
 -- no line that is kept is too long
-pub are_within : (w : Wanted) (rows : List Row) (stage : Stage) → IsStage w rows stage → AreWithin stage
+pub are_within : (w : WantedPorts) (rows : List Row) (stage : LineStage) → IsStage w rows stage → AreWithin stage
 are_within w rows (Kept kept) is = is.2
 are_within w rows Passed is = tt
 are_within w rows (Hearing listener) is = tt
 
 -- it isn't unknown whom to watch once it is known
-pub not_unknown : {P : Type 0} (w : Wanted) (rows : List Row) (watched : Watched)
+pub not_unknown : {P : Type 0} (w : WantedPorts) (rows : List Row) (watched : Watched)
     → watched_in w (datagrams rows) ≡ Some watched → watched_in w (datagrams rows) ≡ None → P
 not_unknown w rows watched known unknown = absurd (true≢false (ap is_some (sym known ∙ unknown)))
 
 -- while no port hears it isn't known whom to watch
-pub not_known : (w : Wanted) (rows : List Row) (stage : Stage) → IsStage w rows stage
+pub not_known : (w : WantedPorts) (rows : List Row) (stage : LineStage) → IsStage w rows stage
     → ((listener : Listener) → stage ≢ Hearing listener) → watched_in w (datagrams rows) ≡ None
 not_known w rows (Kept kept) is other = is.0
 not_known w rows Passed is other = is.0
 not_known w rows (Hearing listener) is other = absurd (other listener refl)
 
 -- the lines that are heard before the one by which it is known whom to watch
-pub heard_before : (w : Wanted) (rows : List Row) (row : Row) (watched : Watched) (stage : Stage) → IsStage w rows stage
+pub heard_before : (w : WantedPorts) (rows : List Row) (row : Row) (watched : Watched) (stage : LineStage) → IsStage w rows stage
     → ((listener : Listener) → stage ≢ Hearing listener) → watched_in w (datagrams (row ∷ rows)) ≡ Some watched
     → (earlier : List Row) × AreKept stage earlier × (heard w (row ∷ rows) ≡ row ∷ earlier)
     × (watched_in w (datagrams rows) ≡ None)
@@ -81,7 +81,7 @@ heard_before w rows row watched Passed is other known =
 heard_before w rows row watched (Hearing listener) is other known = absurd (other listener refl)
 
 -- what is measured by the line by which it is known whom to watch
-pub measured-first : (w : Wanted) (rows : List Row) (row : Row) (watched : Watched) (earlier : List Row)
+pub measured-first : (w : WantedPorts) (rows : List Row) (row : Row) (watched : Watched) (earlier : List Row)
     → watched_in w (datagrams (row ∷ rows)) ≡ Some watched → heard w (row ∷ rows) ≡ row ∷ earlier
     → watched_in w (datagrams rows) ≡ None
     → measured_in w (row ∷ rows) ≡ measurements watched (row ∷ earlier) ++ measured_in w rows
@@ -91,7 +91,7 @@ measured-first w rows row watched earlier known first unknown =
     ∙ ap (λ (ms : List Measured). those ++ ms) (sym (measured-unknown w rows unknown))
 
 -- a port heard these lines
-pub stage_heard : (w : Wanted) (rows : List Row) (watched : Watched) (those : List Row) (stage : Stage)
+pub stage_heard : (w : WantedPorts) (rows : List Row) (watched : Watched) (those : List Row) (stage : LineStage)
     → watched_in w (datagrams rows) ≡ Some watched → heard w rows ≡ those → IsHearing watched those stage
     → IsStage w rows stage
 stage_heard w rows watched those (Kept kept) known same is = absurd is
@@ -100,7 +100,7 @@ stage_heard w rows watched those (Hearing listener) known same is =
     (watched, known, subst (λ (r : List Row). IsHearing watched r (Hearing listener)) (sym same) is)
 
 -- while it isn't known whom to watch nothing is measured
-pub measured-still : (w : Wanted) (rows : List Row) (row : Row)
+pub measured-still : (w : WantedPorts) (rows : List Row) (row : Row)
     → watched_in w (datagrams (row ∷ rows)) ≡ None → measured_in w (row ∷ rows) ≡ measured_in w rows
 measured-still w rows row unknown =
     measured-unknown w (row ∷ rows) unknown

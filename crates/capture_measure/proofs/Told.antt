@@ -11,7 +11,7 @@ use Rattle.event_codec.specs.Packet.{Contents}
 use Rattle.capture_model.specs.declared.watched.Watched.{Watched}
 use Rattle.capture_model.specs.Recorded.{Recorded}
 use Rattle.capture_model.specs.Told.{is_sync, where_is}
-use Rattle.capture_measure.specs.declared.watch.Wanted.{Wanted}
+use Rattle.capture_measure.specs.declared.watch.WantedPorts.{WantedPorts}
 use Rattle.capture_measure.specs.Watch.{is_request, header_in, first_told, source_in, source_told, domain_from}
 use Rattle.capture_measure.specs.Watch.{domain_told, domain_in, port_in, watched_by, watched_in}
 
@@ -80,7 +80,7 @@ first_source d ds (Some known) none =
     ap (λ o. option_or o (source_told is_sync known d)) (sym (no_syncs known ds none))
 
 module _ (d : Recorded) (ds : List Recorded) where
-  pub domain_with : (w : Wanted) → domain_in w (d ∷ ds) ≡ option_or (domain_in w ds) (domain_told w.master d)
+  pub domain_with : (w : WantedPorts) → domain_in w (d ∷ ds) ≡ option_or (domain_in w ds) (domain_told w.master d)
   domain_with w = sym (or-assoc w.domain (first_told (domain_told w.master) ds) (domain_told w.master d))
 
   pub domain_after : (master : Option PortIdentity) (domain : Option ℕ)
@@ -117,7 +117,7 @@ module _ (d : Recorded) (ds : List Recorded) where
       ap (option_or asked)
       (sym (or-none first) ∙ ap (λ m. option_or first (option_and_then (source_in known) m)) (sym none))
 
-  pub domain_untold : (w : Wanted) → header_in is_sync d ≡ None → domain_in w ds ≡ domain_in w (d ∷ ds)
+  pub domain_untold : (w : WantedPorts) → header_in is_sync d ≡ None → domain_in w ds ≡ domain_in w (d ∷ ds)
   domain_untold w none =
       let first = first_told (domain_told w.master) ds in
       ap (option_or w.domain)
@@ -138,7 +138,7 @@ stays None more slave later master other watched known = absurd (cc)
 stays (Some domain) more None later master other watched known = absurd (cc)
 stays (Some domain) more (Some slave) later None other watched known = absurd (cc)
 
-watched_after : (w : Wanted) (d : Recorded) (ds : List Recorded) (watched : Watched) (domain : Option ℕ)
+watched_after : (w : WantedPorts) (d : Recorded) (ds : List Recorded) (watched : Watched) (domain : Option ℕ)
     → watched_by domain (port_in is_request w.slave domain ds) (port_in is_sync w.master domain ds) ≡ Some watched
     → (more : Option ℕ)
     → watched_by (option_or domain more) (port_in is_request w.slave (option_or domain more) (d ∷ ds))
@@ -151,7 +151,7 @@ watched_after w d ds watched (Some domain) known more =
     (port_in is_sync w.master (Some domain) ds) (source_told is_sync domain d) watched known
 
 -- whom a recording is of doesn't change once it is known
-pub watched-stays : (w : Wanted) (d : Recorded) (ds : List Recorded) (watched : Watched)
+pub watched-stays : (w : WantedPorts) (d : Recorded) (ds : List Recorded) (watched : Watched)
     → watched_in w ds ≡ Some watched → watched_in w (d ∷ ds) ≡ Some watched
 watched-stays w d ds watched known =
     ap (λ domain. watched_by domain

@@ -16,7 +16,7 @@ use Rattle.capture_model.specs.declared.watched.Watched.{Watched}
 use Rattle.capture_model.specs.Recorded.{Recorded}
 use Rattle.capture_model.specs.Told.{is_sync}
 use Rattle.capture_measure.specs.declared.watch.Known.{Known}
-use Rattle.capture_measure.specs.declared.watch.Wanted.{Wanted}
+use Rattle.capture_measure.specs.declared.watch.WantedPorts.{WantedPorts}
 use Rattle.capture_measure.specs.declared.watch.Watch.{Watch}
 use Rattle.capture_measure.specs.Watch.{is_request, header_in, first_told, source_in, source_told, domain_from}
 use Rattle.capture_measure.specs.Watch.{domain_told, domain_in, port_in, watched_by, watched_in}
@@ -45,7 +45,7 @@ value_first tells (d ∷ earlier) =
     value_of-or (first_told (told_at tells) earlier) (told_at tells d)
     ∙ (λ i. option_or (value_first tells earlier i) (value_at d.line (tells d) i))
 
-value_domain : (w : Wanted) (ds : List Recorded) → value_of (known_domain w ds) ≡ domain_in w ds
+value_domain : (w : WantedPorts) (ds : List Recorded) → value_of (known_domain w ds) ≡ domain_in w ds
 value_domain w ds =
     value_of-or (asked_for w.domain) (first_told (told_at (domain_told w.master)) ds)
     ∙ (λ i. option_or (value_asked w.domain i) (value_first (domain_told w.master) ds i))
@@ -67,7 +67,7 @@ no_value None none = refl
 no_value (Some known) none = absurd cc
 
 -- a watch that knows the lines knows what they told
-pub IsWatch-knows : (w : Wanted) (ds : List Recorded) (watch : Watch) → KnowsWhom w ds watch → IsWatch w ds watch
+pub IsWatch-knows : (w : WantedPorts) (ds : List Recorded) (watch : Watch) → KnowsWhom w ds watch → IsWatch w ds watch
 IsWatch-knows w ds watch knows = record {
   domain = ap value_of knows.domain ∙ value_domain w ds;
   master = ap value_of knows.master ∙ value_port is_sync w.master (domain_in w ds) ds;
@@ -77,7 +77,7 @@ IsWatch-knows w ds watch knows = record {
   whom = knows;
 }
 
-pub whom_known : (w : Wanted) (ds : List Recorded) (watch : Watch) → IsWatch w ds watch → whom_of watch ≡ whom_in w ds
+pub whom_known : (w : WantedPorts) (ds : List Recorded) (watch : Watch) → IsWatch w ds watch → whom_of watch ≡ whom_in w ds
 whom_known w ds watch is =
     λ i. record { domain = is.whom.domain i; master = is.whom.master i; slave = is.whom.slave i }
 
@@ -111,7 +111,7 @@ first_source d ds (Some known) none =
     ap (λ o. option_or o (told_at (source_told is_sync known) d)) (sym (no_source known ds none))
 
 module _ (d : Recorded) (ds : List Recorded) where
-  known_domain_with : (w : Wanted)
+  known_domain_with : (w : WantedPorts)
       → known_domain w (d ∷ ds) ≡ option_or (known_domain w ds) (told_at (domain_told w.master) d)
   known_domain_with w =
       sym (or-assoc (asked_for w.domain) (first_told (told_at (domain_told w.master)) ds) (told_at (domain_told w.master) d))
@@ -151,14 +151,14 @@ module _ (d : Recorded) (ds : List Recorded) where
       ap (option_or (asked_for asked))
       (sym (or-none first) ∙ ap (λ m. option_or first (known_at d.line (option_and_then (source_in known) m))) (sym none))
 
-  domain_untold : (w : Wanted) → header_in is_sync d ≡ None → known_domain w ds ≡ known_domain w (d ∷ ds)
+  domain_untold : (w : WantedPorts) → header_in is_sync d ≡ None → known_domain w ds ≡ known_domain w (d ∷ ds)
   domain_untold w none =
       let first : Option (Known ℕ) = first_told (told_at (domain_told w.master)) ds in
       ap (option_or (asked_for w.domain))
       (sym (or-none first) ∙ ap (λ m. option_or first (known_at d.line (option_and_then (domain_from w.master) m))) (sym none))
 
 -- what a datagram tells was noticed
-pub IsWatch-notices : (w : Wanted) (d : Recorded) (ds : List Recorded) (old new : Watch)
+pub IsWatch-notices : (w : WantedPorts) (d : Recorded) (ds : List Recorded) (old new : Watch)
     → IfSome (value_of new.domain) (λ domain. domain < 256) → IsWatch w ds old → Notices d old new
     → IsWatch w (d ∷ ds) new
 IsWatch-notices w d ds old new small is notices =
@@ -192,7 +192,7 @@ IsWatch-notices w d ds old new small is notices =
     })
 
 -- octets that are no message tell nothing
-pub IsWatch-untold : (w : Wanted) (d : Recorded) (ds : List Recorded) (watch : Watch) (refusal : DecodeRefusal)
+pub IsWatch-untold : (w : WantedPorts) (d : Recorded) (ds : List Recorded) (watch : Watch) (refusal : DecodeRefusal)
     → d.said ≡ Err refusal → IsWatch w ds watch → IsWatch w (d ∷ ds) watch
 IsWatch-untold w d ds watch refusal said is =
     let none : (kind : Body → Bool) → header_in kind d ≡ None = λ kind. no_header kind d refusal said in
@@ -234,7 +234,7 @@ port_still kind asked before now domain port d ds was is known =
     (value_port kind asked (Some domain) ds ∙ ap (λ o. port_in kind asked o ds) (sym was) ∙ known)
     ∙ ap (λ o. known_port kind asked o ds) (sym was)
 
-pub whom_stays : (w : Wanted) (d : Recorded) (ds : List Recorded) (watched : Watched) → watched_in w ds ≡ Some watched
+pub whom_stays : (w : WantedPorts) (d : Recorded) (ds : List Recorded) (watched : Watched) → watched_in w ds ≡ Some watched
     → whom_in w (d ∷ ds) ≡ whom_in w ds
 whom_stays w d ds watched known =
     let (domain, slave, master) = all_known (domain_in w ds) (port_in is_request w.slave (domain_in w ds) ds)

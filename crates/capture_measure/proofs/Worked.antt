@@ -11,14 +11,14 @@ use Rattle.event_codec.specs.Reading.{Reading}
 use Rattle.ptp_units.specs.Nanoseconds.{decimals}
 use Rattle.std.specs.Fmt.{digits}
 use Rattle.capture_measure.specs.declared.measuring.Form.TheVariants.{Table}
-use Rattle.capture_measure.specs.declared.watch.Wanted.{Wanted}
+use Rattle.capture_measure.specs.declared.watch.WantedPorts.{WantedPorts}
 use Rattle.capture_measure.specs.Watch.{watched_in}
 use Rattle.capture_measure.specs.Row.{Row, datagrams, heard}
 use Rattle.capture_measure.specs.Measured.{written}
 use Rattle.capture_measure.specs.Summary.{whom_in}
 use Rattle.capture_measure.specs.Counts.{fates_in}
 use Rattle.capture_measure.specs.declared.tally.Kind.TheVariants as kinds
-use Rattle.capture_measure.specs.declared.tally.Why.TheVariants.{OfSlave, Alone, OtherDomain, NoPart, TooEarly}
+use Rattle.capture_measure.specs.declared.tally.NoReport.TheVariants.{OfSlave, Alone, OtherDomain, NoPart, TooEarly}
 
 -- a port of this number and domain
 abbrev pub port : (number domain : ℕ) → PortConfig
@@ -43,7 +43,7 @@ a_line number time nanoseconds reading = record {
 }
 
 -- nobody is asked for
-abbrev pub anybody : Wanted
+abbrev pub anybody : WantedPorts
 anybody = record { slave = None; master = None; domain = None; interface = None }
 
 -- an Announce, the Delay_Req of a slave in another domain, a Sync of the master, and a Delay_Req of the slave

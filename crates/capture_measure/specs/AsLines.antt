@@ -4,14 +4,14 @@ use Rattle.std.specs.Prelude.{◌≡◌, List, map, None}
 use Rattle.std.specs.List.{All}
 use Rattle.capture_file.specs.Packet.{InterfaceOf}
 use Rattle.capture_measure.specs.declared.measuring.Form.{Form}
-use Rattle.capture_measure.specs.declared.watch.Wanted.{Wanted}
+use Rattle.capture_measure.specs.declared.watch.WantedPorts.{WantedPorts}
 use Rattle.capture_measure.specs.Row.{Row}
 use Rattle.capture_measure.specs.Measured.{written}
 use Rattle.capture_measure.specs.Interfaces.{InterfaceRow}
 use Rattle.capture_measure.specs.Chosen.{capture_written}
 
 -- neither a slave nor a master nor a domain is asked for
-pub record AsksForNothing (w : Wanted) : Type 0 where
+pub record AsksForNothing (w : WantedPorts) : Type 0 where
   pub slave : w.slave ≡ None
   pub master : w.master ≡ None
   pub domain : w.domain ≡ None
@@ -23,5 +23,5 @@ rows_of rows = map (λ r. r.row) rows
 -- what is written of the packets at one interface is what is written of lines with the same times, numbers and datagrams
 abbrev pub OneInterfaceIsMeasuredAsLines : Type 0
 OneInterfaceIsMeasuredAsLines =
-    (form : Form) (w : Wanted) (interface : InterfaceOf) (rows : List InterfaceRow) → AsksForNothing w
+    (form : Form) (w : WantedPorts) (interface : InterfaceOf) (rows : List InterfaceRow) → AsksForNothing w
     → All (λ r. r.interface ≡ interface) rows → capture_written form w rows ≡ written form w (rows_of rows)

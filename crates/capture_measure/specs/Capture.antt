@@ -13,7 +13,7 @@ use Rattle.capture_file.specs.Task.{PacketRules}
 use Rattle.capture_frame.specs.Found.{Datagram, IsFound}
 use Rattle.capture_measure.specs.Made.{Measured}
 use Rattle.capture_measure.specs.declared.measuring.Form.{Form}
-use Rattle.capture_measure.specs.declared.watch.Wanted.{Wanted}
+use Rattle.capture_measure.specs.declared.watch.WantedPorts.{WantedPorts}
 use Rattle.capture_measure.specs.Row.{Row}
 use Rattle.capture_measure.specs.Interfaces.{InterfaceRow}
 use Rattle.capture_measure.specs.Measured.{GoesWhole}
@@ -42,11 +42,11 @@ HasNoRow asked number packet = (r : InterfaceRow) → IsPacketRow asked number p
 -- what is asked for, and the rows that were read, newest first
 pub record Capture : Type 0 where
   pub form : Form
-  pub wanted : Wanted
+  pub wanted : WantedPorts
   pub rows : List InterfaceRow
 
 -- before the first packet
-abbrev pub capture_begun : Form → Wanted → Capture
+abbrev pub capture_begun : Form → WantedPorts → Capture
 capture_begun form w = record { form = form; wanted = w; rows = [] }
 
 -- all that is measured once these packets were read

@@ -12,7 +12,7 @@ use Rattle.capture_model.specs.declared.watched.Watched.{Watched}
 use Rattle.capture_model.specs.Recorded.{Recorded}
 use Rattle.capture_measure.specs.Made.{Measured}
 use Rattle.capture_measure.specs.declared.measuring.Form.{Form}
-use Rattle.capture_measure.specs.declared.watch.Wanted.{Wanted}
+use Rattle.capture_measure.specs.declared.watch.WantedPorts.{WantedPorts}
 use Rattle.capture_measure.specs.Watch.{watched_in}
 use Rattle.capture_measure.specs.Row.{Row, datagrams, kept_most}
 use Rattle.capture_measure.specs.Measured.{texts_as, measurements}
@@ -33,22 +33,22 @@ is_port_met None ds = true
 is_port_met (Some port) ds = list_any (tells (λ header. is_same_port header.source port)) ds
 
 -- all that is asked for was met
-abbrev pub is_met : Wanted → List Recorded → Bool
+abbrev pub is_met : WantedPorts → List Recorded → Bool
 is_met w ds = is_domain_met w.domain ds && (is_port_met w.master ds && is_port_met w.slave ds)
 
 -- whom the datagrams at an interface are of, where all that is asked for was met there
-abbrev pub watched_at : Wanted → List Recorded → Option Watched
+abbrev pub watched_at : WantedPorts → List Recorded → Option Watched
 watched_at w ds = if is_met w ds then watched_in w ds else None
 
 -- the interface of the newest of these rows, where it is looked at and it is known whom its datagrams are of
-abbrev pub chosen_by : Wanted → InterfaceRow → (earlier : List InterfaceRow) → Option InterfaceOf
+abbrev pub chosen_by : WantedPorts → InterfaceRow → (earlier : List InterfaceRow) → Option InterfaceOf
 chosen_by w r earlier =
     if is_among r.interface (interfaces_in (r ∷ earlier))
     && is_some (watched_at w (datagrams (rows_at r.interface (r ∷ earlier))))
     then Some r.interface else None
 
 -- the interface that is measured
-abbrev pub chosen : Wanted → List InterfaceRow → Option InterfaceOf
+abbrev pub chosen : WantedPorts → List InterfaceRow → Option InterfaceOf
 chosen w [] = None
 chosen w (r ∷ earlier) = option_or (chosen w earlier) (chosen_by w r earlier)
 
@@ -63,19 +63,19 @@ heard_with None (Some interface) r earlier heard =
     if nat_le (length (r ∷ earlier)) kept_most then rows_at interface (r ∷ earlier) else r.row ∷ []
 
 -- the rows that are heard
-abbrev pub heard_at : Wanted → List InterfaceRow → List Row
+abbrev pub heard_at : WantedPorts → List InterfaceRow → List Row
 heard_at w [] = []
 heard_at w (r ∷ earlier) = heard_with (chosen w earlier) (chosen w (r ∷ earlier)) r earlier (heard_at w earlier)
 
 -- whom the capture is of
-abbrev pub capture_watched : Wanted → List InterfaceRow → Option Watched
+abbrev pub capture_watched : WantedPorts → List InterfaceRow → Option Watched
 capture_watched w rows =
     option_and_then (λ interface. watched_at w (datagrams (rows_at interface rows))) (chosen w rows)
 
 -- all that is measured once these rows were read
-abbrev pub capture_measured : Wanted → List InterfaceRow → List Measured
+abbrev pub capture_measured : WantedPorts → List InterfaceRow → List Measured
 capture_measured w rows = option_map_or (λ watched. measurements watched (heard_at w rows)) (capture_watched w rows) []
 
 -- all that is written of them
-abbrev pub capture_written : Form → Wanted → List InterfaceRow → List ℕ
+abbrev pub capture_written : Form → WantedPorts → List InterfaceRow → List ℕ
 capture_written form w rows = texts_as form (capture_measured w rows)

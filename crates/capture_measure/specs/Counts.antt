@@ -36,9 +36,9 @@ use Rattle.recording_quality.specs.Quality.{IsQuality}
 use Rattle.capture_measure.specs.declared.tally.Counts.{Counts}
 use Rattle.capture_measure.specs.declared.tally.Kind.{Kind}
 use Rattle.capture_measure.specs.declared.tally.Kind.TheVariants as kinds
-use Rattle.capture_measure.specs.declared.tally.Why.{Why}
-use Rattle.capture_measure.specs.declared.tally.Why.TheVariants as whys
-use Rattle.capture_measure.specs.declared.watch.Wanted.{Wanted}
+use Rattle.capture_measure.specs.declared.tally.NoReport.{NoReport}
+use Rattle.capture_measure.specs.declared.tally.NoReport.TheVariants as whys
+use Rattle.capture_measure.specs.declared.watch.WantedPorts.{WantedPorts}
 use Rattle.capture_measure.specs.Watch.{watched_in}
 use Rattle.capture_measure.specs.Row.{Row, datagrams, heard}
 use Rattle.capture_measure.specs.Measured.{measured_at}
@@ -59,7 +59,7 @@ kind_number kinds.Management = 7
 kind_number kinds.Reserved = 8
 kind_number kinds.Malformed = 9
 
-abbrev pub why_number : Why → ℕ
+abbrev pub why_number : NoReport → ℕ
 why_number whys.Held = 0
 why_number whys.Alone = 1
 why_number whys.OfSlave = 2
@@ -76,7 +76,7 @@ why_number whys.TooEarly = 12
 why_number whys.NoPart = 13
 
 -- where the count of a kind and a reason stands: kind by kind, of each those of its fourteen reasons
-abbrev pub place_of : Kind → Why → ℕ
+abbrev pub place_of : Kind → NoReport → ℕ
 place_of kind why = kind_number kind * 14 + why_number why
 
 -- ---- what a datagram is
@@ -111,12 +111,12 @@ kind_said (Err refusal) = kind_of_refused refusal
 
 -- ---- why a datagram gave no report
 -- one of a kind that isn't one of the four messages
-abbrev pub why_refused : Kind → Why
+abbrev pub why_refused : Kind → NoReport
 why_refused kinds.Pdelay = whys.PeerDelay
 why_refused _ = whys.NoPart
 
 -- a message that the port ignored
-abbrev pub why_ignored : Reason → Why
+abbrev pub why_ignored : Reason → NoReport
 why_ignored reasons.OtherDomain = whys.OtherDomain
 why_ignored reasons.OtherMaster = whys.OtherMaster
 why_ignored reasons.NoMaster = whys.OtherMaster
@@ -129,7 +129,7 @@ why_ignored (reasons.Decode refusal) = whys.NoPart
 why_ignored reasons.WrongType = whys.NoPart
 
 -- a message to which the port answered so; none where it gave a report
-abbrev pub why_answered : Heard → Option Why
+abbrev pub why_answered : Heard → Option NoReport
 why_answered (answers.Report report) = None
 why_answered answers.Held = Some whys.Held
 why_answered answers.Completed = Some whys.Alone
@@ -144,29 +144,29 @@ abbrev pub is_last : Watched → Listening → (number : ℕ) → Bool
 is_last w l number = ahead number (next_number (setup_in w l) l.calls) == 65535
 
 -- a Delay_Req of the slave
-abbrev pub why_own : Watched → Listening → (number : ℕ) → Why
+abbrev pub why_own : Watched → Listening → (number : ℕ) → NoReport
 why_own w l number =
     if is_next w l number then whys.OfSlave else if is_last w l number then whys.Again else whys.OfSlave
 
 -- any Delay_Req
-abbrev pub why_request : Watched → Header → Listening → Why
+abbrev pub why_request : Watched → Header → Listening → NoReport
 why_request w header l =
     if is_of w w.slave header then why_own w l header.sequence.0
     else if header.domain == w.domain then whys.OtherSlave
     else whys.OtherDomain
 
 -- a message, of which none came before where the port hears it
-abbrev pub why_heard : Watched → (line time : ℕ) → Contents → Body → Listening → Option Why
+abbrev pub why_heard : Watched → (line time : ℕ) → Contents → Body → Listening → Option NoReport
 why_heard w line time m (bodies.DelayReq origin) l = Some (why_request w m.header l)
 why_heard w line time m body l = option_map_or why_answered (answered w line time m body l) (Some whys.Before)
 
 -- any datagram, by what its octets say
-abbrev pub why_said : Watched → (line time : ℕ) → Reading → Listening → Option Why
+abbrev pub why_said : Watched → (line time : ℕ) → Reading → Listening → Option NoReport
 why_said w line time (Ok m) l = why_heard w line time m m.body l
 why_said w line time (Err refusal) l = Some (why_refused (kind_of_refused refusal))
 
 -- one that isn't heard, since it came before it was known whom to watch
-abbrev pub why_early : Reading → Why
+abbrev pub why_early : Reading → NoReport
 why_early (Ok m) = whys.TooEarly
 why_early (Err refusal) = why_refused (kind_of_refused refusal)
 
@@ -209,7 +209,7 @@ master_begins w line time m body l = false
 pub record Fate : Type 0 where
   pub datagram : Recorded
   pub kind : Kind
-  pub why : Option Why
+  pub why : Option NoReport
   pub measured : Option Measured
   pub slave_anew : Bool
   pub master_anew : Bool
@@ -260,7 +260,7 @@ abbrev pub early_fates : List Row → List Fate
 early_fates rows = map (λ row. early_fate row.datagram) rows
 
 -- what comes of all lines: of those that are heard, and of the others, which came before them
-abbrev pub fates_in : Wanted → List Row → List Fate
+abbrev pub fates_in : WantedPorts → List Row → List Fate
 fates_in w rows = option_map_or (λ watched. fates watched (heard w rows)) (watched_in w (datagrams rows)) []
     ++ early_fates (drop (length (heard w rows)) rows)
 
@@ -269,12 +269,12 @@ abbrev pub early_with : (known : Option Watched) → Recorded → List Fate → 
 early_with None d all = early_fate d ∷ all
 early_with (Some watched) d all = all
 
-abbrev pub early_at : Wanted → List Row → List Fate
+abbrev pub early_at : WantedPorts → List Row → List Fate
 early_at w [] = []
 early_at w (row ∷ earlier) = early_with (watched_at w (datagrams (row ∷ earlier))) row.datagram (early_at w earlier)
 
 -- what comes of the rows of a capture at the interface that is measured: of those that are heard, and of those before them
-abbrev pub capture_fates : Wanted → InterfaceOf → List InterfaceRow → List Fate
+abbrev pub capture_fates : WantedPorts → InterfaceOf → List InterfaceRow → List Fate
 capture_fates w interface rows = option_map_or (λ watched. fates watched (heard_at w rows)) (capture_watched w rows) []
     ++ early_at w (drop (length (heard_at w rows)) (rows_at interface rows))
 
@@ -290,7 +290,7 @@ noted_of fate = record {
 
 -- ---- who else is there
 -- what it tells of whom it is, if it tells that
-abbrev pub meeting_said : (line time : ℕ) → Option Why → Reading → Option Meeting
+abbrev pub meeting_said : (line time : ℕ) → Option NoReport → Reading → Option Meeting
 meeting_said line time why (Ok m) = meeting_at line time m.body m.header why
 meeting_said line time why (Err refusal) = None
 
@@ -304,11 +304,11 @@ abbrev pub at_most : ℕ → ℕ
 at_most count = min count (2 ^ 64 - 1)
 
 -- the count of a kind and a reason
-abbrev pub count_at : Counts → Kind → Why → ℕ
+abbrev pub count_at : Counts → Kind → NoReport → ℕ
 count_at counts kind why = slice_index counts.unreported (place_of kind why)
 
 -- a datagram of this kind gave no report for this reason
-abbrev pub is_so : Kind → Why → Fate → Bool
+abbrev pub is_so : Kind → NoReport → Fate → Bool
 is_so kind why fate = option_map_or (λ own. place_of fate.kind own == place_of kind why) fate.why false
 
 -- how many of these there are of each, what they are worth, and who else is there by them
@@ -316,7 +316,7 @@ pub record IsCounts (all : List Fate) (counts : Counts) : Type 0 where
   pub reports : counts.reports ≡ at_most (count_by (λ fate. is_some fate.measured) all)
   pub slave_anew : counts.slave_anew ≡ at_most (count_by (λ fate. fate.slave_anew) all)
   pub master_anew : counts.master_anew ≡ at_most (count_by (λ fate. fate.master_anew) all)
-  pub unreported : (kind : Kind) (why : Why) → count_at counts kind why ≡ at_most (count_by (is_so kind why) all)
+  pub unreported : (kind : Kind) (why : NoReport) → count_at counts kind why ≡ at_most (count_by (is_so kind why) all)
   pub places : length counts.unreported ≡ 140
   pub quality : IsQuality (map noted_of all) counts.quality
   pub others : AreOthers (filter_map meeting_of all) counts.others
@@ -327,6 +327,6 @@ AreCounted all None = ⊥
 AreCounted all (Some counts) = IsCounts all counts
 
 -- what is counted of a capture, at the interface that is measured, once that is known
-abbrev pub AreCaptured : Wanted → (measured : Option InterfaceOf) → List InterfaceRow → Option Counts → Type 0
+abbrev pub AreCaptured : WantedPorts → (measured : Option InterfaceOf) → List InterfaceRow → Option Counts → Type 0
 AreCaptured w None rows counts = counts ≡ None
 AreCaptured w (Some interface) rows counts = AreCounted (capture_fates w interface rows) counts

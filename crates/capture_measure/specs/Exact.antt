@@ -12,7 +12,7 @@ use Rattle.capture_model.specs.Told.{Tells}
 use Rattle.capture_model.specs.Premises.{IsFresh, IsTicked, MissesFew}
 use Rattle.capture_model.specs.Exact.{Watches, IsExact}
 use Rattle.capture_measure.specs.declared.measuring.Form.{Form}
-use Rattle.capture_measure.specs.declared.watch.Wanted.{Wanted}
+use Rattle.capture_measure.specs.declared.watch.WantedPorts.{WantedPorts}
 use Rattle.capture_measure.specs.Watch.{watched_in}
 use Rattle.capture_measure.specs.Row.{Row, datagrams, heard}
 use Rattle.capture_measure.specs.Measured.{texts_as, measurements}
@@ -30,7 +30,7 @@ pub record WritesExact {network : Network} {slave : NodeName} {run : Run} {moved
 -- often enough, and few Delay_Reqs are missing in a row.
 abbrev pub EachMeasurementIsExact : Type 0
 EachMeasurementIsExact =
-    (network : Network) (run : Run) (slave master : NodeName) (w : Watched) (moved : Moved) (form : Form) (wanted : Wanted)
+    (network : Network) (run : Run) (slave master : NodeName) (w : Watched) (moved : Moved) (form : Form) (wanted : WantedPorts)
     (lines : List (List ℕ)) (read : Recording) (text : List ℕ)
     → IsAcceptedRun network run → Watches network slave master w
     → TakesLines measure_rules 1 lines (begun form wanted) read text

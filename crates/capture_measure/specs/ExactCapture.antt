@@ -12,7 +12,7 @@ use Rattle.capture_model.specs.Told.{Tells}
 use Rattle.capture_model.specs.Premises.{IsFresh, IsTicked, MissesFew}
 use Rattle.capture_model.specs.Exact.{Watches}
 use Rattle.capture_measure.specs.declared.measuring.Form.{Form}
-use Rattle.capture_measure.specs.declared.watch.Wanted.{Wanted}
+use Rattle.capture_measure.specs.declared.watch.WantedPorts.{WantedPorts}
 use Rattle.capture_measure.specs.Row.{datagrams}
 use Rattle.capture_measure.specs.Chosen.{capture_watched, heard_at}
 use Rattle.capture_measure.specs.Capture.{Capture, capture_begun, capture_rules}
@@ -22,7 +22,7 @@ use Rattle.capture_measure.specs.Exact.{WritesExact}
 -- written of the packets is the texts of reports that are exact, by the premises that lines have.
 abbrev pub EachMeasurementOfACaptureIsExact : Type 0
 EachMeasurementOfACaptureIsExact =
-    (network : Network) (run : Run) (slave master : NodeName) (w : Watched) (moved : Moved) (form : Form) (wanted : Wanted)
+    (network : Network) (run : Run) (slave master : NodeName) (w : Watched) (moved : Moved) (form : Form) (wanted : WantedPorts)
     (packets : List PacketOf) (read : Capture) (text : List ℕ)
     → IsAcceptedRun network run → Watches network slave master w
     → TakesPackets capture_rules (capture_begun form wanted) packets read text

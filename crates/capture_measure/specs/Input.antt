@@ -17,15 +17,15 @@ use Rattle.capture_file.specs.declared.fault.CaptureStop.{CaptureStop}
 use Rattle.capture_file.specs.Beginning.{enough, start_of}
 use Rattle.capture_file.specs.Task as packets
 use Rattle.capture_file.specs.Wrong.{HasMagic, HasNoMagic}
-use Rattle.capture_measure.specs.declared.input.Outcome.{Outcome}
-use Rattle.capture_measure.specs.declared.input.Outcome.TheVariants.{Lines, Capture}
+use Rattle.capture_measure.specs.declared.input.InputOutcome.{InputOutcome}
+use Rattle.capture_measure.specs.declared.input.InputOutcome.TheVariants.{Lines, Capture}
 use Rattle.capture_measure.specs.declared.measuring.Form.{Form}
-use Rattle.capture_measure.specs.declared.watch.Wanted.{Wanted}
+use Rattle.capture_measure.specs.declared.watch.WantedPorts.{WantedPorts}
 use Rattle.capture_measure.specs.Measure.{head_text, HasHead, Measures, measure_rules}
 use Rattle.capture_measure.specs.Capture.{capture_begun, capture_rules}
 
 -- what an answer over the octets of a capture says: the head went out, and then what the packets bring
-abbrev pub MeasuresCapture : Form → Wanted → List ℕ → (left before after : Option (List ℕ))
+abbrev pub MeasuresCapture : Form → WantedPorts → List ℕ → (left before after : Option (List ℕ))
     → Result ℕ (CaptureStop LineFault) → Type 0
 MeasuresCapture form w octets left before after answer =
     (headed : Option (List ℕ)) × Appends before headed (head_text form)
@@ -52,7 +52,7 @@ HasShortLine form octets left before after answer =
     × StopsEarly form left before after (drop (enough octets) octets) (Task Field) answer
 
 -- what came of octets
-abbrev pub IsOutcome : Form → Wanted → List ℕ → (left before after : Option (List ℕ)) → Outcome → Type 0
+abbrev pub IsOutcome : Form → WantedPorts → List ℕ → (left before after : Option (List ℕ)) → InputOutcome → Type 0
 IsOutcome form w octets left before after (Lines answer) =
     FailsAhead form octets left before after answer
     ⊎ (HasNoMagic (start_of octets)
@@ -61,7 +61,7 @@ IsOutcome form w octets left before after (Capture answer) =
     HasMagic (start_of octets) × MeasuresCapture form w octets left before after answer
 
 -- the head of a table couldn't be written, and nothing was read
-pub record HasNoHead {R W : Type 0} (form : Form) (outcome : Outcome) (input input' : Counted R) (output output' : Counted W)
+pub record HasNoHead {R W : Type 0} (form : Form) (outcome : InputOutcome) (input input' : Counted R) (output output' : Counted W)
     : Type 0 where
   pub table : HasHead form
   pub stopped : outcome ≡ Lines (Err (record { line = 0; what = Task Write }))
@@ -69,7 +69,7 @@ pub record HasNoHead {R W : Type 0} (form : Form) (outcome : Outcome) (input inp
   pub failed : HasFailed output output'
 
 -- what an outcome says where the reader tells its octets, and where the writer does
-abbrev pub MeasuresInput : {R W : Type 0} → Form → Wanted → (R → Option (List ℕ)) → (W → Option (List ℕ)) → Outcome
+abbrev pub MeasuresInput : {R W : Type 0} → Form → WantedPorts → (R → Option (List ℕ)) → (W → Option (List ℕ)) → InputOutcome
     → (input input' : Counted R) (output output' : Counted W) → Type 0
 MeasuresInput form w remaining contents outcome input input' output output' =
     HasNoHead form outcome input input' output output'
@@ -78,7 +78,7 @@ MeasuresInput form w remaining contents outcome input input' output output' =
     outcome)
 
 -- which of the two devices failed at this outcome
-abbrev pub OutcomeFailed : {R W : Type 0} → Outcome → (input input' : Counted R) (output output' : Counted W) → Type 0
+abbrev pub OutcomeFailed : {R W : Type 0} → InputOutcome → (input input' : Counted R) (output output' : Counted W) → Type 0
 OutcomeFailed (Lines answer) input input' output output' = MatchResult answer
     (λ _. HasNotFailed input input' × HasNotFailed output output')
     (λ stop. FailedAt measure_rules stop.what input input' output output')

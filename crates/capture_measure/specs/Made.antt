@@ -1,6 +1,6 @@
 -- What was measured at a line, and what it was made of.
 use Rattle.std.specs.Prelude.{ℕ, List, Option}
-use Rattle.slave_port.specs.declared.exchange.Exchange.{Exchange}
+use Rattle.slave_port.specs.declared.exchange.LastExchange.{LastExchange}
 use Rattle.slave_port.specs.declared.heard.Report.{Report}
 use Rattle.capture_lines.specs.declared.measurement.Half.{Half}
 use Rattle.capture_lines.specs.Measurement as lines
@@ -11,7 +11,7 @@ pub record Measured : Type 0 where
   pub line : ℕ
   pub time : List ℕ
   pub report : Report
-  pub exchange : Option Exchange
+  pub exchange : Option LastExchange
 
 -- without what it was made of
 abbrev pub plain : Measured → lines.Measured

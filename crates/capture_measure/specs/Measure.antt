@@ -12,18 +12,18 @@ use Rattle.capture_measure.specs.declared.measuring.Form.{Form}
 use Rattle.capture_measure.specs.declared.measuring.Form.TheVariants.{Json, Table, FullJson, FullTable}
 use Rattle.text_lines.specs.declared.line_fault.LineFault.{LineFault}
 use Rattle.text_lines.specs.declared.line_fault.LineFault.TheVariants.{Write, Field, Memory}
-use Rattle.capture_measure.specs.declared.watch.Wanted.{Wanted}
+use Rattle.capture_measure.specs.declared.watch.WantedPorts.{WantedPorts}
 use Rattle.capture_measure.specs.Row.{Row, IsRow}
 use Rattle.capture_measure.specs.Measured.{measured_in, written, GoesWhole}
 
 -- what is asked for, and the lines that were read, newest first
 pub record Recording : Type 0 where
   pub form : Form
-  pub wanted : Wanted
+  pub wanted : WantedPorts
   pub rows : List Row
 
 -- before the first line
-abbrev pub begun : Form → Wanted → Recording
+abbrev pub begun : Form → WantedPorts → Recording
 begun form w = record { form = form; wanted = w; rows = [] }
 
 -- all that is measured once these lines were read
@@ -83,7 +83,7 @@ HasHead FullJson = ⊥
 HasHead FullTable = ⊤
 
 -- what an answer of `measure` over these octets says: the head went out, and then what the lines bring
-abbrev pub Measures : Form → Wanted → List ℕ → (left before after : Option (List ℕ))
+abbrev pub Measures : Form → WantedPorts → List ℕ → (left before after : Option (List ℕ))
     → Result ℕ (Stopped (Cause LineFault)) → Type 0
 Measures form w octets left before after answer =
     (headed : Option (List ℕ)) × Appends before headed (head_text form)

@@ -13,7 +13,7 @@ use Rattle.capture_lines.specs.Measurement.{json_text, row_text}
 use Rattle.exchange_lines.specs.Exchange as full
 use Rattle.capture_measure.specs.declared.measuring.Form.{Form}
 use Rattle.capture_measure.specs.declared.measuring.Form.TheVariants.{Json, Table, FullJson, FullTable}
-use Rattle.capture_measure.specs.declared.watch.Wanted.{Wanted}
+use Rattle.capture_measure.specs.declared.watch.WantedPorts.{WantedPorts}
 use Rattle.capture_measure.specs.Watch.{watched_in}
 use Rattle.capture_measure.specs.Row.{Row, datagrams, heard}
 use Rattle.capture_measure.specs.Made.{Measured, plain}
@@ -56,11 +56,11 @@ measurements watched [] = []
 measurements watched (row ∷ earlier) = option_to_list (measured_at watched earlier row) ++ measurements watched earlier
 
 -- all that is measured once these lines were read
-abbrev pub measured_in : Wanted → List Row → List Measured
+abbrev pub measured_in : WantedPorts → List Row → List Measured
 measured_in w rows = option_map_or (λ watched. measurements watched (heard w rows)) (watched_in w (datagrams rows)) []
 
 -- all that is written of them
-abbrev pub written : Form → Wanted → List Row → List ℕ
+abbrev pub written : Form → WantedPorts → List Row → List ℕ
 written form w rows = texts_as form (measured_in w rows)
 
 -- Where all that is measured grew so, the texts of some of what is new went out, each of them whole, and these are left.

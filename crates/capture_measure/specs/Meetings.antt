@@ -8,8 +8,8 @@ use Rattle.recording_quality.specs.declared.others.MessageKind.{MessageKind}
 use Rattle.recording_quality.specs.declared.others.MessageKind.TheVariants.{Sync, FollowUp, DelayReq, DelayResp}
 use Rattle.recording_quality.specs.declared.others.Met.{Met}
 use Rattle.recording_quality.specs.declared.others.Met.TheVariants.{First, Repeat, Master, Slave, Domain}
-use Rattle.capture_measure.specs.declared.tally.Why.{Why}
-use Rattle.capture_measure.specs.declared.tally.Why.TheVariants as whys
+use Rattle.capture_measure.specs.declared.tally.NoReport.{NoReport}
+use Rattle.capture_measure.specs.declared.tally.NoReport.TheVariants as whys
 
 -- which message it is
 abbrev pub message_kind : Body → MessageKind
@@ -26,7 +26,7 @@ slave_by DelayReq header = Some (Slave header.source)
 slave_by DelayResp header = None
 
 -- of whom a message is that gave no report for this reason
-abbrev pub met_as : MessageKind → Why → Header → Option Met
+abbrev pub met_as : MessageKind → NoReport → Header → Option Met
 met_as kind whys.Held header = Some (First kind header.sequence)
 met_as kind whys.Alone header = Some (First kind header.sequence)
 met_as kind whys.OfSlave header = Some (First kind header.sequence)
@@ -43,11 +43,11 @@ met_as kind whys.TooEarly header = None
 met_as kind whys.NoPart header = None
 
 -- of whom one is that gave a report, or none for a reason
-abbrev pub met_by : MessageKind → Option Why → Header → Option Met
+abbrev pub met_by : MessageKind → Option NoReport → Header → Option Met
 met_by kind None header = Some (First kind header.sequence)
 met_by kind (Some why) header = met_as kind why header
 
 -- what a message tells, with its line and time
-abbrev pub meeting_at : (line time : ℕ) → Body → Header → Option Why → Option Meeting
+abbrev pub meeting_at : (line time : ℕ) → Body → Header → Option NoReport → Option Meeting
 meeting_at line time body header why =
     option_map (λ met. record { line = line; time = time; met = met }) (met_by (message_kind body) why header)

@@ -2,7 +2,7 @@
 use Rattle.std.specs.Prelude.{◌≡◌, ◌+◌, ◌^◌, ◌<◌, not, List, length, sum, is_some}
 use Rattle.capture_model.specs.declared.watched.Watched.{Watched}
 use Rattle.capture_measure.specs.declared.tally.Counts.{Counts}
-use Rattle.capture_measure.specs.declared.watch.Wanted.{Wanted}
+use Rattle.capture_measure.specs.declared.watch.WantedPorts.{WantedPorts}
 use Rattle.capture_measure.specs.Row.{Row}
 use Rattle.capture_measure.specs.Counts.{fate_at, fates_in, IsCounts}
 
@@ -11,5 +11,5 @@ use Rattle.capture_measure.specs.Counts.{fate_at, fates_in, IsCounts}
 pub record EachDatagramIsCountedOnce : Type 0 where
   pub one : (w : Watched) (earlier : List Row) (row : Row)
       → is_some (fate_at w earlier row).why ≡ not (is_some (fate_at w earlier row).measured)
-  pub all : (w : Wanted) (rows : List Row) (counts : Counts) → length rows < 2 ^ 64 → IsCounts (fates_in w rows) counts
+  pub all : (w : WantedPorts) (rows : List Row) (counts : Counts) → length rows < 2 ^ 64 → IsCounts (fates_in w rows) counts
       → counts.reports + sum counts.unreported ≡ length rows

@@ -4,7 +4,7 @@ use Rattle.hex.specs.Hex.{decode_of}
 use Rattle.event_codec.specs.Reading.{IsReading}
 use Rattle.capture_lines.specs.Timed.{LineParts, timed_in}
 use Rattle.capture_model.specs.Recorded.{Recorded}
-use Rattle.capture_measure.specs.declared.watch.Wanted.{Wanted}
+use Rattle.capture_measure.specs.declared.watch.WantedPorts.{WantedPorts}
 use Rattle.capture_measure.specs.Watch.{watched_in}
 
 -- a line of a recording: its time as it stands there, and what a port takes of it
@@ -17,7 +17,7 @@ abbrev pub datagrams : List Row → List Recorded
 datagrams rows = map (λ row. row.datagram) rows
 
 -- it is known whom to watch
-abbrev pub is_known : Wanted → List Row → Bool
+abbrev pub is_known : WantedPorts → List Row → Bool
 is_known w rows = is_some (watched_in w (datagrams rows))
 
 -- the most lines that are kept until it is known whom to watch
@@ -26,7 +26,7 @@ kept_most = 1024
 
 -- The lines that are heard, newest first: none until it is known whom to watch, then all so far where these are few
 -- enough, or else those from here on.
-abbrev pub heard : Wanted → List Row → List Row
+abbrev pub heard : WantedPorts → List Row → List Row
 heard w [] = []
 heard w (row ∷ earlier) =
     if is_known w earlier then row ∷ heard w earlier

@@ -6,7 +6,7 @@ use Rattle.event_codec.specs.declared.port.PortIdentity.{PortIdentity}
 use Rattle.capture_model.specs.Recorded.{Recorded}
 use Rattle.capture_model.specs.Told.{is_sync}
 use Rattle.capture_measure.specs.declared.watch.Known.{Known}
-use Rattle.capture_measure.specs.declared.watch.Wanted.{Wanted}
+use Rattle.capture_measure.specs.declared.watch.WantedPorts.{WantedPorts}
 use Rattle.capture_measure.specs.declared.watch.Whom.{Whom}
 use Rattle.capture_measure.specs.Watch.{is_request, first_told, source_told, domain_told, domain_in}
 use Rattle.capture_measure.specs.Row.{datagrams}
@@ -26,7 +26,7 @@ abbrev pub asked_for : {T : Type 0} → Option T → Option (Known T)
 asked_for asked = option_map (λ value. record { value = value; line = None }) asked
 
 -- the domain: the one that is asked for, or that of the first Sync that tells it
-abbrev pub known_domain : Wanted → List Recorded → Option (Known ℕ)
+abbrev pub known_domain : WantedPorts → List Recorded → Option (Known ℕ)
 known_domain w ds = option_or (asked_for w.domain) (first_told (told_at (domain_told w.master)) ds)
 
 -- a port: the one that is asked for, or the source of the first message of a kind in the domain
@@ -36,7 +36,7 @@ known_port kind asked domain ds =
     option_or (asked_for asked) (option_and_then (λ known. first_told (told_at (source_told kind known)) ds) domain)
 
 -- whom datagrams are of, as far as that is known, and by which line each of the three
-abbrev pub whom_in : Wanted → List Recorded → Whom
+abbrev pub whom_in : WantedPorts → List Recorded → Whom
 whom_in w ds = record {
   domain = known_domain w ds;
   master = known_port is_sync w.master (domain_in w ds) ds;
@@ -44,5 +44,5 @@ whom_in w ds = record {
 }
 
 -- the same of a capture, at the interface that is measured
-abbrev pub capture_whom : Wanted → List InterfaceRow → Option Whom
+abbrev pub capture_whom : WantedPorts → List InterfaceRow → Option Whom
 capture_whom w rows = option_map (λ interface. whom_in w (datagrams (rows_at interface rows))) (chosen w rows)

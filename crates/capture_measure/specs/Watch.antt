@@ -12,7 +12,7 @@ use Rattle.event_codec.specs.Port.{is_same_port}
 use Rattle.capture_model.specs.declared.watched.Watched.{Watched}
 use Rattle.capture_model.specs.Recorded.{Recorded}
 use Rattle.capture_model.specs.Told.{is_sync, where_is}
-use Rattle.capture_measure.specs.declared.watch.Wanted.{Wanted}
+use Rattle.capture_measure.specs.declared.watch.WantedPorts.{WantedPorts}
 
 -- a Delay_Req
 abbrev pub is_request : Body → Bool
@@ -46,7 +46,7 @@ abbrev pub domain_told : (master : Option PortIdentity) → Recorded → Option 
 domain_told master d = option_and_then (domain_from master) (header_in is_sync d)
 
 -- the domain: the one that is asked for, or that of the first such Sync
-abbrev pub domain_in : Wanted → List Recorded → Option ℕ
+abbrev pub domain_in : WantedPorts → List Recorded → Option ℕ
 domain_in w ds = option_or w.domain (first_told (domain_told w.master) ds)
 
 -- a port: the one that is asked for, or the source of the first message of a kind in the domain
@@ -63,7 +63,7 @@ watched_by _ _ _ = None
 
 -- Whom a recording is of, where its messages tell: the master sent the first Sync of the domain, and the slave its
 -- first Delay_Req, unless others are asked for.
-abbrev pub watched_in : Wanted → List Recorded → Option Watched
+abbrev pub watched_in : WantedPorts → List Recorded → Option Watched
 watched_in w ds = watched_by (domain_in w ds)
     (port_in is_request w.slave (domain_in w ds) ds)
     (port_in is_sync w.master (domain_in w ds) ds)

@@ -1,7 +1,7 @@
 //! What is told of the numbers of reports, and of what they are worth.
 
 use crate::others::{doubt_others, doubt_repeats, doubt_turn};
-use crate::tally::{Counts, Kind, Why};
+use crate::tally::{Counts, Kind, NoReport};
 use ptp_units::{Nanoseconds, ScaledTime};
 use recording_quality::{Point, Series, Spread, Statistics, Times};
 use rounded_series::{Signed, Thousandths, deviation, mean, slope};
@@ -225,11 +225,11 @@ impl Counts {
     /// How many Syncs of the master came: at least so many.
     fn master_syncs(&self) -> u64 {
         let reasons = [
-            Why::Held,
-            Why::Alone,
-            Why::Before,
-            Why::TooBig,
-            Why::NotNewer,
+            NoReport::Held,
+            NoReport::Alone,
+            NoReport::Before,
+            NoReport::TooBig,
+            NoReport::NotNewer,
         ];
         let unreported = reasons.iter().fold(0_u64, |sum, why| {
             sum.saturating_add(self.at(Kind::Sync, *why))
@@ -258,8 +258,8 @@ impl Counts {
     fn doubt_datagrams<E: Write>(&self, errors: &mut E) {
         let repeats = [Kind::Sync, Kind::FollowUp, Kind::DelayResp]
             .iter()
-            .fold(self.at(Kind::DelayReq, Why::Again), |sum, kind| {
-                sum.saturating_add(self.at(*kind, Why::Before))
+            .fold(self.at(Kind::DelayReq, NoReport::Again), |sum, kind| {
+                sum.saturating_add(self.at(*kind, NoReport::Before))
             });
         doubt_repeats(repeats, &self.others.repeats, errors);
         if self.quality.cut > 0 {

@@ -17,7 +17,7 @@ ghost use Rattle.capture_measure.specs.Inner.Outcomes.{LinesAnswer, PacketsAnswe
 use crate::measuring::{Form, Measuring, Telling, write_head};
 use crate::packets::{CaptureMeasuring, CaptureTelling};
 use crate::tally::Counts;
-use crate::watch::{Wanted, Whom};
+use crate::watch::{WantedPorts, Whom};
 use capture_file::{Beginning, CaptureStop, Interface, answer_packets_behind};
 use std::alloc::Global;
 use std::io::{Read, Write};
@@ -25,7 +25,7 @@ use text_lines::{Cause, Counted, LineFault, ReadingFault, Stopped, answer_lines_
 
 /// What came of an input that was measured.
 #[derive(Clone, Copy, Debug)]
-pub enum Outcome {
+pub enum InputOutcome {
     /// It was lines: how many there were, or at which one it stopped, and why.
     Lines(Result<u64, Stopped<Cause<LineFault>>>),
     /// It was a capture: how many packets there were, or where it stopped, and why.
@@ -93,12 +93,12 @@ impl Summary {
 /// lost: all that is promised holds whatever that writer does.
 pub fn measure<R: Read, W: Write, E: Write>(
     alloc: Global,
-    wanted: &Wanted,
+    wanted: &WantedPorts,
     form: Form,
     input: &mut Counted<R>,
     output: &mut Counted<W>,
     errors: &mut E,
-) -> (Outcome, Summary)
+) -> (InputOutcome, Summary)
     ensures measured { MeasuresInput form wanted.now R.remaining W.contents result.0
         input.old input.new output.old output.new }
     ensures summary { ForSome (R.remaining (device_of input.old)) (λ octets.
@@ -137,8 +137,8 @@ fn stopped<E: Write>(
     line: u64,
     what: Cause<LineFault>,
     errors: &mut E,
-) -> (Outcome, Summary)
-    ensures outcome { result.0 ≡ Outcome.Lines (Err (record { line = line; what = what })) }
+) -> (InputOutcome, Summary)
+    ensures outcome { result.0 ≡ InputOutcome.Lines (Err (record { line = line; what = what })) }
     ensures summary { (r : Recording) → IsMeasuring lines r → IsLinesSummary r.wanted result.1 r.rows }
 {
     lines.tell_wanted(errors);
@@ -146,28 +146,31 @@ fn stopped<E: Write>(
 }
 
 /// What came of lines, and what is told of them.
-fn of_lines(answer: Result<u64, Stopped<Cause<LineFault>>>, lines: Measuring) -> (Outcome, Summary)
-    ensures outcome { result.0 ≡ Outcome.Lines answer }
+fn of_lines(
+    answer: Result<u64, Stopped<Cause<LineFault>>>,
+    lines: Measuring,
+) -> (InputOutcome, Summary)
+    ensures outcome { result.0 ≡ InputOutcome.Lines answer }
     ensures summary { (r : Recording) → IsMeasuring lines r → IsLinesSummary r.wanted result.1 r.rows }
 {
     let whom = Some(lines.whom());
     let counts = Some(lines.counts());
     let of = Measured::Lines(lines);
-    (Outcome::Lines(answer), Summary { whom, counts, of })
+    (InputOutcome::Lines(answer), Summary { whom, counts, of })
 }
 
 /// What came of a capture, and what is told of it.
 fn of_capture(
     answer: Result<u64, CaptureStop<LineFault>>,
     capture: CaptureMeasuring,
-) -> (Outcome, Summary)
-    ensures outcome { result.0 ≡ Outcome.Capture answer }
+) -> (InputOutcome, Summary)
+    ensures outcome { result.0 ≡ InputOutcome.Capture answer }
     ensures summary { (c : Capture) → IsCapturing capture c → IsCaptureSummary c.wanted result.1 c.rows }
 {
     let whom = capture.whom();
     let counts = capture.counts();
     let of = Measured::Capture(capture);
-    (Outcome::Capture(answer), Summary { whom, counts, of })
+    (InputOutcome::Capture(answer), Summary { whom, counts, of })
 }
 
 /// Measures lines, of which these octets were read.
@@ -177,14 +180,14 @@ fn measure_lines<R: Read, W: Write, E: Write>(
     input: &mut Counted<R>,
     output: &mut Counted<W>,
     errors: &mut E,
-) -> (Outcome, Summary)
+) -> (InputOutcome, Summary)
     requires unended { All (λ x. x ≢ 10) start.now }
     requires within { length start.now ≤ line_limit }
     requires stands { (r : Recording) × IsMeasuring lines r }
     ensures answered { (r : Recording) → IsMeasuring lines r → ForSome (R.remaining (device_of input.old)) (λ octets.
         LinesAnswer r (start.now ++ octets) (R.remaining (device_of input.new))
         (W.contents (device_of output.old)) (W.contents (device_of output.new)) result.0) }
-    ensures summary { (form : Form) (w : Wanted) → IsMeasuring lines (begun form w)
+    ensures summary { (form : Form) (w : WantedPorts) → IsMeasuring lines (begun form w)
         → ForSome (R.remaining (device_of input.old)) (λ octets. LinesTell form w (start.now ++ octets) result.0 result.1) }
     ensures failures { OutcomeFailed result.0 input.old input.new output.old output.new }
 {
@@ -205,13 +208,13 @@ fn measure_packets<R: Read, W: Write, E: Write>(
     input: &mut Counted<R>,
     output: &mut Counted<W>,
     errors: &mut E,
-) -> (Outcome, Summary)
+) -> (InputOutcome, Summary)
     requires most { length start.now ≤ 4 }
     requires stands { (c : Capture) × IsCapturing capture c }
     ensures answered { (c : Capture) → IsCapturing capture c → ForSome (R.remaining (device_of input.old)) (λ octets.
         PacketsAnswer c (start.now ++ octets) (R.remaining (device_of input.new))
         (W.contents (device_of output.old)) (W.contents (device_of output.new)) result.0) }
-    ensures summary { (form : Form) (w : Wanted) → IsCapturing capture (capture_begun form w)
+    ensures summary { (form : Form) (w : WantedPorts) → IsCapturing capture (capture_begun form w)
         → ForSome (R.remaining (device_of input.old)) (λ octets. PacketsTell form w (start.now ++ octets) result.0 result.1) }
     ensures failures { OutcomeFailed result.0 input.old input.new output.old output.new }
 {

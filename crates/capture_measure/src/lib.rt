@@ -16,7 +16,7 @@ mod reports;
 mod tally;
 mod watch;
 
-pub use input::{Outcome, Summary, measure};
+pub use input::{InputOutcome, Summary, measure};
 pub use measuring::Form;
-pub use tally::{Counts, Kind, Why};
-pub use watch::{Known, Wanted, Whom};
+pub use tally::{Counts, Kind, NoReport};
+pub use watch::{Known, WantedPorts, Whom};

@@ -23,7 +23,7 @@ use capture_model::Watched;
 use event_codec::{Body, Header, Message, PortConfig, PortIdentity};
 use pairing::RingTable;
 use ptp_units::{ScaledTime, Seq};
-use slave_port::{Exchange, Heard, HeldFollow, HeldRequest, HeldSync, Reason, SlavePort};
+use slave_port::{Heard, HeldFollow, HeldRequest, HeldSync, LastExchange, Reason, SlavePort};
 use sync_watch::{Judgement, ResponseWatch, SyncWatch};
 
 /// How many messages of a kind the port holds.
@@ -47,7 +47,7 @@ type Times = RingTable<ScaledTime, CAPACITY>;
 #[derive(Clone, Copy, Debug, PartialEq, Eq)]
 pub(crate) struct Reply {
     pub(crate) heard: Heard,
-    pub(crate) exchange: Option<Exchange>,
+    pub(crate) exchange: Option<LastExchange>,
 }
 
 /// What became of a message.

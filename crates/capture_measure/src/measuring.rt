@@ -26,7 +26,7 @@ ghost use Rattle.capture_measure.specs.Inner.Counting.{stays};
 use crate::listener::Listener;
 use crate::reports::{Completed, Datagram, Made, Reports, message_in};
 use crate::tally::{Counts, Tally};
-use crate::watch::{Wanted, Watch, Whom};
+use crate::watch::{WantedPorts, Watch, Whom};
 use capture_lines::{Timed, read_timed, table_head};
 use capture_model::Watched;
 use std::alloc::Global;
@@ -54,7 +54,7 @@ pub enum Form {
 
 /// What is done with a line.
 #[derive(Drop)]
-enum Stage {
+enum LineStage {
     /// It is kept, as all before it, until it is known whom to watch.
     Kept(Vec<Vec<u8>>),
     /// It is passed over, since too many lines came before it was known whom to watch.
@@ -63,14 +63,14 @@ enum Stage {
     Hearing(Listener),
 }
 
-impl Stage {
+impl LineStage {
     /// Before the first line: a port is there where it is known whom to watch.
-    fn new(alloc: Global, watch: &Watch) -> Stage
-        ensures { (w : Wanted) → IsWatch w [] watch.now → IsStage w [] result }
+    fn new(alloc: Global, watch: &Watch) -> LineStage
+        ensures { (w : WantedPorts) → IsWatch w [] watch.now → IsStage w [] result }
     {
         match watch.watched() {
-            Some(watched) => Stage::Hearing(Listener::new(watched)),
-            None => Stage::Kept(Vec::new(alloc)),
+            Some(watched) => LineStage::Hearing(Listener::new(watched)),
+            None => LineStage::Kept(Vec::new(alloc)),
         }
     }
 }
@@ -80,7 +80,7 @@ impl Stage {
 pub(crate) struct Measuring {
     alloc: Global,
     watch: Watch,
-    stage: Stage,
+    stage: LineStage,
     reports: Reports,
     lines: u64,
 }
@@ -149,7 +149,7 @@ fn read_line<'line, 'room>(
 
 /// Takes what a line tells of whom to watch.
 fn notice(watch: &mut Watch, read: &Line<'_, '_>)
-    ensures { (w : Wanted) (rows : List Row) (row : Row) → IsRowOf read.now row
+    ensures { (w : WantedPorts) (rows : List Row) (row : Row) → IsRowOf read.now row
         → IsWatch w (datagrams rows) watch.old → IsWatch w (datagrams (row ∷ rows)) watch.new }
 {
     match &read.datagram.said {
@@ -256,7 +256,7 @@ impl Reports {
     fn hear_earlier<W: Write>(
         &mut self,
         listener: &mut Listener,
-        stage: &Stage,
+        stage: &LineStage,
         output: &mut Counted<W>,
     ) -> Result<(), LineFault>
         requires { AreWithin stage.now }
@@ -274,12 +274,12 @@ impl Reports {
             (λ fault. HasFailedIf (is_write fault) output.old output.new) }
     {
         match stage {
-            Stage::Kept(kept) => {
+            LineStage::Kept(kept) => {
                 self.tally = Tally::new();
                 self.hear_kept(listener, kept.as_slice(), output)
             }
-            Stage::Passed => Ok(()),
-            Stage::Hearing(_) => Ok(()),
+            LineStage::Passed => Ok(()),
+            LineStage::Hearing(_) => Ok(()),
         }
     }
 }
@@ -344,7 +344,7 @@ impl Measuring {
             (λ _. HasNotFailed output.old output.new)
             (λ fault. HasFailedIf (is_write fault) output.old output.new) }
     {
-        if let Stage::Hearing(listener) = &mut self.stage {
+        if let LineStage::Hearing(listener) = &mut self.stage {
             self.lines = self.reports.hear(listener, self.lines, line, output)?;
             return Ok(());
         }
@@ -366,7 +366,7 @@ impl Measuring {
 
     /// Says whom the recording is of where that is known before the first line, as where all of it is asked for.
     pub(crate) fn tell_wanted<E: Write>(&self, errors: &mut E) {
-        if let Stage::Hearing(_) = &self.stage {
+        if let LineStage::Hearing(_) = &self.stage {
             self.whom().tell("line", errors);
         }
     }
@@ -404,11 +404,11 @@ impl Measuring {
     }
 
     /// No line came yet.
-    pub(crate) fn new(alloc: Global, wanted: &Wanted, form: Form) -> Measuring
+    pub(crate) fn new(alloc: Global, wanted: &WantedPorts, form: Form) -> Measuring
         ensures { IsMeasuring result (begun form wanted.now) }
     {
         let watch = Watch::new(wanted);
-        let stage = Stage::new(alloc, &watch);
+        let stage = LineStage::new(alloc, &watch);
         Measuring {
             alloc,
             watch,
@@ -421,7 +421,7 @@ impl Measuring {
     /// Keeps a line by which it isn't known yet whom to watch, unless there are too many.
     fn keep(&mut self, read: &Line<'_, '_>, line: &[u8]) -> Result<(), LineFault>
         requires { length line.now ≤ line_limit }
-        ensures kept { (w : Wanted) (rows : List Row) (row : Row) → IsRow (length rows + 1) line.now row
+        ensures kept { (w : WantedPorts) (rows : List Row) (row : Row) → IsRow (length rows + 1) line.now row
             → watched_in w (datagrams (row ∷ rows)) ≡ None → read.now.datagram.number ≡ length rows + 1
             → IsStage w rows self.old.stage → OnOk result (IsStage w (row ∷ rows) self.new.stage) }
         ensures counted { (all : List Fate) → IsCounts all self.old.reports.tally.counts
@@ -433,14 +433,14 @@ impl Measuring {
     {
         self.reports.tally.count_early(&read.datagram);
         match &mut self.stage {
-            Stage::Kept(kept) if read.datagram.number < KEPT_MOST => {
+            LineStage::Kept(kept) if read.datagram.number < KEPT_MOST => {
                 let mut copy = Vec::new(self.alloc);
                 copy.extend_from_slice(line)?;
                 kept.push(copy)?;
             }
-            Stage::Kept(_) => self.stage = Stage::Passed,
-            Stage::Passed => {}
-            Stage::Hearing(_) => {}
+            LineStage::Kept(_) => self.stage = LineStage::Passed,
+            LineStage::Passed => {}
+            LineStage::Hearing(_) => {}
         }
         Ok(())
     }
@@ -472,7 +472,7 @@ impl Measuring {
         self.reports
             .hear_earlier(&mut listener, &self.stage, output)?;
         self.reports.hear_line(&mut listener, read, output)?;
-        self.stage = Stage::Hearing(listener);
+        self.stage = LineStage::Hearing(listener);
         Ok(())
     }
 }

@@ -5,7 +5,7 @@ ghost use Rattle.std.specs.List.{cons_option};
 ghost use Rattle.recording_quality.specs.Others.{AreOthers};
 ghost use Rattle.capture_measure.specs.Meetings.{message_kind, met_as, met_by, meeting_at};
 
-use crate::tally::Why;
+use crate::tally::NoReport;
 use event_codec::{Body, Header, Message};
 use ptp_units::ScaledTime;
 use recording_quality::{Meeting, MessageKind, Met, Others};
@@ -23,25 +23,29 @@ fn message_kind(body: &Body) -> MessageKind
 }
 
 /// Of whom a message is that gave no report for this reason, where it tells that.
-fn met_as(kind: MessageKind, why: Why, header: &Header) -> Option<Met>
+fn met_as(kind: MessageKind, why: NoReport, header: &Header) -> Option<Met>
     ensures { result ≡ met_as kind why header.now }
 {
     match why {
-        Why::Held | Why::Alone | Why::OfSlave | Why::TooBig | Why::NotNewer | Why::Unrecorded =>
-            Some(Met::First(kind, header.sequence)),
-        Why::Again | Why::Before => Some(Met::Repeat(kind, header.sequence)),
-        Why::OtherDomain => Some(Met::Domain(header.domain)),
-        Why::OtherMaster => Some(Met::Master(kind, header.source)),
-        Why::OtherSlave => match kind {
+        NoReport::Held
+        | NoReport::Alone
+        | NoReport::OfSlave
+        | NoReport::TooBig
+        | NoReport::NotNewer
+        | NoReport::Unrecorded => Some(Met::First(kind, header.sequence)),
+        NoReport::Again | NoReport::Before => Some(Met::Repeat(kind, header.sequence)),
+        NoReport::OtherDomain => Some(Met::Domain(header.domain)),
+        NoReport::OtherMaster => Some(Met::Master(kind, header.source)),
+        NoReport::OtherSlave => match kind {
             MessageKind::DelayReq => Some(Met::Slave(header.source)),
             _ => None,
         },
-        Why::PeerDelay | Why::TooEarly | Why::NoPart => None,
+        NoReport::PeerDelay | NoReport::TooEarly | NoReport::NoPart => None,
     }
 }
 
 /// Of whom a message is that gave no report for a reason, or gave one.
-fn met_by(kind: MessageKind, why: Option<Why>, header: &Header) -> Option<Met>
+fn met_by(kind: MessageKind, why: Option<NoReport>, header: &Header) -> Option<Met>
     ensures { result ≡ met_by kind why header.now }
 {
     match why {
@@ -55,7 +59,7 @@ pub(crate) fn meeting_at(
     line: u64,
     time: ScaledTime,
     message: &Message<'_>,
-    why: Option<Why>,
+    why: Option<NoReport>,
 ) -> Option<Meeting>
     ensures { result ≡ meeting_at line time message.now.body message.now.header why }
 {

@@ -27,7 +27,7 @@ use crate::measuring::Form;
 use crate::recording::{Kept, Recording, Recordings, datagram_of};
 use crate::reports::{Datagram, Reports};
 use crate::tally::Counts;
-use crate::watch::{Wanted, Whom};
+use crate::watch::{WantedPorts, Whom};
 use capture_extract::Summary as PacketCounts;
 use capture_file::{Captured, Interface, Packet, PacketTask, is_asked};
 use capture_frame::{Found, find_datagram};
@@ -44,7 +44,7 @@ const KEPT_MOST: u64 = 1024;
 
 /// What is done with a datagram.
 #[derive(Drop)]
-enum Stage {
+enum PacketStage {
     /// It is kept, as all before it, until it is known at an interface whom to watch. So many came before, or more.
     Looking(u64),
     /// A port hears it, where it is at the interface of this place.
@@ -134,9 +134,9 @@ impl PacketReports {
 #[derive(Drop)]
 pub(crate) struct CaptureMeasuring {
     alloc: Global,
-    wanted: Wanted,
+    wanted: WantedPorts,
     recordings: Recordings,
-    stage: Stage,
+    stage: PacketStage,
     reports: PacketReports,
     packets: PacketCounts,
     interfaces: InterfaceCounts,
@@ -197,14 +197,14 @@ impl<E: Write> PacketTask for CaptureTelling<'_, E> {
 
 impl CaptureMeasuring {
     /// No packet came yet.
-    pub(crate) fn new(alloc: Global, wanted: &Wanted, form: Form) -> CaptureMeasuring
+    pub(crate) fn new(alloc: Global, wanted: &WantedPorts, form: Form) -> CaptureMeasuring
         ensures { IsCapturing result (capture_begun form wanted.now) }
     {
         CaptureMeasuring {
             alloc,
             wanted: *wanted,
             recordings: Recordings::new(alloc),
-            stage: Stage::Looking(0),
+            stage: PacketStage::Looking(0),
             reports: PacketReports {
                 reports: Reports::new(alloc, form),
                 time: String::new(alloc),
@@ -269,14 +269,14 @@ impl CaptureMeasuring {
             (λ fault. HasFailedIf (is_write fault) output.old output.new) }
     {
         match &mut self.stage {
-            Stage::Looking(count) => {
+            PacketStage::Looking(count) => {
                 let is_kept = *count < KEPT_MOST;
                 if is_kept {
                     *count += 1;
                 }
                 self.look(captured, datagram, is_kept, output, errors)
             }
-            Stage::Hearing(place, listener) => {
+            PacketStage::Hearing(place, listener) => {
                 if self.recordings.is_at(*place, &captured.interface) {
                     self.reports.hear(listener, captured.time, datagram, output)
                 } else {
@@ -359,7 +359,7 @@ impl CaptureMeasuring {
             self.reports.reports.tally = self.recordings.early(place);
             self.reports.hear(&mut listener, time, datagram, output)?;
         }
-        self.stage = Stage::Hearing(place, listener);
+        self.stage = PacketStage::Hearing(place, listener);
         Ok(())
     }
 }
@@ -370,8 +370,8 @@ impl CaptureMeasuring {
         ensures { result ≡ whom_at self.now.stage self.now.recordings.recordings.items }
     {
         match &self.stage {
-            Stage::Looking(_) => None,
-            Stage::Hearing(place, _) => self.recordings.whom(*place),
+            PacketStage::Looking(_) => None,
+            PacketStage::Hearing(place, _) => self.recordings.whom(*place),
         }
     }
 
@@ -380,8 +380,8 @@ impl CaptureMeasuring {
         ensures { result ≡ counts_at self.now.stage self.now.reports.reports.tally.counts }
     {
         match &self.stage {
-            Stage::Looking(_) => None,
-            Stage::Hearing(..) => Some(self.reports.reports.tally.counts),
+            PacketStage::Looking(_) => None,
+            PacketStage::Hearing(..) => Some(self.reports.reports.tally.counts),
         }
     }
 
@@ -390,8 +390,8 @@ impl CaptureMeasuring {
         ensures { option_map interface_of result ≡ interface_at self.now.stage self.now.recordings.recordings.items }
     {
         match &self.stage {
-            Stage::Looking(_) => None,
-            Stage::Hearing(place, _) => self.recordings.interface(*place),
+            PacketStage::Looking(_) => None,
+            PacketStage::Hearing(place, _) => self.recordings.interface(*place),
         }
     }
 
@@ -400,8 +400,8 @@ impl CaptureMeasuring {
     pub(crate) fn tell<E: Write>(&self, counts: Option<Counts>, errors: &mut E) {
         self.packets.tell_packets(errors);
         match self.stage {
-            Stage::Hearing(measured, _) => self.tell_measured(measured, counts, errors),
-            Stage::Looking(_) => self.tell_unknown(errors),
+            PacketStage::Hearing(measured, _) => self.tell_measured(measured, counts, errors),
+            PacketStage::Looking(_) => self.tell_unknown(errors),
         }
     }
 

@@ -19,7 +19,7 @@ ghost use Rattle.capture_measure.specs.Inner.Watching.{whom_of};
 use crate::interface::Place;
 use crate::reports::{Datagram, message_in};
 use crate::tally::Tally;
-use crate::watch::{Wanted, Watch, Whom};
+use crate::watch::{WantedPorts, Watch, Whom};
 use capture_file::{Captured, Interface};
 use capture_model::Watched;
 use event_codec::{Header, PortIdentity};
@@ -69,7 +69,7 @@ fn is_wanted(wanted: Option<PortIdentity>, port: PortIdentity) -> bool
 
 impl Met {
     /// Before any datagram.
-    fn new(wanted: &Wanted) -> Met
+    fn new(wanted: &WantedPorts) -> Met
         ensures { IsMet wanted.now [] result }
     {
         Met {
@@ -80,7 +80,7 @@ impl Met {
     }
 
     /// Takes the header of a message.
-    fn notice(&mut self, wanted: &Wanted, header: &Header)
+    fn notice(&mut self, wanted: &WantedPorts, header: &Header)
         ensures domain { self.new.domain ≡ (self.old.domain || option_map_or (λ domain. header.now.domain == domain) wanted.now.domain false) }
         ensures master { self.new.master ≡ (self.old.master || option_map_or (is_same_port header.now.source) wanted.now.master false) }
         ensures slave { self.new.slave ≡ (self.old.slave || option_map_or (is_same_port header.now.source) wanted.now.slave false) }
@@ -113,7 +113,7 @@ impl Recording {
     /// Before its first datagram.
     fn new(
         alloc: Global,
-        wanted: &Wanted,
+        wanted: &WantedPorts,
         interface: &Interface<'_>,
     ) -> Result<Recording, AllocError>
         ensures { IfOk result (λ recording. IsFresh wanted.now (interface_of interface.now) recording) }
@@ -128,7 +128,7 @@ impl Recording {
     }
 
     /// Takes what a datagram tells of whom to watch.
-    pub(crate) fn notice(&mut self, wanted: &Wanted, datagram: &Datagram<'_>)
+    pub(crate) fn notice(&mut self, wanted: &WantedPorts, datagram: &Datagram<'_>)
         ensures noticed { (ds : List Recorded) → IsNoticed wanted.now ds self.old
             → IsNoticed wanted.now (recorded_of datagram.now ∷ ds) self.new }
         ensures place { self.new.place ≡ self.old.place }
@@ -143,7 +143,7 @@ impl Recording {
 
     /// Whom its datagrams are of, where that is known and all that is asked for was met.
     pub(crate) fn watched(&self) -> Option<Watched>
-        ensures { (w : Wanted) (ds : List Recorded) → IsNoticed w ds self.now → result ≡ watched_at w ds }
+        ensures { (w : WantedPorts) (ds : List Recorded) → IsNoticed w ds self.now → result ≡ watched_at w ds }
     {
         if self.met.is_all() {
             self.watch.watched()
@@ -154,7 +154,7 @@ impl Recording {
 
     /// Counts a datagram by which it isn't known yet whom its datagrams are of.
     fn count_early(&mut self, datagram: &Datagram<'_>)
-        ensures counted { (w : Wanted) (ds : List Recorded) (all : List Fate) → IsNoticed w ds self.old
+        ensures counted { (w : WantedPorts) (ds : List Recorded) (all : List Fate) → IsNoticed w ds self.old
             → IsCounts all self.old.early.counts
             → IsCounts (early_with (watched_at w ds) (recorded_of datagram.now) all) self.new.early.counts }
         ensures others { self.new ≡ record self.old { early = self.new.early } }
@@ -195,7 +195,7 @@ pub(crate) struct Recordings {
 impl Recordings {
     /// Before any datagram.
     pub(crate) fn new(alloc: Global) -> Recordings
-        ensures { (w : Wanted) → AreRecordings w [] result.recordings.items }
+        ensures { (w : WantedPorts) → AreRecordings w [] result.recordings.items }
     {
         Recordings {
             recordings: Vec::new(alloc),
@@ -218,7 +218,7 @@ impl Recordings {
     fn find_or_add(
         &mut self,
         alloc: Global,
-        wanted: &Wanted,
+        wanted: &WantedPorts,
         interface: &Interface<'_>,
     ) -> Result<Option<usize>, AllocError>
         ensures { IfOk result (λ found. HasAdded wanted.now (interface_of interface.now) found
@@ -240,7 +240,7 @@ impl Recordings {
     pub(crate) fn take(
         &mut self,
         alloc: Global,
-        wanted: &Wanted,
+        wanted: &WantedPorts,
         captured: &Captured<'_>,
         datagram: &Datagram<'_>,
         is_kept: bool,
@@ -269,7 +269,7 @@ impl Recordings {
     /// Whom the datagrams at the interface of this place are of, where that is known.
     pub(crate) fn watched(&self, place: usize) -> Option<Watched>
         requires { place < length self.now.recordings.items }
-        ensures { (w : Wanted) (ds : List Recorded) (d : Recording) → IsNoticed w ds (get_or self.now.recordings.items place d)
+        ensures { (w : WantedPorts) (ds : List Recorded) (d : Recording) → IsNoticed w ds (get_or self.now.recordings.items place d)
             → result ≡ watched_at w ds }
     {
         self.recordings[place].watched()

@@ -19,7 +19,7 @@ use capture_lines::{Half, Measurement, push_json, push_row};
 use capture_model::Watched;
 use event_codec::{Body, DecodeRefusal, Message, decode};
 use ptp_units::ScaledTime;
-use slave_port::{Exchange, Heard, Report};
+use slave_port::{Heard, LastExchange, Report};
 use std::alloc::{AllocError, Global};
 use std::io::Write;
 use text_lines::{Counted, LineFault, write_text};
@@ -40,7 +40,7 @@ pub(crate) struct Datagram<'room> {
 #[derive(Clone, Copy)]
 pub(crate) struct Made<'a> {
     pub(crate) measured: Measurement<'a>,
-    pub(crate) exchange: Option<Exchange>,
+    pub(crate) exchange: Option<LastExchange>,
 }
 
 /// A report, which half of it a datagram completed, and the exchange that it was made of.
@@ -48,7 +48,7 @@ pub(crate) struct Made<'a> {
 pub(crate) struct Completed {
     by: Half,
     report: Report,
-    exchange: Option<Exchange>,
+    exchange: Option<LastExchange>,
 }
 
 impl Completed {
@@ -104,7 +104,7 @@ fn report_in(became: &Became) -> Option<Report>
 }
 
 /// The exchange of the port's last report once it heard a message, of which this became.
-fn exchange_in(became: &Became) -> Option<Exchange>
+fn exchange_in(became: &Became) -> Option<LastExchange>
     ensures { result ≡ exchange_by became.now }
 {
     match became {

@@ -59,7 +59,7 @@ pub enum Kind {
 
 /// Why a datagram gave no report.
 #[derive(Clone, Copy, Debug, PartialEq, Eq)]
-pub enum Why {
+pub enum NoReport {
     /// It waits for the message that it pairs with.
     Held,
     /// It completed one half of a report, and the other half wasn't there.
@@ -105,21 +105,21 @@ const ALL_KINDS: [Kind; KINDS] = [
 ];
 
 /// Every reason, in the order of the summary.
-const ALL_REASONS: [Why; REASONS] = [
-    Why::Held,
-    Why::Alone,
-    Why::OfSlave,
-    Why::Again,
-    Why::Before,
-    Why::OtherDomain,
-    Why::OtherMaster,
-    Why::OtherSlave,
-    Why::TooBig,
-    Why::NotNewer,
-    Why::Unrecorded,
-    Why::PeerDelay,
-    Why::TooEarly,
-    Why::NoPart,
+const ALL_REASONS: [NoReport; REASONS] = [
+    NoReport::Held,
+    NoReport::Alone,
+    NoReport::OfSlave,
+    NoReport::Again,
+    NoReport::Before,
+    NoReport::OtherDomain,
+    NoReport::OtherMaster,
+    NoReport::OtherSlave,
+    NoReport::TooBig,
+    NoReport::NotNewer,
+    NoReport::Unrecorded,
+    NoReport::PeerDelay,
+    NoReport::TooEarly,
+    NoReport::NoPart,
 ];
 
 impl Kind {
@@ -187,7 +187,7 @@ impl Kind {
     }
 }
 
-impl Why {
+impl NoReport {
     /// Its place in the order of the summary.
     fn number(self) -> usize
         ensures value { result ≡ why_number self }
@@ -197,67 +197,67 @@ impl Why {
     }
 
     /// Why a message that was heard gave no report; None where it gave one.
-    fn of_heard(heard: Heard) -> Option<Why>
+    fn of_heard(heard: Heard) -> Option<NoReport>
         ensures { result ≡ why_answered heard }
     {
         match heard {
             Heard::Report(_) => None,
-            Heard::Held => Some(Why::Held),
-            Heard::Completed => Some(Why::Alone),
+            Heard::Held => Some(NoReport::Held),
+            Heard::Completed => Some(NoReport::Alone),
             Heard::Ignored(reason) => Some(match reason {
-                Reason::OtherDomain => Why::OtherDomain,
-                Reason::OtherMaster | Reason::NoMaster => Why::OtherMaster,
-                Reason::TooBig => Why::TooBig,
-                Reason::NotNewer => Why::NotNewer,
-                Reason::OtherRequester => Why::OtherSlave,
-                Reason::UnknownRequest | Reason::EgressUnknown => Why::Unrecorded,
-                Reason::Decode(_) | Reason::WrongType => Why::NoPart,
+                Reason::OtherDomain => NoReport::OtherDomain,
+                Reason::OtherMaster | Reason::NoMaster => NoReport::OtherMaster,
+                Reason::TooBig => NoReport::TooBig,
+                Reason::NotNewer => NoReport::NotNewer,
+                Reason::OtherRequester => NoReport::OtherSlave,
+                Reason::UnknownRequest | Reason::EgressUnknown => NoReport::Unrecorded,
+                Reason::Decode(_) | Reason::WrongType => NoReport::NoPart,
             }),
         }
     }
 
     /// Why a message of this header gave no report, of which this became in this domain.
-    fn of_became(became: &Became, header: &Header, domain: u8) -> Option<Why>
+    fn of_became(became: &Became, header: &Header, domain: u8) -> Option<NoReport>
         ensures { result ≡ why_by domain header.now became.now }
     {
         match became {
-            Became::Heard(reply) | Became::HeardAnew(reply) => Why::of_heard(reply.heard),
-            Became::HeardBefore => Some(Why::Before),
-            Became::Asked | Became::Anew => Some(Why::OfSlave),
-            Became::Repeated => Some(Why::Again),
-            Became::Foreign if header.domain != domain => Some(Why::OtherDomain),
-            Became::Foreign => Some(Why::OtherSlave),
+            Became::Heard(reply) | Became::HeardAnew(reply) => NoReport::of_heard(reply.heard),
+            Became::HeardBefore => Some(NoReport::Before),
+            Became::Asked | Became::Anew => Some(NoReport::OfSlave),
+            Became::Repeated => Some(NoReport::Again),
+            Became::Foreign if header.domain != domain => Some(NoReport::OtherDomain),
+            Became::Foreign => Some(NoReport::OtherSlave),
         }
     }
 
     /// Why a datagram of this kind gave no report that isn't one of the four messages.
-    fn of_refused(kind: Kind) -> Why
+    fn of_refused(kind: Kind) -> NoReport
         ensures { result ≡ why_refused kind }
     {
         match kind {
-            Kind::Pdelay => Why::PeerDelay,
-            _ => Why::NoPart,
+            Kind::Pdelay => NoReport::PeerDelay,
+            _ => NoReport::NoPart,
         }
     }
 
     /// What the summary says after the name of one or of several datagrams of this kind.
     fn words(self, kind: Kind) -> &'static str {
         match self {
-            Why::Held => " that waited for the other half of the Sync",
-            Why::Alone if kind == Kind::DelayResp => " that came while no Sync was complete",
-            Why::Alone => " that came while no path delay was known",
-            Why::OfSlave => " of the slave",
-            Why::Again => " of the slave, with the number of the last one",
-            Why::Before => " with a number that came before",
-            Why::OtherDomain => " of another domain",
-            Why::OtherMaster => " of another master",
-            Why::OtherSlave => " of another slave",
-            Why::TooBig => " with a correction that is too big to be represented",
-            Why::NotNewer => " no newer than the last Sync that was completed",
-            Why::Unrecorded => " to requests that weren't recorded",
-            Why::PeerDelay => ": peer delay isn't measured",
-            Why::TooEarly => " before it was known whom to watch",
-            Why::NoPart => "",
+            NoReport::Held => " that waited for the other half of the Sync",
+            NoReport::Alone if kind == Kind::DelayResp => " that came while no Sync was complete",
+            NoReport::Alone => " that came while no path delay was known",
+            NoReport::OfSlave => " of the slave",
+            NoReport::Again => " of the slave, with the number of the last one",
+            NoReport::Before => " with a number that came before",
+            NoReport::OtherDomain => " of another domain",
+            NoReport::OtherMaster => " of another master",
+            NoReport::OtherSlave => " of another slave",
+            NoReport::TooBig => " with a correction that is too big to be represented",
+            NoReport::NotNewer => " no newer than the last Sync that was completed",
+            NoReport::Unrecorded => " to requests that weren't recorded",
+            NoReport::PeerDelay => ": peer delay isn't measured",
+            NoReport::TooEarly => " before it was known whom to watch",
+            NoReport::NoPart => "",
         }
     }
 }
@@ -267,7 +267,7 @@ impl Why {
 struct Counted {
     count: u64,
     kind: Kind,
-    why: Why,
+    why: NoReport,
 }
 
 impl Display for Counted {
@@ -300,7 +300,7 @@ pub struct Counts {
 }
 
 /// Where the count of a kind and a reason stands.
-fn place_of(kind: Kind, why: Why) -> usize
+fn place_of(kind: Kind, why: NoReport) -> usize
     ensures value { result ≡ place_of kind why }
     ensures within { result < 140 }
 {
@@ -330,14 +330,14 @@ impl Counts {
     }
 
     /// How many datagrams of this kind gave no report for this reason.
-    pub fn at(&self, kind: Kind, why: Why) -> u64
+    pub fn at(&self, kind: Kind, why: NoReport) -> u64
         ensures { result ≡ count_at self.now kind why }
     {
         self.unreported[place_of(kind, why)]
     }
 
     /// Counts a datagram of this kind that gave no report for this reason.
-    fn count(&mut self, kind: Kind, why: Why)
+    fn count(&mut self, kind: Kind, why: NoReport)
         ensures { self.new ≡ with_unreported kind why self.old }
     {
         let place = place_of(kind, why);
@@ -345,7 +345,7 @@ impl Counts {
     }
 
     /// Counts a datagram of this kind, where it gave no report.
-    fn count_why(&mut self, kind: Kind, why: Option<Why>)
+    fn count_why(&mut self, kind: Kind, why: Option<NoReport>)
         ensures { self.new ≡ with_why kind why self.old }
     {
         if let Some(why) = why {
@@ -394,7 +394,7 @@ impl Counts {
     }
 
     /// Tells how many of this kind gave no report for this reason, if any.
-    fn tell_count<E: Write>(&self, kind: Kind, why: Why, errors: &mut E) {
+    fn tell_count<E: Write>(&self, kind: Kind, why: NoReport, errors: &mut E) {
         let count = self.at(kind, why);
         if count > 0 {
             let _ = writeln!(errors, "ptpx: {}", Counted { count, kind, why });
@@ -470,7 +470,7 @@ impl Tally {
             (cons_option (meeting_at line time message.now.body message.now.header (why_by domain message.now.header became.now)) earlier)
             self.new.counts.others }
     {
-        let why = Why::of_became(became, &message.header, domain);
+        let why = NoReport::of_became(became, &message.header, domain);
         self.counts.count_anew(became);
         self.counts.count_why(Kind::of(&message.body), why);
         take_some(
@@ -486,7 +486,9 @@ impl Tally {
     {
         self.note(datagram);
         match &datagram.said {
-            Ok(message) => self.counts.count(Kind::of(&message.body), Why::TooEarly),
+            Ok(message) => self
+                .counts
+                .count(Kind::of(&message.body), NoReport::TooEarly),
             Err(refusal) => self.count_refused(*refusal),
         }
     }
@@ -497,6 +499,6 @@ impl Tally {
             self.old.counts }
     {
         let kind = Kind::of_refused(refusal);
-        self.counts.count(kind, Why::of_refused(kind));
+        self.counts.count(kind, NoReport::of_refused(kind));
     }
 }

@@ -18,7 +18,7 @@ use std::io::Write;
 
 /// Whom to watch, as far as it is asked for.
 #[derive(Clone, Copy, Debug, PartialEq, Eq)]
-pub struct Wanted {
+pub struct WantedPorts {
     /// The portIdentity of the slave.
     pub slave: Option<PortIdentity>,
     /// The portIdentity of the master.
@@ -97,7 +97,7 @@ impl Display for Source {
 
 impl Watch {
     /// What is known before any message: what is asked for.
-    pub(crate) fn new(wanted: &Wanted) -> Watch
+    pub(crate) fn new(wanted: &WantedPorts) -> Watch
         ensures { IsWatch wanted.now [] result }
     {
         Watch {
@@ -110,7 +110,7 @@ impl Watch {
 
     /// Takes what the message of this line tells.
     pub(crate) fn notice(&mut self, line: u64, message: &Message<'_>)
-        ensures { (w : Wanted) (d : Recorded) (ds : List Recorded) → d.said ≡ Ok (contents message.now) → d.line ≡ line
+        ensures { (w : WantedPorts) (d : Recorded) (ds : List Recorded) → d.said ≡ Ok (contents message.now) → d.line ≡ line
             → IsWatch w ds self.old → IsWatch w (d ∷ ds) self.new }
     {
         match message.body {
@@ -165,7 +165,7 @@ impl Watch {
 
     /// Whom the recording is of, where all is known.
     pub(crate) fn watched(&self) -> Option<Watched>
-        ensures { (w : Wanted) (ds : List Recorded) → IsWatch w ds self.now → result ≡ watched_in w ds }
+        ensures { (w : WantedPorts) (ds : List Recorded) → IsWatch w ds self.now → result ≡ watched_in w ds }
     {
         Some(Watched {
             slave: self.slave?.value,

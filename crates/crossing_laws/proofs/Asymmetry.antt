@@ -19,8 +19,8 @@ use Rattle.slave_port.proofs.Options.{some_step}
 use Rattle.network_model.proofs.Made.{journey_of-place_at}
 use Rattle.network_model.proofs.TrueTime.{error_is_asymmetry}
 use Rattle.tap_crossing.specs.declared.crossing.Crossing.{Crossing}
-use Rattle.tap_crossing.specs.declared.crossing.Outcome.{Outcome}
-use Rattle.tap_crossing.specs.declared.crossing.Outcome.TheVariants as outcomes
+use Rattle.tap_crossing.specs.declared.crossing.MessageOutcome.{MessageOutcome}
+use Rattle.tap_crossing.specs.declared.crossing.MessageOutcome.TheVariants as outcomes
 use Rattle.tap_crossing.specs.declared.sighting.Place.TheVariants as places
 use Rattle.tap_crossing.specs.declared.sighting.Placed.{Placed}
 use Rattle.tap_crossing.specs.declared.sighting.Sighting.{Sighting}
@@ -34,7 +34,7 @@ use Rattle.crossing_laws.proofs.Along.{over, sends, from_in, over_cable, through
 use Rattle.crossing_laws.proofs.Resting.{cables_and_taps}
 
 -- what rests of a crossing
-crossed_rests : (rest : ℤ) (outcome : Outcome) (x : Crossing) → Rests rest outcome → outcome ≡ outcomes.Crossed x → x.rest ≡ rest
+crossed_rests : (rest : ℤ) (outcome : MessageOutcome) (x : Crossing) → Rests rest outcome → outcome ≡ outcomes.Crossed x → x.rest ≡ rest
 crossed_rests rest outcome x rests is = subst (Rests rest) is rests
 
 rest_of : (network : Network) (run : Run) (ahead_first ahead_second : ℤ) (from to : Place) (legs : List Leg) (x : Crossing) → IsRun network run → IsSteady run

@@ -17,7 +17,7 @@ use Rattle.tap_crossing.specs.declared.watched.Watched.{Watched}
 use Rattle.tap_crossing.specs.declared.places.Places.{Places}
 use Rattle.tap_crossing.specs.declared.places.Record.{Record}
 use Rattle.tap_crossing.specs.declared.places.Record.TheVariants as standings
-use Rattle.tap_crossing.specs.declared.crossing.Outcome.TheVariants as outcomes
+use Rattle.tap_crossing.specs.declared.crossing.MessageOutcome.TheVariants as outcomes
 use Rattle.tap_crossing.specs.Record.{no_places, place_in, with_place, complete}
 use Rattle.tap_crossing.specs.Records.{unclosed, with, new_record, joined, open_record, is_same_kind, records}
 use Rattle.tap_crossing.specs.Told.{closes_or_waits, comes_to, told}

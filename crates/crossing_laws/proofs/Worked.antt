@@ -21,8 +21,8 @@ use Rattle.tap_crossing.specs.declared.sighting.Kind.TheVariants as kinds
 use Rattle.tap_crossing.specs.declared.sighting.Tap.{Tap}
 use Rattle.tap_crossing.specs.declared.sighting.Tap.TheVariants as taps
 use Rattle.tap_crossing.specs.declared.watched.Watched.{Watched}
-use Rattle.tap_crossing.specs.declared.crossing.Outcome.{Outcome}
-use Rattle.tap_crossing.specs.declared.crossing.Outcome.TheVariants as outcomes
+use Rattle.tap_crossing.specs.declared.crossing.MessageOutcome.{MessageOutcome}
+use Rattle.tap_crossing.specs.declared.crossing.MessageOutcome.TheVariants as outcomes
 use Rattle.tap_crossing.specs.Changes.{no_changes}
 use Rattle.tap_crossing.specs.Placed.{needs_other}
 use Rattle.tap_crossing.specs.Told.{told}
@@ -109,15 +109,15 @@ lines =
     ∷ line taps.From 1 (at 1795329064 941754592 0) (sync 0) 0 ∷ []
 
 -- of each line that is followed what is told, the newest first
-abbrev pub outcomes_under : Watched → List Met → List (Option Outcome)
+abbrev pub outcomes_under : Watched → List Met → List (Option MessageOutcome)
 outcomes_under w [] = []
 outcomes_under w (d ∷ earlier) = option_map (λ p. told 256 p (followed w earlier)) (placed_of w d) ∷ outcomes_under w earlier
 
-abbrev pub outcomes_of : List Met → List (Option Outcome)
+abbrev pub outcomes_of : List Met → List (Option MessageOutcome)
 outcomes_of = outcomes_under watched
 
 -- a crossing of which nothing rests
-abbrev exact : Kind → (number time kept first_line second_line from_line to_line : ℕ) → Option Outcome
+abbrev exact : Kind → (number time kept first_line second_line from_line to_line : ℕ) → Option MessageOutcome
 exact kind number time kept first_line second_line from_line to_line = Some (outcomes.Crossed (record {
   kind = kind;
   number = record { 0 = number };
@@ -133,7 +133,7 @@ exact kind number time kept first_line second_line from_line to_line = Some (out
   other_changes = no_changes;
 }))
 
-abbrev waits : Option Outcome
+abbrev waits : Option MessageOutcome
 waits = Some outcomes.Waits
 
 -- two crossings
@@ -264,7 +264,7 @@ ports =
     ∷ line taps.To 2 (at 1795329064 941818117 0) (follow_up 45301) 0
     ∷ line taps.To 1 (at 1795329064 941800693 0) (sync 0) 0 ∷ []
 
-abbrev pub resting : Kind → (number time kept rest first_line second_line from_line to_line : ℕ) → Option Outcome
+abbrev pub resting : Kind → (number time kept rest first_line second_line from_line to_line : ℕ) → Option MessageOutcome
 resting kind number time kept rest first_line second_line from_line to_line = Some (outcomes.Crossed (record {
   kind = kind;
   number = record { 0 = number };

@@ -14,8 +14,8 @@ use Rattle.tap_crossing.specs.declared.sighting.Kind.TheVariants as kinds
 use Rattle.tap_crossing.specs.declared.sighting.Tap.TheVariants as taps
 use Rattle.tap_crossing.specs.declared.sighting.Placed.{Placed}
 use Rattle.tap_crossing.specs.declared.crossing.NoCrossing.TheVariants as reasons
-use Rattle.tap_crossing.specs.declared.crossing.Outcome.{Outcome}
-use Rattle.tap_crossing.specs.declared.crossing.Outcome.TheVariants as outcomes
+use Rattle.tap_crossing.specs.declared.crossing.MessageOutcome.{MessageOutcome}
+use Rattle.tap_crossing.specs.declared.crossing.MessageOutcome.TheVariants as outcomes
 use Rattle.tap_crossing.specs.Changes.{no_changes}
 use Rattle.crossing_laws.specs.Told.{Passage, Tells}
 use Rattle.crossing_laws.specs.Lines.{Met, EachIs, AreApart, IsReadAt, by_passages, own, waiting, newest_of}
@@ -26,7 +26,7 @@ abbrev sync : (number correction : ℕ) → Contents
 sync number correction = message m_config.identity 0 number 0 correction (bodies.Sync (stamp 1 1))
 
 -- a Sync of which so many nanoseconds rest
-abbrev crossed : (first_line second_line first taken corrected : ℕ) → (rest : ℕ) → Option Outcome
+abbrev crossed : (first_line second_line first taken corrected : ℕ) → (rest : ℕ) → Option MessageOutcome
 crossed first_line second_line first taken corrected rest = Some (outcomes.Crossed (record {
   kind = kinds.Sync;
   number = record { 0 = 7 };

@@ -18,8 +18,8 @@ use Rattle.tap_crossing.specs.declared.sighting.Kind.TheVariants as kinds
 use Rattle.tap_crossing.specs.declared.sighting.Tap.{Tap}
 use Rattle.tap_crossing.specs.declared.sighting.Tap.TheVariants as taps
 use Rattle.tap_crossing.specs.declared.watched.Watched.{Watched}
-use Rattle.tap_crossing.specs.declared.crossing.Outcome.{Outcome}
-use Rattle.tap_crossing.specs.declared.crossing.Outcome.TheVariants as outcomes
+use Rattle.tap_crossing.specs.declared.crossing.MessageOutcome.{MessageOutcome}
+use Rattle.tap_crossing.specs.declared.crossing.MessageOutcome.TheVariants as outcomes
 use Rattle.tap_crossing.specs.Changes.{no_changes}
 use Rattle.crossing_laws.specs.Told.{Passage, IsEven, message_at}
 use Rattle.crossing_laws.specs.Way.{IsWay, Leg, Clock, cables}
@@ -64,7 +64,7 @@ packets =
     ∷ line taps.From 22 (at 1795645067 377537820 0) (follow_up 0) 0
     ∷ line taps.From 21 (at 1795645067 377516479 0) sync 0 ∷ []
 
-abbrev crossed : Kind → (number time taken corrected first_line second_line from_line to_line : ℕ) → Option Outcome
+abbrev crossed : Kind → (number time taken corrected first_line second_line from_line to_line : ℕ) → Option MessageOutcome
 crossed kind number time taken corrected first_line second_line from_line to_line = Some (outcomes.Crossed (record {
   kind = kind;
   number = record { 0 = number };
@@ -80,7 +80,7 @@ crossed kind number time taken corrected first_line second_line from_line to_lin
   other_changes = no_changes;
 }))
 
-abbrev waits : Option Outcome
+abbrev waits : Option MessageOutcome
 waits = Some outcomes.Waits
 
 told_of_packets : outcomes_under watched packets ≡ crossed kinds.DelayReq 0 (at 1795645068 100827185 0) 57903 59871 29 27 28 30 ∷ waits ∷ waits ∷ waits

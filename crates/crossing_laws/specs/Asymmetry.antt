@@ -15,7 +15,7 @@ use Rattle.network_model.specs.TrueTime.{twice}
 use Rattle.tap_crossing.specs.declared.sighting.Placed.{Placed}
 use Rattle.tap_crossing.specs.declared.places.Places.{Places}
 use Rattle.tap_crossing.specs.declared.crossing.Crossing.{Crossing}
-use Rattle.tap_crossing.specs.declared.crossing.Outcome.TheVariants as outcomes
+use Rattle.tap_crossing.specs.declared.crossing.MessageOutcome.TheVariants as outcomes
 use Rattle.tap_crossing.specs.Record.{complete}
 use Rattle.tap_crossing.specs.Told.{closes_or_waits}
 use Rattle.crossing_laws.specs.Told.{Moved, IsEven, AreOf}

@@ -12,8 +12,8 @@ use Rattle.tap_crossing.specs.declared.sighting.Place.TheVariants as places
 use Rattle.tap_crossing.specs.declared.sighting.Sighting.{Sighting}
 use Rattle.tap_crossing.specs.declared.places.Places.{Places}
 use Rattle.tap_crossing.specs.declared.crossing.NoCrossing.TheVariants as reasons
-use Rattle.tap_crossing.specs.declared.crossing.Outcome.{Outcome}
-use Rattle.tap_crossing.specs.declared.crossing.Outcome.TheVariants as outcomes
+use Rattle.tap_crossing.specs.declared.crossing.MessageOutcome.{MessageOutcome}
+use Rattle.tap_crossing.specs.declared.crossing.MessageOutcome.TheVariants as outcomes
 use Rattle.tap_crossing.specs.Placed.{needs_other}
 
 -- the message of the copy that comes to an event, or else of the copy that the event makes
@@ -83,7 +83,7 @@ pub record AreOf (network : Network) (run : Run) (p : Passage) (met : Places) : 
 
 -- Where a record closes it is a crossing with this rest, unless a correction is too big: it has the same timestamp at both
 -- taps, and its Sync isn't two-step at `from` alone.
-abbrev pub Rests : ℤ → Outcome → Type 0
+abbrev pub Rests : ℤ → MessageOutcome → Type 0
 Rests rest outcomes.Waits = ⊤
 Rests rest outcomes.Spoils = ⊤
 Rests rest outcomes.IsSpoiled = ⊤

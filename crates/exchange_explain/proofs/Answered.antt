@@ -22,8 +22,8 @@ use Rattle.schedule_reading.specs.Schedule.{FaultsIn}
 use Rattle.schedule_reading.specs.Transcript as transcripts
 use Rattle.schedule_reading.specs.Transcript.{Recorded}
 use Rattle.schedule_reading.proofs.OneFault.{in_text}
-use Rattle.exchange_explain.specs.declared.input.Found.{Found}
-use Rattle.exchange_explain.specs.declared.input.Found.TheVariants as found
+use Rattle.exchange_explain.specs.declared.input.FoundInput.{FoundInput}
+use Rattle.exchange_explain.specs.declared.input.FoundInput.TheVariants as found
 use Rattle.exchange_explain.specs.declared.input.Input.{Input}
 use Rattle.exchange_explain.specs.declared.input.Input.TheVariants.{Transcript, Schedule}
 use Rattle.exchange_explain.specs.Input.{nothing, is_schedule, Faults, IsFound, FaultsAtEnd}
@@ -44,7 +44,7 @@ judgement_read Device write memory = record {
 }
 
 pub judged_read : (Device : TaskFault → Type 0) → Device Write → Device Memory → (first : Bool) (octets : List ℕ) (left before after : Option (List ℕ))
-    (answer : Result Found (Stopped (Cause TaskFault))) → IsSure Device answer → Judges first octets left before after answer
+    (answer : Result FoundInput (Stopped (Cause TaskFault))) → IsSure Device answer → Judges first octets left before after answer
     → Answers input_rules nothing octets left None None answer
 judged_read Device write memory first octets left before after answer sure judges =
     answers_read judgement_rules input_rules (λ (told : Told). told.input) Device (judgement_read Device write memory) (record { first = first; input = nothing })
@@ -53,8 +53,8 @@ judged_read Device write memory first octets left before after answer sure judge
 -- ---- by the rules of a transcript or of a schedule
 
 -- the same answer by these rules, of which what is whole is told so
-pub record IsReadAs {S A : Type 0} (rules : Rules S A TaskFault) (start : S) (of : A → Found) (Device : TaskFault → Type 0) (octets : List ℕ) (left : Option (List ℕ))
-    (answer : Result Found (Stopped (Cause TaskFault))) : Type 0 where
+pub record IsReadAs {S A : Type 0} (rules : Rules S A TaskFault) (start : S) (of : A → FoundInput) (Device : TaskFault → Type 0) (octets : List ℕ) (left : Option (List ℕ))
+    (answer : Result FoundInput (Stopped (Cause TaskFault))) : Type 0 where
   pub there : Result A (Stopped (Cause TaskFault))
   pub says : Answers rules start octets left None None there
   pub same : answer ≡ result_map_both of (λ (stop : Stopped (Cause TaskFault)). stop) there
@@ -89,7 +89,7 @@ transcript_stops Device write memory octets place input s (Task fault) last left
     inr (at_end, (subst (λ (i : Input). FaultsAtEnd fault i) is faults, refl), read)
 
 pub transcript_read : (Device : TaskFault → Type 0) → Device Write → Device Memory → (octets : List ℕ) (left : Option (List ℕ))
-    (answer : Result Found (Stopped (Cause TaskFault))) → IsSure Device answer → is_schedule (lines_of octets) ≡ false
+    (answer : Result FoundInput (Stopped (Cause TaskFault))) → IsSure Device answer → is_schedule (lines_of octets) ≡ false
     → Answers input_rules nothing octets left None None answer
     → IsReadAs transcript_rules transcripts.nothing found.Transcript Device octets left answer
 transcript_read Device write memory octets left (Ok answer) sure never all =
@@ -151,7 +151,7 @@ schedule_stops Device write memory octets place input s (Task fault) last left s
     absurd (subst (λ (i : Input). FaultsAtEnd fault i) is faults)
 
 pub schedule_read : (Device : TaskFault → Type 0) → Device Write → Device Memory → (octets : List ℕ) (left : Option (List ℕ))
-    (answer : Result Found (Stopped (Cause TaskFault))) → IsSure Device answer → is_schedule (lines_of octets) ≡ true
+    (answer : Result FoundInput (Stopped (Cause TaskFault))) → IsSure Device answer → is_schedule (lines_of octets) ≡ true
     → Answers input_rules nothing octets left None None answer
     → IsReadAs schedule_rules (new_state []) found.Schedule Device octets left answer
 schedule_read Device write memory octets left (Ok answer) sure ever all =

@@ -18,7 +18,7 @@ use Rattle.schedule_reading.specs.Schedule.{FaultsIn}
 use Rattle.schedule_reading.specs.Transcript.{Recorded, Follows}
 use Rattle.schedule_reading.proofs.OneFault.{IsInText, where_begun, record_fault, the_record_fault}
 use Rattle.schedule_reading.proofs.OneForm.{one_form, recorded_node, scheduled_node}
-use Rattle.exchange_explain.specs.declared.input.Found.{Found}
+use Rattle.exchange_explain.specs.declared.input.FoundInput.{FoundInput}
 use Rattle.exchange_explain.specs.declared.input.Input.{Input}
 use Rattle.exchange_explain.specs.declared.input.Input.TheVariants.{Transcript, Schedule}
 use Rattle.exchange_explain.specs.Input.{is_schedule_from, is_schedule, Takes, Faults, IsFound, FaultsAtEnd}
@@ -26,7 +26,7 @@ use Rattle.exchange_explain.proofs.OneRead.{FaultsBegun}
 use Rattle.exchange_explain.proofs.Read.{transcript_rules, schedule_rules}
 
 -- how an input is read, whatever is told of it
-abbrev pub input_rules : Rules Input Found TaskFault
+abbrev pub input_rules : Rules Input FoundInput TaskFault
 input_rules = record {
   lines_limit = lines_limit;
   Takes = λ line input later written. (judged : Option Judged) × Takes line input later judged × (written ≡ []);

@@ -22,7 +22,7 @@ use Rattle.schedule_reading.specs.Transcript.{Recorded}
 use Rattle.schedule_reading.proofs.OneFault.{IsInText}
 use Rattle.exchange_explain.specs.declared.explaining.Explained.{Explained}
 use Rattle.exchange_explain.specs.declared.explaining.Explained.TheVariants.{Whole, Flawed}
-use Rattle.exchange_explain.specs.declared.input.Found.{Found}
+use Rattle.exchange_explain.specs.declared.input.FoundInput.{FoundInput}
 use Rattle.exchange_explain.specs.declared.input.Input.{Input}
 use Rattle.exchange_explain.specs.declared.input.Input.TheVariants.{Transcript, Schedule}
 use Rattle.exchange_explain.specs.Input.{nothing, lines_in, Takes, Faults}
@@ -181,14 +181,14 @@ in_front lines count line what flaw =
     )
 
 -- an answer of `explain`, beside how its input is read: where a line can't be read, that, or the fault of one before it
-abbrev pub IsBeside : Result Explained (Stopped (Cause TaskFault)) → Result Found (Stopped (Cause TaskFault)) → Type 0
+abbrev pub IsBeside : Result Explained (Stopped (Cause TaskFault)) → Result FoundInput (Stopped (Cause TaskFault)) → Type 0
 IsBeside (Ok (Whole found)) there = there ≡ Ok found
 IsBeside (Ok (Flawed line what)) there = there ≡ Err (record { line = line; what = Task what })
 IsBeside (Err stop) there = (first : Stopped (Cause TaskFault)) × (there ≡ Err first) × ((first ≡ stop) ⊎ (first.line < stop.line))
 
 pub record IsExplained (Device : TaskFault → Type 0) (octets : List ℕ) (answer : Result Explained (Stopped (Cause TaskFault))) : Type 0 where
   pub left : Option (List ℕ)
-  pub there : Result Found (Stopped (Cause TaskFault))
+  pub there : Result FoundInput (Stopped (Cause TaskFault))
   pub says : Answers input_rules nothing octets left None None there
   pub sure : IsSure Device there
   pub beside : IsBeside answer there
@@ -201,7 +201,7 @@ flawed Device only Field input line other faults device = only Field tt device
 flawed Device only (World why) input line other faults device = only (World why) tt device
 flawed Device only Memory input line other faults device = other refl
 
-explained_whole : (Device : TaskFault → Type 0) (first : Bool) (octets : List ℕ) (left before after : Option (List ℕ)) (found : Found)
+explained_whole : (Device : TaskFault → Type 0) (first : Bool) (octets : List ℕ) (left before after : Option (List ℕ)) (found : FoundInput)
     → AnswersAll explain_rules (unseen first) octets left before after (Whole found) → IsExplained Device octets (Ok (Whole found))
 explained_whole Device first octets left before after found all =
     go (looked 1 (lines_of octets) (unseen first) all.state all.text refl all.taken)

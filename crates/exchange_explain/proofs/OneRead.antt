@@ -20,7 +20,7 @@ use Rattle.schedule_reading.specs.Transcript.{Recorded, Follows, FaultsInTranscr
 use Rattle.schedule_reading.proofs.OneFault.{IsInText, in_text, of_writer, same_fault, entry_fault, the_fault, happens_well}
 use Rattle.schedule_reading.proofs.OneFault.{record_fault, the_record_fault, no_record_fault, one_recorded, no_checker, no_clash}
 use Rattle.schedule_reading.proofs.OneForm.{one_form}
-use Rattle.exchange_explain.specs.declared.input.Found.{Found}
+use Rattle.exchange_explain.specs.declared.input.FoundInput.{FoundInput}
 use Rattle.exchange_explain.specs.declared.input.Input.{Input}
 use Rattle.exchange_explain.specs.declared.input.Input.TheVariants.{Transcript, Schedule}
 use Rattle.exchange_explain.specs.Input.{nothing, Happens, BeginsSchedule, Takes, Faults, IsFound, FaultsAtEnd}
@@ -128,11 +128,11 @@ one_input_fault line (Schedule state) one other own own' faults faults' =
 
 -- ---- the end
 
-one_found : (input : Input) (one other : Found) → IsFound input one → IsFound input other → other ≡ one
+one_found : (input : Input) (one other : FoundInput) → IsFound input one → IsFound input other → other ≡ one
 one_found (Transcript state) one other h k = k.1 ∙ sym h.1
 one_found (Schedule state) one other h k = k ∙ sym h
 
-no_fault_found : (input : Input) (found : Found) (fault : TaskFault) → IsInText fault → IsFound input found → FaultsAtEnd fault input → ⊥
+no_fault_found : (input : Input) (found : FoundInput) (fault : TaskFault) → IsInText fault → IsFound input found → FaultsAtEnd fault input → ⊥
 no_fault_found (Transcript state) found fault own is faults = no_clash fault state.nodes (no_checker fault state own faults) is.0
 no_fault_found (Schedule state) found fault own is faults = faults
 
@@ -177,7 +177,7 @@ judgement_course Device write memory = record {
 
 -- two answers over the same octets that aren't faults of a device or of memory are the same
 pub judges_one : (Device : TaskFault → Type 0) → Device Write → Device Memory → (first : Bool) (octets : List ℕ) (left before after left' before' after' : Option (List ℕ))
-    (answer answer' : Result Found (Stopped (Cause TaskFault))) → Judges first octets left before after answer → Judges first octets left' before' after' answer'
+    (answer answer' : Result FoundInput (Stopped (Cause TaskFault))) → Judges first octets left before after answer → Judges first octets left' before' after' answer'
     → IsSure Device answer → IsSure Device answer' → (answer' ≡ answer) × (left' ≡ left) × ((text : List ℕ) × Appends before after text × Appends before' after' text)
 judges_one Device write memory first =
     answers_one judgement_rules (record { first = first; input = nothing }) Device (judgement_course Device write memory)

@@ -13,7 +13,7 @@ use Rattle.exchange_story.specs.declared.report.Reported.{Reported}
 use Rattle.exchange_story.specs.Counts.{Counts, counts_of, TellsCounts}
 use Rattle.exchange_story.specs.Report.{TellsReport}
 use Rattle.exchange_explain.specs.declared.explaining.Explaining.{Explaining}
-use Rattle.exchange_explain.specs.declared.input.Found.TheVariants as found
+use Rattle.exchange_explain.specs.declared.input.FoundInput.TheVariants as found
 use Rattle.exchange_explain.specs.declared.input.Input.{Input}
 use Rattle.exchange_explain.specs.declared.input.Input.TheVariants.{Transcript, Schedule}
 use Rattle.exchange_explain.specs.Input.{lines_in, Takes, Faults}

@@ -24,8 +24,8 @@ use Rattle.exchange_story.specs.Counts.{counts_of, TellsCounts}
 use Rattle.exchange_story.specs.Report.{TellsReport}
 use Rattle.exchange_explain.specs.declared.explaining.Explained.{Explained}
 use Rattle.exchange_explain.specs.declared.explaining.Explained.TheVariants.{Whole, Flawed}
-use Rattle.exchange_explain.specs.declared.input.Found.{Found}
-use Rattle.exchange_explain.specs.declared.input.Found.TheVariants.{Transcript, Schedule}
+use Rattle.exchange_explain.specs.declared.input.FoundInput.{FoundInput}
+use Rattle.exchange_explain.specs.declared.input.FoundInput.TheVariants.{Transcript, Schedule}
 use Rattle.exchange_explain.specs.declared.input.Input.{Input}
 use Rattle.exchange_explain.specs.Input.{nothing, lines_in, Takes, Faults, IsFound, FaultsAtEnd}
 use Rattle.exchange_explain.specs.Judgements.{is_told}
@@ -99,12 +99,12 @@ happening_text count =
     ++ codes " events, which all happen; 'ptpx replay' makes a transcript of it, which 'ptpx check' judges\n")
 
 -- what an input is: of a transcript its verdict, as `check` tells it
-abbrev pub found_text : Found → List ℕ
+abbrev pub found_text : FoundInput → List ℕ
 found_text (Transcript verdict) = codes "verdict: " ++ verdict_text verdict
 found_text (Schedule count) = happening_text count
 
 -- what is told of what an input is: of a transcript first how many reports there are, and how many fail which conditions
-abbrev pub TellsFound : Found → List (List Why) → List ℕ → Type 0
+abbrev pub TellsFound : FoundInput → List (List Why) → List ℕ → Type 0
 TellsFound (Transcript verdict) reports told =
     (counts : List ℕ) × TellsCounts (counts_of reports) counts × (told ≡ counts ++ found_text (Transcript verdict))
 TellsFound (Schedule count) reports told = told ≡ found_text (Schedule count)

@@ -16,8 +16,8 @@ use Rattle.schedule_reading.specs.declared.transcript.Judged.{Judged}
 use Rattle.schedule_reading.specs.Entry.{entry_in}
 use Rattle.schedule_reading.specs.Schedule.{FaultsIn}
 use Rattle.schedule_reading.specs.Transcript as transcripts
-use Rattle.exchange_explain.specs.declared.input.Found.{Found}
-use Rattle.exchange_explain.specs.declared.input.Found.TheVariants as found
+use Rattle.exchange_explain.specs.declared.input.FoundInput.{FoundInput}
+use Rattle.exchange_explain.specs.declared.input.FoundInput.TheVariants as found
 use Rattle.exchange_explain.specs.declared.input.Input.{Input}
 use Rattle.exchange_explain.specs.declared.input.Input.TheVariants.{Transcript, Schedule}
 
@@ -75,7 +75,7 @@ Faults fault (Transcript state) line =
 Faults fault (Schedule state) line = FaultsIn fault state.network state.run line
 
 -- what a whole input is
-abbrev pub IsFound : Input → Found → Type 0
+abbrev pub IsFound : Input → FoundInput → Type 0
 IsFound (Transcript state) answer =
     (first_clash state.nodes ≡ None) × (answer ≡ found.Transcript (verdict state.nodes state.lines))
 IsFound (Schedule state) answer = answer ≡ found.Schedule (length state.run)

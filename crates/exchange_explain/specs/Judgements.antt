@@ -14,7 +14,7 @@ use Rattle.schedule_reading.specs.declared.fault.TaskFault.TheVariants.{Write}
 use Rattle.schedule_reading.specs.declared.transcript.Judged.{Judged}
 use Rattle.text_lines.specs.Lines.{lines_limit}
 use Rattle.schedule_reading.specs.Fault.{is_write}
-use Rattle.exchange_explain.specs.declared.input.Found.{Found}
+use Rattle.exchange_explain.specs.declared.input.FoundInput.{FoundInput}
 use Rattle.exchange_explain.specs.declared.input.Input.{Input}
 use Rattle.exchange_explain.specs.declared.input.Input.TheVariants.{Transcript, Schedule}
 use Rattle.exchange_explain.specs.Input.{nothing, Takes, Faults, IsFound, FaultsAtEnd}
@@ -53,7 +53,7 @@ StopsJudging first Write input line = (later : Input) × (judged : Option Judged
 StopsJudging first fault input line = Faults fault input line
 
 -- Of each report that is told a line is written; the answer is what the input is.
-abbrev pub judgement_rules : Rules Told Found TaskFault
+abbrev pub judgement_rules : Rules Told FoundInput TaskFault
 judgement_rules = record {
   lines_limit = lines_limit;
   Takes = λ line told later written. (judged : Option Judged) × Takes line told.input later.input judged
@@ -65,14 +65,14 @@ judgement_rules = record {
 }
 
 -- what an answer over these octets says, of what is left of them and of what was written
-abbrev pub Judges : Bool → List ℕ → (left before after : Option (List ℕ)) → Result Found (Stopped (Cause TaskFault))
+abbrev pub Judges : Bool → List ℕ → (left before after : Option (List ℕ)) → Result FoundInput (Stopped (Cause TaskFault))
     → Type 0
 Judges first octets left before after answer =
     Answers judgement_rules (record { first = first; input = nothing }) octets left before after answer
 
 -- what an answer says where the reader tells its octets, and where the writer does
 abbrev pub JudgesAnswer : {R W : Type 0} → Bool → (R → Option (List ℕ)) → (W → Option (List ℕ))
-    → Result Found (Stopped (Cause TaskFault))
+    → Result FoundInput (Stopped (Cause TaskFault))
     → (input input' : Counted R) (output output' : Counted W) → Type 0
 JudgesAnswer first remaining contents answer input input' output output' =
     ForSome (remaining (device_of input)) (λ octets.

@@ -18,7 +18,7 @@ ghost use Rattle.exchange_explain.specs.Inner.Explaining.{IsExplaining, IsKeptAl
 
 use crate::flaws::{Flaws, push_foreign};
 use crate::found::push_found;
-use crate::input::{Found, Input, Taken};
+use crate::input::{FoundInput, Input, Taken};
 use exchange_story::{Before, Reported, Story, push_clash};
 use line_flaws::Foreign;
 use network_model::WorldRefusal;
@@ -34,7 +34,7 @@ use text_lines::{
 #[derive(Clone, Copy, Debug, PartialEq, Eq)]
 pub enum Explained {
     /// It is a whole transcript or a whole schedule.
-    Whole(Found),
+    Whole(FoundInput),
     /// It is neither.
     Flawed {
         /// The line of its first fault, counted from 1.
@@ -277,16 +277,16 @@ impl Explaining {
     }
 
     /// Tells what the input is; of a transcript first how many of its reports fail which conditions.
-    fn tell_found(&mut self, found: Found) -> Result<(), AllocError>
+    fn tell_found(&mut self, found: FoundInput) -> Result<(), AllocError>
         ensures { (reports : List (List Why)) → self.old.story ≡ counts_of reports → string_bytes self.old.text ≡ []
             → OnOk result (TellsFound found reports (string_bytes self.new.text)) }
     {
         match found {
-            Found::Transcript(_) => {
+            FoundInput::Transcript(_) => {
                 self.story.push_tally(&mut self.text)?;
                 push_found(&mut self.text, found)
             }
-            Found::Schedule(_) => push_found(&mut self.text, found),
+            FoundInput::Schedule(_) => push_found(&mut self.text, found),
         }
     }
 

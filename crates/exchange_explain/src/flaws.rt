@@ -3,7 +3,7 @@ ghost use Rattle.std.specs.Prelude.{◌≡◌};
 
 use crate::input::Input;
 use exchange_story::{Before, RefusedEvent, push_clash, push_refused};
-use line_flaws::{Flaw, FlawAt, Foreign, Form, schedule_flaw, transcript_flaw};
+use line_flaws::{FileForm, Flaw, FlawAt, Foreign, schedule_flaw, transcript_flaw};
 use network_model::WorldRefusal;
 use schedule_lines::Line;
 use schedule_reading::{TaskFault, read_entry};
@@ -37,7 +37,7 @@ struct LinesSeen {
     /// Whether the first line is empty, and nothing was told of it yet.
     empty: bool,
     /// What its lines are to be; none before its first event.
-    form: Option<Form>,
+    form: Option<FileForm>,
     /// How many lines have a flaw.
     count: u64,
     /// The place that the next event is to have.
@@ -107,7 +107,7 @@ impl Flaws {
         let line = self.first.line;
         match (self.seen.foreign, self.seen.form) {
             (true, _) => Ok(()),
-            (_, Some(Form::Schedule)) => write!(text, "no event happens from line {line} on\n"),
+            (_, Some(FileForm::Schedule)) => write!(text, "no event happens from line {line} on\n"),
             _ => write!(text, "no report was judged from line {line} on\n"),
         }
     }
@@ -119,9 +119,9 @@ impl LinesSeen {
         let (form, events) = match input {
             Input::Transcript(transcript) => match transcript.events() {
                 0 => (None, 0),
-                events => (Some(Form::Transcript), events),
+                events => (Some(FileForm::Transcript), events),
             },
-            Input::Schedule(schedule) => (Some(Form::Schedule), schedule.len()),
+            Input::Schedule(schedule) => (Some(FileForm::Schedule), schedule.len()),
         };
         LinesSeen {
             foreign: false,
@@ -162,7 +162,7 @@ impl LinesSeen {
             return push_clash(alloc, text, before.nodes, why);
         }
         // Events of a transcript are refused for nothing else.
-        self.form = Some(Form::Schedule);
+        self.form = Some(FileForm::Schedule);
         match read_entry(alloc, line) {
             Ok(Line::Event(event)) => push_refused(
                 text,
@@ -217,7 +217,7 @@ impl LinesSeen {
     ) -> Result<(), AllocError> {
         self.see(line);
         let flaw = match self.form {
-            Some(Form::Schedule) => schedule_flaw(alloc, line, self.events)?,
+            Some(FileForm::Schedule) => schedule_flaw(alloc, line, self.events)?,
             _ => transcript_flaw(alloc, line, self.events)?,
         };
         match flaw {
@@ -245,9 +245,9 @@ impl LinesSeen {
             return;
         }
         self.form = Some(if has_key(line, b"\"out\"") || has_key(line, b"\"n\"") {
-            Form::Transcript
+            FileForm::Transcript
         } else {
-            Form::Schedule
+            FileForm::Schedule
         });
     }
 

@@ -2,20 +2,20 @@
 ghost use Rattle.std.specs.Prelude.{◌≡◌, ◌++◌, OnOk, string_bytes};
 ghost use Rattle.exchange_explain.specs.Explained.{found_text, happening_text};
 
-use crate::input::Found;
+use crate::input::FoundInput;
 use schedule_reading::push_verdict;
 use std::alloc::AllocError;
 
 /// Appends what an input is found to be; of a transcript its verdict.
-pub(crate) fn push_found(text: &mut String, found: Found) -> Result<(), AllocError>
+pub(crate) fn push_found(text: &mut String, found: FoundInput) -> Result<(), AllocError>
     ensures { OnOk result (string_bytes text.new ≡ string_bytes text.old ++ found_text found) }
 {
     match found {
-        Found::Transcript(verdict) => {
+        FoundInput::Transcript(verdict) => {
             text.push_str("verdict: ")?;
             push_verdict(text, verdict)
         }
-        Found::Schedule(count) => push_happening(text, count),
+        FoundInput::Schedule(count) => push_happening(text, count),
     }
 }
 

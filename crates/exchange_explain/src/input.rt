@@ -18,7 +18,7 @@ use std::alloc::Global;
 
 /// What an input is, where it is whole.
 #[derive(Clone, Copy, Debug, PartialEq, Eq)]
-pub enum Found {
+pub enum FoundInput {
     /// A transcript, with this verdict.
     Transcript(Verdict),
     /// A schedule of so many events, which all happen.
@@ -126,14 +126,14 @@ impl Input {
     }
 
     /// What the whole input is.
-    pub(crate) fn found(&self) -> Result<Found, TaskFault>
+    pub(crate) fn found(&self) -> Result<FoundInput, TaskFault>
         ensures { MatchResult result
             (λ found. IsFound self.now found)
             (λ fault. FaultsAtEnd fault self.now) }
     {
         match self {
-            Input::Transcript(transcript) => Ok(Found::Transcript(transcript.verdict()?)),
-            Input::Schedule(scheduled) => Ok(Found::Schedule(scheduled.len())),
+            Input::Transcript(transcript) => Ok(FoundInput::Transcript(transcript.verdict()?)),
+            Input::Schedule(scheduled) => Ok(FoundInput::Schedule(scheduled.len())),
         }
     }
 }

@@ -7,7 +7,7 @@ ghost use Rattle.exchange_explain.specs.Judgements.{Told, is_told, judgement_rul
 ghost use Rattle.exchange_explain.specs.Inner.Noting.{IsNotedIn};
 
 use crate::details::{details_of, note};
-use crate::input::{Found, Input};
+use crate::input::{FoundInput, Input};
 use crate::json::push_judged;
 use exchange_check::Evidence;
 use schedule_reading::TaskFault;
@@ -29,7 +29,7 @@ struct Judging {
 }
 
 impl LineTask for Judging {
-    type Answer = Found;
+    type Answer = FoundInput;
 
     type Fault = TaskFault;
 
@@ -66,7 +66,7 @@ impl LineTask for Judging {
         &mut self,
         _lines: u64,
         _output: &mut Counted<W>,
-    ) -> Result<Found, TaskFault> {
+    ) -> Result<FoundInput, TaskFault> {
         self.input.found()
     }
 }
@@ -96,7 +96,7 @@ pub fn write_judgements<R: Read, W: Write>(
     first: bool,
     input: &mut Counted<R>,
     output: &mut Counted<W>,
-) -> Result<Found, Stopped<Cause<TaskFault>>>
+) -> Result<FoundInput, Stopped<Cause<TaskFault>>>
     ensures judged { JudgesAnswer first R.remaining W.contents result input.old input.new output.old output.new }
     // Of any reader only so much is read, whatever the writer is.
     ensures bounded { GivesWithin R.remaining (input_limit lines_limit) input.old input.new }

@@ -13,5 +13,5 @@ mod schedule;
 
 pub use details::{Details, Octets};
 pub use explaining::{Explained, explain};
-pub use input::Found;
+pub use input::FoundInput;
 pub use judgements::write_judgements;

@@ -2,7 +2,7 @@
 use Rattle.std.proofs.Common.{◌≡◌, ◌+◌, ◌*◌, pos, negsuc, codes, None, refl}
 use Rattle.std.specs.Fmt.{digits}
 use Rattle.ptp_units.specs.Nanoseconds.{decimals}
-use Rattle.slave_port.specs.declared.exchange.Exchange.{Exchange}
+use Rattle.slave_port.specs.declared.exchange.LastExchange.{LastExchange}
 use Rattle.slave_port.specs.Exchange.{IsReportOf}
 use Rattle.capture_lines.specs.declared.measurement.Half.TheVariants.{Response}
 use Rattle.capture_lines.specs.Measurement.{Measured}
@@ -24,7 +24,7 @@ measured = record {
   };
 }
 
-abbrev exchange : Exchange
+abbrev exchange : LastExchange
 exchange = record {
   t1 = 1000000000 * 65536;
   t2 = 1000001000 * 65536;

@@ -2,30 +2,30 @@
 use Rattle.std.specs.Prelude.{◌≡◌, ℕ, ◌*◌, ℤ, pos, ◌+ℤ◌, ◌-ℤ◌, ◌*ℤ◌, List, ◌++◌, codes}
 use Rattle.std.specs.Fmt.{decimal, signed_decimal}
 use Rattle.ptp_units.specs.Nanoseconds.{nanoseconds_text}
-use Rattle.slave_port.specs.declared.exchange.Exchange.{Exchange}
+use Rattle.slave_port.specs.declared.exchange.LastExchange.{LastExchange}
 use Rattle.slave_port.specs.declared.heard.Report.{Report}
 use Rattle.slave_port.specs.Exchange.{age, IsReportOf}
 use Rattle.capture_lines.specs.Measurement.{Measured, half_text, follow_text}
 use Rattle.exchange_lines.specs.Moment.{moment_text}
 
 -- the correction of Sync and Follow_Up together, and that of the Delay_Resp
-abbrev pub sync_correction : Exchange → ℤ
+abbrev pub sync_correction : LastExchange → ℤ
 sync_correction x = x.sync_correction +ℤ x.follow_correction
 
 -- the same in halves of 2^-16 ns
-abbrev pub sync_correction2 : Exchange → ℤ
+abbrev pub sync_correction2 : LastExchange → ℤ
 sync_correction2 x = pos 2 *ℤ sync_correction x
 
 -- that of the Delay_Resp in halves of 2^-16 ns
-abbrev pub delay_correction2 : Exchange → ℤ
+abbrev pub delay_correction2 : LastExchange → ℤ
 delay_correction2 x = pos 2 *ℤ x.response_correction
 
 -- the time between t2 and t3, whichever is later, in halves of 2^-16 ns
-unfoldable pub between2 : Exchange → ℤ
+unfoldable pub between2 : LastExchange → ℤ
 between2 x = pos (2 * age x)
 
 -- what begins the JSON of a measurement: its results and numbers
-abbrev pub json_results : Measured → Exchange → List ℕ
+abbrev pub json_results : Measured → LastExchange → List ℕ
 json_results m x =
     codes "{\"by\":\"" ++ half_text m.by
     ++ codes "\",\"delay_correction\":\"" ++ nanoseconds_text (delay_correction2 x)
@@ -39,7 +39,7 @@ json_results m x =
     ++ codes "\",\"sync_number\":" ++ decimal x.sync_number.0
 
 -- the four times, each with all its decimals
-abbrev pub json_times : Exchange → List ℕ
+abbrev pub json_times : LastExchange → List ℕ
 json_times x =
     codes ",\"t1\":\"" ++ moment_text x.t1
     ++ codes "\",\"t2\":\"" ++ moment_text x.t2
@@ -59,7 +59,7 @@ json_tags m =
     ++ codes "\"}\n"
 
 -- a measurement with its exchange as JSON, in one line
-abbrev pub json_text : Measured → Exchange → List ℕ
+abbrev pub json_text : Measured → LastExchange → List ℕ
 json_text m x = json_results m x ++ (json_times x ++ json_tags m)
 
 -- the line above all rows
@@ -76,7 +76,7 @@ row_results m =
     ++ codes "," ++ decimal m.line
 
 -- the four times
-abbrev pub row_times : Exchange → List ℕ
+abbrev pub row_times : LastExchange → List ℕ
 row_times x =
     codes "," ++ moment_text x.t1
     ++ codes "," ++ moment_text x.t2
@@ -84,7 +84,7 @@ row_times x =
     ++ codes "," ++ moment_text x.t4
 
 -- the corrections and the numbers
-abbrev pub row_numbers : Exchange → List ℕ
+abbrev pub row_numbers : LastExchange → List ℕ
 row_numbers x =
     codes "," ++ nanoseconds_text (sync_correction2 x)
     ++ codes "," ++ nanoseconds_text (delay_correction2 x)
@@ -94,20 +94,20 @@ row_numbers x =
     ++ codes "\n"
 
 -- a measurement with its exchange as a row of the table
-abbrev pub row_text : Measured → Exchange → List ℕ
+abbrev pub row_text : Measured → LastExchange → List ℕ
 row_text m x = row_results m ++ (row_times x ++ row_numbers x)
 
 -- ---- the four times give the two results
 -- how long the Sync was on its way, by both clocks, and how long the Delay_Req
-abbrev pub sync_way : Exchange → ℤ
+abbrev pub sync_way : LastExchange → ℤ
 sync_way x = (pos x.t2 -ℤ pos x.t1) -ℤ sync_correction x
 
-abbrev pub request_way : Exchange → ℤ
+abbrev pub request_way : LastExchange → ℤ
 request_way x = (pos x.t4 -ℤ x.response_correction) -ℤ pos x.t3
 
 -- a report that is of an exchange has the difference and the sum of the two (IEEE 1588-2019, 11.3), by the numbers in
 -- its line
 abbrev pub EachOffsetIsOfItsTimes : Type 0
 EachOffsetIsOfItsTimes =
-    (x : Exchange) (report : Report) → IsReportOf x report
+    (x : LastExchange) (report : Report) → IsReportOf x report
     → (report.offset2 ≡ sync_way x -ℤ request_way x) × (report.path2 ≡ sync_way x +ℤ request_way x)

@@ -8,7 +8,7 @@ ghost use Rattle.exchange_lines.specs.Exchange.{sync_correction2, delay_correcti
 use crate::moment::Moment;
 use capture_lines::Measurement;
 use ptp_units::Nanoseconds;
-use slave_port::Exchange;
+use slave_port::LastExchange;
 use std::alloc::AllocError;
 use std::fmt;
 use std::fmt::{Display, Formatter};
@@ -29,7 +29,7 @@ impl Display for Follow {
 }
 
 /// The correction of Sync and Follow_Up together.
-fn sync_correction(exchange: &Exchange) -> Nanoseconds
+fn sync_correction(exchange: &LastExchange) -> Nanoseconds
     ensures { result.0 ≡ sync_correction2 exchange.now }
 {
     let sum = i128::from(exchange.sync_correction) + i128::from(exchange.follow_correction);
@@ -37,7 +37,7 @@ fn sync_correction(exchange: &Exchange) -> Nanoseconds
 }
 
 /// The correction of the Delay_Resp.
-fn delay_correction(exchange: &Exchange) -> Nanoseconds
+fn delay_correction(exchange: &LastExchange) -> Nanoseconds
     ensures { result.0 ≡ delay_correction2 exchange.now }
 {
     Nanoseconds(2 * i128::from(exchange.response_correction))
@@ -45,7 +45,7 @@ fn delay_correction(exchange: &Exchange) -> Nanoseconds
 
 /// The time between t2 and t3, whichever is later.
 #[tactic(auto, unfolding(crate::specs::Exchange::between2))]
-fn between(exchange: &Exchange) -> Nanoseconds
+fn between(exchange: &LastExchange) -> Nanoseconds
     ensures { result.0 ≡ between2 exchange.now }
 {
     Nanoseconds(2 * (exchange.age() as i128))
@@ -55,7 +55,7 @@ fn between(exchange: &Exchange) -> Nanoseconds
 fn push_json_results(
     text: &mut String,
     measured: &Measurement<'_>,
-    exchange: &Exchange,
+    exchange: &LastExchange,
 ) -> Result<(), AllocError>
     ensures { OnOk result (string_bytes text.new ≡ string_bytes text.old ++ json_results (measured_of measured.now) exchange.now) }
 {
@@ -84,7 +84,7 @@ fn push_json_results(
 }
 
 /// Appends the four times, and the time between two of them.
-fn push_json_times(text: &mut String, exchange: &Exchange) -> Result<(), AllocError>
+fn push_json_times(text: &mut String, exchange: &LastExchange) -> Result<(), AllocError>
     ensures { OnOk result (string_bytes text.new ≡ string_bytes text.old ++ json_times exchange.now) }
 {
     write!(
@@ -118,7 +118,7 @@ fn push_json_tags(text: &mut String, measured: &Measurement<'_>) -> Result<(), A
 pub fn push_json(
     text: &mut String,
     measured: &Measurement<'_>,
-    exchange: &Exchange,
+    exchange: &LastExchange,
 ) -> Result<(), AllocError>
     ensures { OnOk result (string_bytes text.new ≡ string_bytes text.old ++ json_text (measured_of measured.now) exchange.now) }
 {
@@ -153,7 +153,7 @@ fn push_row_results(text: &mut String, measured: &Measurement<'_>) -> Result<(),
 }
 
 /// Appends the four times of a row.
-fn push_row_times(text: &mut String, exchange: &Exchange) -> Result<(), AllocError>
+fn push_row_times(text: &mut String, exchange: &LastExchange) -> Result<(), AllocError>
     ensures { OnOk result (string_bytes text.new ≡ string_bytes text.old ++ row_times exchange.now) }
 {
     write!(
@@ -167,7 +167,7 @@ fn push_row_times(text: &mut String, exchange: &Exchange) -> Result<(), AllocErr
 }
 
 /// Appends the corrections and the numbers of a row.
-fn push_row_numbers(text: &mut String, exchange: &Exchange) -> Result<(), AllocError>
+fn push_row_numbers(text: &mut String, exchange: &LastExchange) -> Result<(), AllocError>
     ensures { OnOk result (string_bytes text.new ≡ string_bytes text.old ++ row_numbers exchange.now) }
 {
     write!(
@@ -185,7 +185,7 @@ fn push_row_numbers(text: &mut String, exchange: &Exchange) -> Result<(), AllocE
 pub fn push_row(
     text: &mut String,
     measured: &Measurement<'_>,
-    exchange: &Exchange,
+    exchange: &LastExchange,
 ) -> Result<(), AllocError>
     ensures { OnOk result (string_bytes text.new ≡ string_bytes text.old ++ row_text (measured_of measured.now) exchange.now) }
 {

@@ -23,8 +23,8 @@ use Rattle.transcript_text.specs.Replay.{replay_rules}
 use Rattle.transcript_text.proofs.OneAnswer.{IsDevices, sure_cause, told_as, IsTold, is_told}
 use Rattle.exchange_explain.specs.declared.explaining.Explained.{Explained}
 use Rattle.exchange_explain.specs.declared.explaining.Explained.TheVariants.{Whole, Flawed}
-use Rattle.exchange_explain.specs.declared.input.Found.{Found}
-use Rattle.exchange_explain.specs.declared.input.Found.TheVariants.{Transcript, Schedule}
+use Rattle.exchange_explain.specs.declared.input.FoundInput.{FoundInput}
+use Rattle.exchange_explain.specs.declared.input.FoundInput.TheVariants.{Transcript, Schedule}
 use Rattle.exchange_explain.proofs.OneRead.{judges_one}
 use Rattle.exchange_explain.proofs.Read.{transcript_rules, transcript_course, Does, schedule_rules, schedule_course}
 use Rattle.exchange_explain.proofs.Answered.{judged_read, IsReadAs, transcript_read, schedule_read}
@@ -87,20 +87,20 @@ replays_read = record {
 -- ---- beside each other
 
 -- answers over the same octets by the same rules, told in two ways
-beside : {S A : Type 0} (rules reads : Rules S A TaskFault) (start : S) (of : A → Found) → IsReadBy rules reads (λ (s : S). s) IsDevices → HasOneCourse reads IsDevices
-    → (octets : List ℕ) (left left' before' after' : Option (List ℕ)) (said : Result Found (Stopped (Cause TaskFault))) (answer : Result A Fault)
+beside : {S A : Type 0} (rules reads : Rules S A TaskFault) (start : S) (of : A → FoundInput) → IsReadBy rules reads (λ (s : S). s) IsDevices → HasOneCourse reads IsDevices
+    → (octets : List ℕ) (left left' before' after' : Option (List ℕ)) (said : Result FoundInput (Stopped (Cause TaskFault))) (answer : Result A Fault)
     → IsReadAs reads start of IsDevices octets left said → IsTold of_task rules start octets left' before' after' answer → IsSame of said answer × (left' ≡ left)
 beside rules reads start of by sole octets left left' before' after' said answer one other =
     let there = answers_read rules reads (λ s. s) IsDevices by start octets left' before' after' other.there other.sure other.says in
     let same = answers_one reads start IsDevices sole octets left None None left' None None one.there other.there one.says there one.sure other.sure in (
-      ap (result_map_both (λ (found : Found). found) fault_told) one.same ∙ told of one.there
+      ap (result_map_both (λ (found : FoundInput). found) fault_told) one.same ∙ told of one.there
           ∙ ap (λ r. result_map_both of (λ (fault : Fault). fault) (told_as of_task r)) (sym same.0)
           ∙ ap (result_map_both of (λ (fault : Fault). fault)) other.told,
       same.1,
     )
   where
-    told : {A : Type 0} (of : A → Found) (there : Result A (Stopped (Cause TaskFault)))
-        → result_map_both (λ (found : Found). found) fault_told (result_map_both of (λ (stop : Stopped (Cause TaskFault)). stop) there)
+    told : {A : Type 0} (of : A → FoundInput) (there : Result A (Stopped (Cause TaskFault)))
+        → result_map_both (λ (found : FoundInput). found) fault_told (result_map_both of (λ (stop : Stopped (Cause TaskFault)). stop) there)
         ≡ result_map_both of (λ (fault : Fault). fault) (told_as of_task there)
     told of (Ok answer) = refl
     told of (Err stop) = refl
@@ -122,14 +122,14 @@ judges_as_checked = record {
 -- ---- `explain`
 
 -- an answer of `explain`, by how its input is read
-looked_beside : {A : Type 0} (of : A → Found) (said : Result Explained (Stopped (Cause TaskFault))) (there : Result Found (Stopped (Cause TaskFault))) (answer : Result A Fault)
+looked_beside : {A : Type 0} (of : A → FoundInput) (said : Result Explained (Stopped (Cause TaskFault))) (there : Result FoundInput (Stopped (Cause TaskFault))) (answer : Result A Fault)
     → IsReadBeside said there → IsSame of there answer → IsBeside of said answer
-looked_beside of (Ok (Whole found)) there answer is same = subst (λ (r : Result Found (Stopped (Cause TaskFault))). IsSame of r answer) is same
-looked_beside of (Ok (Flawed line what)) there answer is same = subst (λ (r : Result Found (Stopped (Cause TaskFault))). IsSame of r answer) is same
+looked_beside of (Ok (Whole found)) there answer is same = subst (λ (r : Result FoundInput (Stopped (Cause TaskFault))). IsSame of r answer) is same
+looked_beside of (Ok (Flawed line what)) there answer is same = subst (λ (r : Result FoundInput (Stopped (Cause TaskFault))). IsSame of r answer) is same
 looked_beside {A} of (Err stop) there answer (first, is, inl first_is) same =
-    inl (subst (λ (r : Result Found (Stopped (Cause TaskFault))). IsSame of r answer) (is ∙ ap Err first_is) same)
+    inl (subst (λ (r : Result FoundInput (Stopped (Cause TaskFault))). IsSame of r answer) (is ∙ ap Err first_is) same)
 looked_beside {A} of (Err stop) there answer (first, is, inr before) same =
-    inr (fault_told first, fault_is answer (subst (λ (r : Result Found (Stopped (Cause TaskFault))). IsSame of r answer) is same), before)
+    inr (fault_told first, fault_is answer (subst (λ (r : Result FoundInput (Stopped (Cause TaskFault))). IsSame of r answer) is same), before)
   where
     fault_is : (answer : Result A Fault) → IsSame of (Err first) answer → answer ≡ Err (fault_told first)
     fault_is (Ok found) same = absurd cc

@@ -21,8 +21,8 @@ use Rattle.exchange_explain.specs.declared.details.Details.{Details}
 use Rattle.exchange_explain.specs.declared.details.Octets.TheVariants.{Told}
 use Rattle.exchange_explain.specs.Judged.{judged_text}
 use Rattle.exchange_explain.specs.declared.explaining.Explained.TheVariants.{Flawed}
-use Rattle.exchange_explain.specs.declared.input.Found.{Found}
-use Rattle.exchange_explain.specs.declared.input.Found.TheVariants.{Transcript, Schedule}
+use Rattle.exchange_explain.specs.declared.input.FoundInput.{FoundInput}
+use Rattle.exchange_explain.specs.declared.input.FoundInput.TheVariants.{Transcript, Schedule}
 use Rattle.exchange_explain.specs.Input.{is_schedule}
 use Rattle.exchange_explain.specs.Judgements.{Judges}
 use Rattle.exchange_explain.proofs.Worked.{clock, clock_recorded, clock_scheduled, no_json, x_recorded, no_json_is, no_json_judged, no_json_explained}
@@ -117,7 +117,7 @@ no_json_beside : IsBeside Transcript (Ok (Flawed 2 Json)) (Err (record { line = 
 no_json_beside = explains_as_checked.transcript false no_json (Some []) None None (Some []) None None 0 0 (Ok (Flawed 2 Json))
     (Err (record { line = 2; what = kinds.Json })) no_json_is no_json_explained no_json_checked tt (λ device. device)
 
-no_json_one : (left after : Option (List ℕ)) (answer : Result Found (Stopped (Cause TaskFault))) → Judges false no_json left (Some []) after answer → IsOfInput task_kind answer
+no_json_one : (left after : Option (List ℕ)) (answer : Result FoundInput (Stopped (Cause TaskFault))) → Judges false no_json left (Some []) after answer → IsOfInput task_kind answer
     → answer ≡ Err (record { line = 2; what = Task Json })
 no_json_one left after answer says sure =
     (judgements_one false no_json (Some []) None None left (Some []) after (Err (record { line = 2; what = Task Json })) answer no_json_judged says (λ device. device) sure).0

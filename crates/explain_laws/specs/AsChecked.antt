@@ -15,8 +15,8 @@ use Rattle.transcript_text.specs.OneAnswer.{IsOfInput, HasOneAnswer}
 use Rattle.transcript_text.specs.Replay.{Replays}
 use Rattle.exchange_explain.specs.declared.explaining.Explained.{Explained}
 use Rattle.exchange_explain.specs.declared.explaining.Explained.TheVariants.{Whole, Flawed}
-use Rattle.exchange_explain.specs.declared.input.Found.{Found}
-use Rattle.exchange_explain.specs.declared.input.Found.TheVariants.{Transcript, Schedule}
+use Rattle.exchange_explain.specs.declared.input.FoundInput.{FoundInput}
+use Rattle.exchange_explain.specs.declared.input.FoundInput.TheVariants.{Transcript, Schedule}
 use Rattle.exchange_explain.specs.Explained.{Explains}
 use Rattle.exchange_explain.specs.Input.{is_schedule}
 use Rattle.exchange_explain.specs.Judgements.{Judges}
@@ -31,7 +31,7 @@ fault_told stop = record { line = stop.line; what = task_kind stop }
 
 -- this and that answer are the same, where what one finds is told so: the verdict or the number of events, or the fault
 -- at its line
-abbrev pub IsSame : {A : Type 0} → (A → Found) → Result Found (Stopped (Cause TaskFault)) → Result A Fault → Type 0
+abbrev pub IsSame : {A : Type 0} → (A → FoundInput) → Result FoundInput (Stopped (Cause TaskFault)) → Result A Fault → Type 0
 IsSame of said answer =
     result_map_both (λ found. found) fault_told said ≡ result_map_both of (λ fault. fault) answer
 
@@ -41,10 +41,10 @@ Answering A = List ℕ → (left before after : Option (List ℕ)) → Result A 
 
 -- Over octets of which this says whether they are a schedule, `write_judgements` and another call have the same answer,
 -- and leave the same octets.
-abbrev pub EachIsJudgedSo : {A : Type 0} → Bool → (A → Found) → Answering A → Type 0
+abbrev pub EachIsJudgedSo : {A : Type 0} → Bool → (A → FoundInput) → Answering A → Type 0
 EachIsJudgedSo {A} schedule of Says =
     (first : Bool) (octets : List ℕ) (left before after left' before' after' : Option (List ℕ))
-    (said : Result Found (Stopped (Cause TaskFault))) (answer : Result A Fault)
+    (said : Result FoundInput (Stopped (Cause TaskFault))) (answer : Result A Fault)
     → is_schedule (lines_of octets) ≡ schedule → Judges first octets left before after said
     → Says octets left' before' after' answer → IsOfInput task_kind said → IsOfInput kind_at answer
     → IsSame of said answer × (left' ≡ left)
@@ -56,14 +56,14 @@ pub record JudgesAsChecked : Type 0 where
 
 -- An answer of `explain` beside this one: what it finds, or its first fault, is the same. Since text is looked at behind
 -- the first fault, too, a line that can't be read may stand behind the fault of the other answer.
-abbrev pub IsBeside : {A : Type 0} → (A → Found) → Result Explained (Stopped (Cause TaskFault)) → Result A Fault → Type 0
+abbrev pub IsBeside : {A : Type 0} → (A → FoundInput) → Result Explained (Stopped (Cause TaskFault)) → Result A Fault → Type 0
 IsBeside of (Ok (Whole found)) answer = IsSame of (Ok found) answer
 IsBeside of (Ok (Flawed line what)) answer = IsSame of (Err (record { line = line; what = Task what })) answer
 IsBeside of (Err stop) answer =
     IsSame of (Err stop) answer ⊎ ((fault : Fault) × (answer ≡ Err fault) × (fault.line < stop.line))
 
 -- Over octets of which this says whether they are a schedule, `explain` answers so beside another call.
-abbrev pub EachIsExplainedSo : {A : Type 0} → Bool → (A → Found) → Answering A → Type 0
+abbrev pub EachIsExplainedSo : {A : Type 0} → Bool → (A → FoundInput) → Answering A → Type 0
 EachIsExplainedSo {A} schedule of Says =
     (first : Bool) (octets : List ℕ) (left before after left' before' after' : Option (List ℕ)) (failures failures' : ℕ)
     (said : Result Explained (Stopped (Cause TaskFault))) (answer : Result A Fault)

@@ -16,7 +16,7 @@ use Rattle.pairing.proofs.Lists.{take-more, take-nil}
 use Rattle.tap_choice.specs.declared.met.Met.{Met}
 use Rattle.tap_choice.specs.declared.met.Side.{Side}
 use Rattle.tap_choice.specs.declared.met.Side.TheVariants as taps
-use Rattle.tap_choice.specs.declared.wanted.Wanted.{Wanted}
+use Rattle.tap_choice.specs.declared.wanted.WantedTaps.{WantedTaps}
 use Rattle.tap_choice.specs.Known.{Known, noticed_as, told_by, met_sync, with_sync, by_side, from_by, is_of, earlier_side, other_side, sync_domain, sync_master, syncs_at}
 use Rattle.following_laws.specs.Choice.{known_after, is_sync, is_wanted_domain, is_wanted_master, only_if, first_wanted, domain_told, master_told, TellsWhom, is_from, is_sync_of, is_of_master, is_same_side, is_sync_at, is_named_at, IsNewestAt, IsMetAtBoth, earlier_of, IsFirstOf, ChoosesWhereMetFirst, ChoosesOnceMetAtBoth}
 
@@ -36,7 +36,7 @@ met_keeps capacity m k = at (is_of k m.header)
     at true = by m.side (record k { from = option_or k.from (from_by m k) })
     at false = (refl, refl)
 
-module _ (capacity : ℕ) (w : Wanted) where
+module _ (capacity : ℕ) (w : WantedTaps) where
   -- whom one more Sync tells: nobody new, where both are told
   domain_stays : (d : Option ℕ) (p : Option PortIdentity) (h : Header) → is_some d ≡ true → sync_domain d p h ≡ d
   domain_stays None p h some = absurd (false≢true some)
@@ -260,7 +260,7 @@ module _ (capacity : ℕ) (domain : Option ℕ) (master : Option PortIdentity) w
   of_it m = is_sync_of domain master m
 
   -- what is kept after messages
-  pub kept_after : (w : Wanted) (met : List Met) → w.from ≡ None → w.to ≡ None → Agrees (known_after capacity w met)
+  pub kept_after : (w : WantedTaps) (met : List Met) → w.from ≡ None → w.to ≡ None → Agrees (known_after capacity w met)
       → IsKept capacity (known_after capacity w met) (from_in capacity of_it met) (entries_at capacity of_it taps.First met) (entries_at capacity of_it taps.Second met)
   kept_after w [] from_none to_none agrees = record {
     from_is = rw (from_none, to_none) refl;
@@ -526,7 +526,7 @@ module _ (capacity : ℕ) (of_master : Met → Bool) where
           ∙ sym is.from_is))
 
 -- what is known agrees with what was told
-agrees_with : (capacity : ℕ) (w : Wanted) (met : List Met) → Agrees capacity (domain_told w met) (master_told w met) (known_after capacity w met)
+agrees_with : (capacity : ℕ) (w : WantedTaps) (met : List Met) → Agrees capacity (domain_told w met) (master_told w met) (known_after capacity w met)
 agrees_with capacity w met =
     let told = tells_whom capacity w met in
     (ap (λ d. option_or d (domain_told w met)) told.0 ∙ twice (domain_told w met), ap (λ p. option_or p (master_told w met)) told.1 ∙ twice (master_told w met))
@@ -535,7 +535,7 @@ agrees_with capacity w met =
     twice None = refl
     twice (Some x) = refl
 
-from_known : (capacity : ℕ) (w : Wanted) (met : List Met) → w.from ≡ None → w.to ≡ None
+from_known : (capacity : ℕ) (w : WantedTaps) (met : List Met) → w.from ≡ None → w.to ≡ None
     → (known_after capacity w met).from ≡ from_in capacity (is_of_master w met) met
 from_known capacity w met from_none to_none =
     (kept_after capacity (domain_told w met) (master_told w met) w met from_none to_none (agrees_with capacity w met)).from_is

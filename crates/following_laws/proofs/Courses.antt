@@ -6,7 +6,7 @@ use Rattle.tap_choice.specs.declared.choice.Pair.{Pair}
 use Rattle.tap_choice.specs.declared.met.Met.{Met}
 use Rattle.tap_choice.specs.declared.met.Side.{Side}
 use Rattle.tap_choice.specs.declared.sides.Sides.{Sides}
-use Rattle.tap_choice.specs.declared.wanted.Wanted.{Wanted}
+use Rattle.tap_choice.specs.declared.wanted.WantedTaps.{WantedTaps}
 use Rattle.tap_choice.specs.Known.{Known, noticed, pair_of, other_side}
 use Rattle.tap_following.specs.declared.followed.Followed.{Followed}
 use Rattle.tap_following.specs.Followed.{slave_in}
@@ -39,7 +39,7 @@ by_names enough slave pair None to_name f is = cc
 by_names enough slave pair (Some n) None f is = cc
 by_names enough slave pair (Some n) (Some o) f is = with_from enough slave pair n o f is
 
-by_pair : (enough : Bool) (w : Wanted) (s : Sides) (k : Known) (met : List Met) (f : Followed) (o : Option Pair) → pair_of k ≡ o
+by_pair : (enough : Bool) (w : WantedTaps) (s : Sides) (k : Known) (met : List Met) (f : Followed) (o : Option Pair) → pair_of k ≡ o
     → option_and_then (λ (pair : Pair). option_and_then (λ from_name. option_and_then
     (λ to_name. followed_with enough (slave_in w.slave pair.domain pair.from met) pair from_name to_name)
     (name_at s (other_side pair.from))) (name_at s pair.from)) o ≡ Some f → k.from ≡ Some f.from
@@ -48,7 +48,7 @@ by_pair enough w s k met f (Some pair) pair_is is =
     pair_from k.domain k.master k.from k pair refl refl refl pair_is
     ∙ ap Some (by_names enough (slave_in w.slave pair.domain pair.from met) pair (name_at s pair.from) (name_at s (other_side pair.from)) f is)
 
-by_followed : (enough : Bool) (w : Wanted) (s : Sides) (k : Known) (met : List Met) (f : Followed) → followed_by enough w s k met ≡ Some f → k.from ≡ Some f.from
+by_followed : (enough : Bool) (w : WantedTaps) (s : Sides) (k : Known) (met : List Met) (f : Followed) → followed_by enough w s k met ≡ Some f → k.from ≡ Some f.from
 by_followed enough w s k met f is = by_pair enough w s k met f (pair_of k) refl is
 
 after_known : (m : Met) (c : Course) (o : Option Followed) → c.followed ≡ o → IsByChoice c → IsByChoice (after_as o m c)

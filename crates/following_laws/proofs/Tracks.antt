@@ -16,7 +16,7 @@ use Rattle.tap_crossing.specs.declared.places.Record.{Record}
 use Rattle.tap_crossing.specs.declared.places.Record.TheVariants as standings
 use Rattle.tap_crossing.specs.declared.crossing.Crossing.{Crossing}
 use Rattle.tap_crossing.specs.declared.crossing.NoCrossing.{NoCrossing}
-use Rattle.tap_crossing.specs.declared.crossing.Outcome.TheVariants as outcomes
+use Rattle.tap_crossing.specs.declared.crossing.MessageOutcome.TheVariants as outcomes
 use Rattle.tap_crossing.specs.Crossing.{crossing, no_crossing}
 use Rattle.tap_crossing.specs.Record.{place_in, with_place, complete, after}
 use Rattle.tap_crossing.specs.Records.{unclosed, with, new_record, joined, open_record, is_same_kind, records}

@@ -7,11 +7,11 @@ use Rattle.event_codec.specs.declared.port.PortIdentity.{PortIdentity}
 use Rattle.tap_choice.specs.declared.met.Met.{Met}
 use Rattle.tap_choice.specs.declared.met.Side.{Side}
 use Rattle.tap_choice.specs.declared.met.Side.TheVariants as taps
-use Rattle.tap_choice.specs.declared.wanted.Wanted.{Wanted}
+use Rattle.tap_choice.specs.declared.wanted.WantedTaps.{WantedTaps}
 use Rattle.following_laws.specs.Choice.{known_after, is_of_master, IsMetAtBoth, IsFirstOf}
 use Rattle.following_laws.proofs.Choices.{chooses_first}
 
-abbrev nothing_asked : Wanted
+abbrev nothing_asked : WantedTaps
 nothing_asked = record { from = None; to = None; domain = None; master = None; slave = None }
 
 abbrev master : PortIdentity

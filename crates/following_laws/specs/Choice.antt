@@ -11,11 +11,11 @@ use Rattle.event_codec.specs.Port.{is_same_port}
 use Rattle.tap_choice.specs.declared.met.Met.{Met}
 use Rattle.tap_choice.specs.declared.met.Side.{Side}
 use Rattle.tap_choice.specs.declared.met.Side.TheVariants as taps
-use Rattle.tap_choice.specs.declared.wanted.Wanted.{Wanted}
+use Rattle.tap_choice.specs.declared.wanted.WantedTaps.{WantedTaps}
 use Rattle.tap_choice.specs.Known.{Known, asked, noticed, other_side}
 
 -- what is known once these messages were met
-abbrev pub known_after : (capacity : ℕ) → Wanted → List Met → Known
+abbrev pub known_after : (capacity : ℕ) → WantedTaps → List Met → Known
 known_after capacity w [] = asked w
 known_after capacity w (m ∷ earlier) = noticed capacity m (known_after capacity w earlier)
 
@@ -35,27 +35,27 @@ is_wanted_master None source = true
 is_wanted_master (Some wanted) source = is_same_port source wanted
 
 -- a Sync of the domain and the master that are asked for, as far as they are
-abbrev pub is_wanted : Wanted → Met → Bool
+abbrev pub is_wanted : WantedTaps → Met → Bool
 is_wanted w m = is_sync m.body && is_wanted_domain w.domain m.header.domain && is_wanted_master w.master m.header.source
 
 abbrev pub only_if : Bool → Met → Option Met
 only_if is m = if is then Some m else None
 
 -- the first of these
-abbrev pub first_wanted : Wanted → List Met → Option Met
+abbrev pub first_wanted : WantedTaps → List Met → Option Met
 first_wanted w [] = None
 first_wanted w (m ∷ earlier) = option_or (first_wanted w earlier) (only_if (is_wanted w m) m)
 
 -- the domain and the master: those that are asked for, or else those of this Sync
-abbrev pub domain_told : Wanted → List Met → Option ℕ
+abbrev pub domain_told : WantedTaps → List Met → Option ℕ
 domain_told w met = option_or w.domain (option_map (λ m. m.header.domain) (first_wanted w met))
 
-abbrev pub master_told : Wanted → List Met → Option PortIdentity
+abbrev pub master_told : WantedTaps → List Met → Option PortIdentity
 master_told w met = option_or w.master (option_map (λ m. m.header.source) (first_wanted w met))
 
 -- whom these messages tell
 abbrev pub TellsWhom : Type 0
-TellsWhom = (capacity : ℕ) (w : Wanted) (met : List Met)
+TellsWhom = (capacity : ℕ) (w : WantedTaps) (met : List Met)
     → ((known_after capacity w met).domain ≡ domain_told w met) × ((known_after capacity w met).master ≡ master_told w met)
 
 -- of this master in this domain, where both are known
@@ -68,7 +68,7 @@ abbrev pub is_sync_of : Option ℕ → Option PortIdentity → Met → Bool
 is_sync_of domain master m = is_sync m.body && is_from domain master m.header
 
 -- a Sync of the master by these messages
-abbrev pub is_of_master : Wanted → List Met → Met → Bool
+abbrev pub is_of_master : WantedTaps → List Met → Met → Bool
 is_of_master w met m = is_sync_of (domain_told w met) (master_told w met) m
 
 -- both are one tap
@@ -122,10 +122,10 @@ pub record IsFirstOf (capacity : ℕ) (of_master : Met → Bool) (met : List Met
 
 -- where no tap is asked for, `from` is this one just where that is so
 abbrev pub ChoosesWhereMetFirst : Type 0
-ChoosesWhereMetFirst = (capacity : ℕ) (w : Wanted) (met : List Met) (from : Side) → w.from ≡ None → w.to ≡ None
+ChoosesWhereMetFirst = (capacity : ℕ) (w : WantedTaps) (met : List Met) (from : Side) → w.from ≡ None → w.to ≡ None
     → ((known_after capacity w met).from ≡ Some from) ↔ IsFirstOf capacity (is_of_master w met) met from
 
 -- and it is known just where some Sync was met at both
 abbrev pub ChoosesOnceMetAtBoth : Type 0
-ChoosesOnceMetAtBoth = (capacity : ℕ) (w : Wanted) (met : List Met) → w.from ≡ None → w.to ≡ None
+ChoosesOnceMetAtBoth = (capacity : ℕ) (w : WantedTaps) (met : List Met) → w.from ≡ None → w.to ≡ None
     → (sync other : Met) → IsMetAtBoth capacity (is_of_master w met) met sync other → IsSome (known_after capacity w met).from

@@ -2,7 +2,7 @@
 -- `laws::a_course_follows_from_the_chosen_tap` promises it.
 use Rattle.std.specs.Prelude.{◌≡◌, ℕ, List, Some}
 use Rattle.tap_choice.specs.declared.met.Met.{Met}
-use Rattle.tap_choice.specs.declared.wanted.Wanted.{Wanted}
+use Rattle.tap_choice.specs.declared.wanted.WantedTaps.{WantedTaps}
 use Rattle.tap_following.specs.declared.followed.Followed.{Followed}
 use Rattle.tap_following.specs.declared.following.Form.{Form}
 use Rattle.tap_following.specs.Course.{Course, begun, with_tap, after, ended, syncs_most}
@@ -15,7 +15,7 @@ pub record IsByChoice (c : Course) : Type 0 where
 
 -- so it begins, and so it stays
 pub record EachCourseIsByChoice : Type 0 where
-  pub begins : (form : Form) (w : Wanted) → IsByChoice (begun form w)
+  pub begins : (form : Form) (w : WantedTaps) → IsByChoice (begun form w)
   pub with_tap_too : (name : List ℕ) (c : Course) → IsByChoice c → IsByChoice (with_tap name c)
   pub after_too : (m : Met) (c : Course) → IsByChoice c → IsByChoice (after m c)
   pub ended_too : (c : Course) → IsByChoice c → IsByChoice (ended c)

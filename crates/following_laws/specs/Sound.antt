@@ -8,7 +8,7 @@ use Rattle.tap_crossing.specs.declared.sighting.Placed.{Placed}
 use Rattle.tap_crossing.specs.declared.sighting.Sighting.{Sighting}
 use Rattle.tap_crossing.specs.declared.places.Places.{Places}
 use Rattle.tap_crossing.specs.declared.crossing.Crossing.{Crossing}
-use Rattle.tap_crossing.specs.declared.crossing.Outcome.TheVariants as outcomes
+use Rattle.tap_crossing.specs.declared.crossing.MessageOutcome.TheVariants as outcomes
 use Rattle.tap_crossing.specs.Crossing.{crossing, no_crossing}
 use Rattle.tap_crossing.specs.Record.{complete}
 use Rattle.tap_crossing.specs.Told.{told}

@@ -20,7 +20,7 @@ use Rattle.schedule_lines.specs.Line.{kind_of, event_at, event_in, event_keys, s
 use Rattle.schedule_lines.specs.Line.{port_in, node_kind, node_spec_in}
 use Rattle.schedule_lines.specs.declared.reading.schedule.Line.{Line}
 use Rattle.schedule_lines.specs.declared.reading.schedule.Line.TheVariants as schedules
-use Rattle.line_flaws.specs.declared.flaw.Form.TheVariants.{Schedule}
+use Rattle.line_flaws.specs.declared.flaw.FileForm.TheVariants.{Schedule}
 use Rattle.line_object.specs.declared.key.Key.{Key}
 use Rattle.line_object.specs.declared.key.Key.TheVariants as keys
 use Rattle.line_flaws.specs.Keys.{is_timed, node_keys, own_keys}

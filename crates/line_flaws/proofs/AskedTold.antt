@@ -18,7 +18,7 @@ use Rattle.schedule_lines.specs.TranscriptLine.{report_of, report_in, out_of, ou
 use Rattle.schedule_lines.specs.TranscriptLine.{traced_in}
 use Rattle.schedule_lines.specs.declared.reading.transcript.TranscriptLine.{TranscriptLine}
 use Rattle.schedule_lines.specs.declared.reading.transcript.TranscriptLine.TheVariants as lines
-use Rattle.line_flaws.specs.declared.flaw.Form.TheVariants.{Transcript}
+use Rattle.line_flaws.specs.declared.flaw.FileForm.TheVariants.{Transcript}
 use Rattle.line_object.specs.declared.key.Key.{Key}
 use Rattle.line_object.specs.declared.key.Key.TheVariants as keys
 use Rattle.line_flaws.specs.Keys.{is_timed, outcome_keys, outcome_keys_in, own_keys, told_keys}

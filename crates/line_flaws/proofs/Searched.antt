@@ -3,8 +3,8 @@ use Rattle.std.proofs.Common.{◌≡◌, ◌++◌, ℕ, Bool, true, false, List,
 use Rattle.std.specs.Prelude.{All, Contains, IsSomeAnd, is_some}
 use Rattle.std.proofs.lemmas.List.Elements.{All-append, All-contains, All-weaker, All-contains_itself, Contains-append_left, Contains-append_right}
 use Rattle.serde_json.specs.Data.{Data}
-use Rattle.line_flaws.specs.declared.flaw.Form.{Form}
-use Rattle.line_flaws.specs.declared.flaw.Form.TheVariants.{Schedule, Transcript}
+use Rattle.line_flaws.specs.declared.flaw.FileForm.{FileForm}
+use Rattle.line_flaws.specs.declared.flaw.FileForm.TheVariants.{Schedule, Transcript}
 use Rattle.line_object.specs.declared.key.Key.{Key}
 use Rattle.line_object.specs.declared.key.Key.TheVariants as keys
 use Rattle.line_flaws.specs.Keys.{is_timed, needed_keys, outcome_keys_in, told_keys}
@@ -29,11 +29,11 @@ right P xs ys all = All-weaker (Contains ys) P (λ x in'. All-contains P (xs ++ 
 
 -- ---- the keys that are needed, in four parts
 
-all_needed : (form : Form) (d : Data) (all : List Key) → needed_keys form d ≡ Some all → All (IsNeeded form d) all
+all_needed : (form : FileForm) (d : Data) (all : List Key) → needed_keys form d ≡ Some all → All (IsNeeded form d) all
 all_needed form d all is =
     All-weaker (Contains all) (IsNeeded form d) (λ key in'. subst (λ o. IsSomeAnd o (λ needed. Contains needed key)) (sym is) in') all (All-contains_itself all)
 
-module _ (form : Form) (d : Data) (a b c e : List Key) (is : needed_keys form d ≡ Some (a ++ (b ++ (c ++ e)))) where
+module _ (form : FileForm) (d : Data) (a b c e : List Key) (is : needed_keys form d ≡ Some (a ++ (b ++ (c ++ e)))) where
   needed : All (IsNeeded form d) (a ++ (b ++ (c ++ e)))
   needed = all_needed form d (a ++ (b ++ (c ++ e))) is
 
@@ -75,7 +75,7 @@ others_among d (Some needed) all unread = test (has_keys (length needed) d) refl
     test true e = absurd (unread (all, e))
     test false e = e
 
-pub others : (form : Form) (d : Data) → HasNeeded form d → (HasJustNeeded form d → ⊥) → HasOthers form d
+pub others : (form : FileForm) (d : Data) → HasNeeded form d → (HasJustNeeded form d → ⊥) → HasOthers form d
 others form d all unread = others_among d (needed_keys form d) all unread
 
 pub no_scheduled : (d : Data) → line_of d ≡ None → HasJustNeeded Schedule d → ⊥

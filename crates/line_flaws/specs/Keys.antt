@@ -5,8 +5,8 @@ use Rattle.std.specs.Str.{bytes_eq}
 use Rattle.serde_json.specs.Data.{Data}
 use Rattle.serde_json.specs.Find.{get, as_str}
 use Rattle.schedule_lines.specs.Json.{field}
-use Rattle.line_flaws.specs.declared.flaw.Form.{Form}
-use Rattle.line_flaws.specs.declared.flaw.Form.TheVariants.{Schedule, Transcript}
+use Rattle.line_flaws.specs.declared.flaw.FileForm.{FileForm}
+use Rattle.line_flaws.specs.declared.flaw.FileForm.TheVariants.{Schedule, Transcript}
 use Rattle.line_object.specs.declared.key.Key.{Key}
 use Rattle.line_object.specs.declared.key.Key.TheVariants as keys
 
@@ -73,16 +73,16 @@ abbrev pub outcome_keys_in : Data → List Key
 outcome_keys_in d = unwrap_or (option_and_then outcome_keys (field as_str (codes "out") d)) []
 
 -- the keys of an event whose `ev` has this text, with these of its own
-abbrev pub event_keys : Form → Data → List ℕ → List Key → List Key
+abbrev pub event_keys : FileForm → Data → List ℕ → List Key → List Key
 event_keys Schedule d text own = keys.Ev ∷ keys.Node ∷ own
 event_keys Transcript d text own = keys.Ev ∷ keys.Node ∷ (own ++ (told_keys (is_timed text) ++ outcome_keys_in d))
 
 -- the keys that an event needs, by its `ev`
-abbrev pub event_keys_in : Form → Data → Option (List Key)
+abbrev pub event_keys_in : FileForm → Data → Option (List Key)
 event_keys_in form d =
     option_and_then (λ text. option_map (event_keys form d text) (own_keys text)) (field as_str (codes "ev") d)
 
 -- the keys that a line of the form needs, by its `ev` or else its `kind`; None where that names nothing
-abbrev pub needed_keys : Form → Data → Option (List Key)
+abbrev pub needed_keys : FileForm → Data → Option (List Key)
 needed_keys form d =
     if is_some (get (codes "ev") d) then event_keys_in form d else option_and_then node_keys (field as_str (codes "kind") d)

@@ -8,8 +8,8 @@ use Rattle.schedule_lines.specs.declared.reading.schedule.Line.{Line}
 use Rattle.schedule_lines.specs.declared.reading.schedule.Line.TheVariants as schedules
 use Rattle.schedule_lines.specs.declared.reading.transcript.TranscriptLine.{TranscriptLine}
 use Rattle.schedule_lines.specs.declared.reading.transcript.TranscriptLine.TheVariants as transcripts
-use Rattle.line_flaws.specs.declared.flaw.Form.{Form}
-use Rattle.line_flaws.specs.declared.flaw.Form.TheVariants.{Schedule, Transcript}
+use Rattle.line_flaws.specs.declared.flaw.FileForm.{FileForm}
+use Rattle.line_flaws.specs.declared.flaw.FileForm.TheVariants.{Schedule, Transcript}
 use Rattle.line_flaws.specs.Keys.{needed_keys}
 use Rattle.line_flaws.specs.Wanted.{HasWanted}
 use Rattle.line_flaws.specs.Sound.{is_schedule_line, is_transcript_line}
@@ -35,7 +35,7 @@ FlawlessLinesAreTold = (events : ℕ) (line : List ℕ) → (is_transcript_line 
     ↔ ((entry : TranscriptLine) × (option_and_then transcript_line_of (value_in line) ≡ Some entry) × MayBeTold events entry)
 
 -- each key that a line of the form needs is there, with a value that is wanted, and there are no others
-abbrev pub HasJustNeeded : Form → Data → Type 0
+abbrev pub HasJustNeeded : FileForm → Data → Type 0
 HasJustNeeded form d =
     IsSomeAnd (needed_keys form d) (λ needed. All (HasWanted d) needed × (has_keys (length needed) d ≡ true))
 

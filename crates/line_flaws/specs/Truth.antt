@@ -16,8 +16,8 @@ use Rattle.line_flaws.specs.Keys.{needed_keys}
 use Rattle.line_object.specs.Key.{key_text}
 use Rattle.line_flaws.specs.Wanted.{HasWanted, HasWrongPart, wanted_at}
 use Rattle.line_flaws.specs.declared.flaw.Flaw.{Flaw}
-use Rattle.line_flaws.specs.declared.flaw.Form.{Form}
-use Rattle.line_flaws.specs.declared.flaw.Form.TheVariants.{Schedule, Transcript}
+use Rattle.line_flaws.specs.declared.flaw.FileForm.{FileForm}
+use Rattle.line_flaws.specs.declared.flaw.FileForm.TheVariants.{Schedule, Transcript}
 use Rattle.line_object.specs.declared.key.Key.{Key}
 use Rattle.line_object.specs.declared.key.Key.TheVariants as keys
 use Rattle.line_flaws.specs.declared.flaw.Flaw.TheVariants as flaws
@@ -38,7 +38,7 @@ abbrev pub IsEventLine : ℕ → Data → Type 0
 IsEventLine number d = (line : TraceLine) × (transcript_line_of d ≡ Some (transcripts.Event number line))
 
 -- a key is one that the line needs
-abbrev pub IsNeeded : Form → Data → Key → Type 0
+abbrev pub IsNeeded : FileForm → Data → Key → Type 0
 IsNeeded form d key = IsSomeAnd (needed_keys form d) (λ needed. Contains needed key)
 
 -- the key that says what the line is: `ev`, or where that isn't there `kind`
@@ -46,24 +46,24 @@ abbrev pub telling_key : Data → Key
 telling_key d = if is_some (get (codes "ev") d) then keys.Ev else keys.Kind
 
 -- a key says what the line is, or is one that such a line needs
-abbrev pub IsAsked : Form → Data → Key → Type 0
+abbrev pub IsAsked : FileForm → Data → Key → Type 0
 IsAsked form d key = (key ≡ telling_key d) ⊎ IsNeeded form d key
 
 -- each key that the line needs is there, with a value that is wanted
-abbrev pub HasNeeded : Form → Data → Type 0
+abbrev pub HasNeeded : FileForm → Data → Type 0
 HasNeeded form d = IsSomeAnd (needed_keys form d) (All (HasWanted d))
 
 -- the value hasn't just as many keys as the line needs
-abbrev pub HasOthers : Form → Data → Type 0
+abbrev pub HasOthers : FileForm → Data → Type 0
 HasOthers form d = IsSomeAnd (needed_keys form d) (λ needed. has_keys (length needed) d ≡ false)
 
 -- octets are, in its quotes, a key of the value that the line doesn't need
-abbrev pub IsOther : Form → Data → List ℕ → Type 0
+abbrev pub IsOther : FileForm → Data → List ℕ → Type 0
 IsOther form d octets = (name : List ℕ) × (octets ≡ 34 ∷ (name ++ 34 ∷ [])) × IsSome (get name d)
     × IsSomeAnd (needed_keys form d) (All (λ key. key_text key ≢ name))
 
 -- a flaw of the value of a line of a form, after so many events
-abbrev pub IsSoOfValue : Form → ℕ → Data → Flaw → Type 0
+abbrev pub IsSoOfValue : FileForm → ℕ → Data → Flaw → Type 0
 IsSoOfValue form events d (flaws.NoText octet) = ⊥
 IsSoOfValue form events d (flaws.NoJson octet why) = ⊥
 IsSoOfValue form events d (flaws.NoObject found) = as_object d ≡ None
@@ -84,6 +84,6 @@ IsSoOfValue form events d (flaws.OutOfPlace number place) =
     (place ≡ events) × (number ≢ events) × IsEventLine number d
 
 -- a flaw of a line of a form after so many events, by the JSON value that the line is, if it is one
-abbrev pub IsSo : Form → ℕ → List ℕ → Option Data → Flaw → Type 0
+abbrev pub IsSo : FileForm → ℕ → List ℕ → Option Data → Flaw → Type 0
 IsSo form events line None flaw = IsSoOfOctets line flaw
 IsSo form events line (Some d) flaw = IsSoOfValue form events d flaw

@@ -13,7 +13,7 @@ use std::fmt::{Display, Formatter};
 
 /// A form of lines.
 #[derive(Clone, Copy, Debug, PartialEq, Eq)]
-pub enum Form {
+pub enum FileForm {
     /// A schedule: nodes and events.
     Schedule,
     /// A transcript: nodes, and events with what came of them.
@@ -108,11 +108,11 @@ impl Flaw<'_> {
     }
 }
 
-impl Display for Form {
+impl Display for FileForm {
     fn fmt<W: fmt::Write>(&self, f: &mut Formatter<W>) -> fmt::Result {
         f.write_str(match self {
-            Form::Schedule => "schedule",
-            Form::Transcript => "transcript",
+            FileForm::Schedule => "schedule",
+            FileForm::Transcript => "transcript",
         })
     }
 }

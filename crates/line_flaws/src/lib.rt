@@ -14,7 +14,7 @@ mod pieces;
 mod search;
 mod wanted;
 
-pub use flaw::{Flaw, FlawAt, Form, Part};
+pub use flaw::{FileForm, Flaw, FlawAt, Part};
 pub use foreign::Foreign;
 pub use json_fault::JsonFault;
 pub use line::{schedule_flaw, transcript_flaw};

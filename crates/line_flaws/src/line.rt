@@ -3,13 +3,13 @@ ghost use Rattle.std.specs.Prelude.{◌≡◌, ◌==◌, IfOk, IfSome, MatchResu
 ghost use Rattle.serde_json.specs.Data.{Data};
 ghost use Rattle.serde_json.specs.View.{view};
 ghost use Rattle.schedule_lines.specs.Json.{value_in};
-ghost use Rattle.line_flaws.specs.declared.flaw.Form.{Form};
-ghost use Rattle.line_flaws.specs.declared.flaw.Form.TheVariants.{Schedule, Transcript};
+ghost use Rattle.line_flaws.specs.declared.flaw.FileForm.{FileForm};
+ghost use Rattle.line_flaws.specs.declared.flaw.FileForm.TheVariants.{Schedule, Transcript};
 ghost use Rattle.line_flaws.specs.Sound.{is_schedule_line, is_transcript_line};
 ghost use Rattle.line_flaws.specs.Sound.{is_schedule_value, is_transcript_value};
 ghost use Rattle.line_flaws.specs.Truth.{IsSo, IsSoOfOctets, IsSoOfValue, IsNodeLine, IsEventLine};
 
-use crate::flaw::{Flaw, Form};
+use crate::flaw::{FileForm, Flaw};
 use crate::json_fault::json_flaw;
 use crate::search::flaw_in;
 use schedule_lines::{Line, TranscriptLine, line_value};
@@ -54,7 +54,7 @@ fn scheduled_flaw<'a>(line: &'a [u8], value: &Value, events: u64) -> Option<Flaw
     match Line::of(value) {
         Some(Line::Event(_)) => None,
         Some(Line::Node(_)) => misplaced_node(events),
-        None => Some(flaw_in(Form::Schedule, line, value)),
+        None => Some(flaw_in(FileForm::Schedule, line, value)),
     }
 }
 
@@ -83,14 +83,14 @@ fn told_flaw<'a>(line: &'a [u8], value: &Value, events: u64) -> Option<Flaw<'a>>
     match TranscriptLine::of(value) {
         Some(TranscriptLine::Event { number, .. }) => misplaced_event(number, events),
         Some(TranscriptLine::Node(_)) => misplaced_node(events),
-        None => Some(flaw_in(Form::Transcript, line, value)),
+        None => Some(flaw_in(FileForm::Transcript, line, value)),
     }
 }
 
 /// The flaw of a node after so many events.
 fn misplaced_node<'a>(events: u64) -> Option<Flaw<'a>>
     ensures flawless { is_none result ≡ (events == 0) }
-    ensures so { (form : Form) (d : Data) → IsNodeLine d → IfSome result (IsSoOfValue form events d) }
+    ensures so { (form : FileForm) (d : Data) → IsNodeLine d → IfSome result (IsSoOfValue form events d) }
 {
     if events == 0 {
         None
@@ -102,7 +102,7 @@ fn misplaced_node<'a>(events: u64) -> Option<Flaw<'a>>
 /// The flaw of an event of this number after so many events.
 fn misplaced_event<'a>(number: u64, events: u64) -> Option<Flaw<'a>>
     ensures flawless { is_none result ≡ (number == events) }
-    ensures so { (form : Form) (d : Data) → IsEventLine number d → IfSome result (IsSoOfValue form events d) }
+    ensures so { (form : FileForm) (d : Data) → IsEventLine number d → IfSome result (IsSoOfValue form events d) }
 {
     if number == events {
         None

@@ -4,7 +4,7 @@ ghost use Rattle.std.specs.Prelude.{◌≢◌, IfSome, is_some, option_map};
 ghost use Rattle.serde_json.specs.View.{view};
 ghost use Rattle.serde_json.specs.Find.{as_object, as_str, get};
 ghost use Rattle.schedule_lines.specs.Json.{field, has_items};
-ghost use Rattle.line_flaws.specs.declared.flaw.Form.TheVariants.{Schedule, Transcript};
+ghost use Rattle.line_flaws.specs.declared.flaw.FileForm.TheVariants.{Schedule, Transcript};
 ghost use Rattle.line_object.specs.declared.key.Key.TheVariants.{At, Ev, Kind, Node, Out, Tags};
 ghost use Rattle.line_flaws.specs.declared.wanted.Wanted.TheVariants as wanteds;
 ghost use Rattle.line_flaws.specs.Keys.{is_timed, needed_keys, outcome_keys_in, told_keys};
@@ -15,7 +15,7 @@ ghost use Rattle.line_flaws.specs.Read.{HasJustNeeded};
 ghost use Rattle.line_flaws.specs.Truth.{HasNeeded, HasOthers, IsAsked, IsOther, IsNeeded, IsSoOfValue};
 ghost use Rattle.line_flaws.specs.Inner.Met.{is_met};
 
-use crate::flaw::{Flaw, Form, Part};
+use crate::flaw::{FileForm, Flaw, Part};
 use crate::keys::{node_keys, outcome_keys, own_keys, told_keys};
 use crate::pieces::{Members, item_text, plain_name, unquoted, value_text};
 use crate::wanted::Wanted;
@@ -27,7 +27,7 @@ use serde_json::Value;
 struct Search<'a, 'v> {
     line: &'a [u8],
     value: &'v Value,
-    form: Form,
+    form: FileForm,
 }
 
 /// The keys that a line may have.
@@ -90,7 +90,7 @@ fn key_near<'a>(line: &'a [u8], keys: &[Key], allowed: Allowed) -> Option<&'a [u
 }
 
 /// The flaw of a value that isn't a line of the form.
-pub(crate) fn flaw_in<'a>(form: Form, line: &'a [u8], value: &Value) -> Flaw<'a>
+pub(crate) fn flaw_in<'a>(form: FileForm, line: &'a [u8], value: &Value) -> Flaw<'a>
     requires { ¬ HasJustNeeded form (view value.now) }
     ensures { (events : ℕ) → IsSoOfValue form events (view value.now) result }
 {
@@ -173,8 +173,8 @@ impl<'a, 'v> Search<'a, 'v> {
             return self.wrong(Key::Ev);
         };
         match self.form {
-            Form::Schedule => self.scheduled_flaw(own),
-            Form::Transcript => self.told_flaw(kind, own),
+            FileForm::Schedule => self.scheduled_flaw(own),
+            FileForm::Transcript => self.told_flaw(kind, own),
         }
     }
 

@@ -9,7 +9,7 @@ use Rattle.serde_json.specs.Data.{string}
 use Rattle.serde_json.specs.Read.{read}
 use Rattle.serde_json.specs.Written.{compact_text}
 use Rattle.ptp_units.specs.Nanoseconds.{nanoseconds_text}
-use Rattle.slave_port.specs.declared.exchange.Exchange.{Exchange}
+use Rattle.slave_port.specs.declared.exchange.LastExchange.{LastExchange}
 use Rattle.schedule_lines.specs.Written.{whole, tags_data}
 use Rattle.schedule_lines.proofs.Compact.{AreReadableFields, read_object, text_readable, whole_readable}
 use Rattle.schedule_lines.proofs.Compact.{members_readable, members_ascending}
@@ -26,7 +26,7 @@ use Rattle.measured_json.proofs.ReadBack.{tags_readable, half_alone, follow_is, 
 use Rattle.measured_json.proofs.ReadBack.{number_printed, follow_printed, ascii}
 
 -- ---- the compact text of the value is read as the value
-abbrev fields : Measured → Exchange → List Field
+abbrev fields : Measured → LastExchange → List Field
 fields m x =
     (codes "by", Some (string (half_text m.by)))
     ∷ (codes "delay_correction", Some (string (nanoseconds_text (delay_correction2 x))))
@@ -50,7 +50,7 @@ fields m x =
 wide : (n : ℕ) → n < 2 ^ 16 → n < 2 ^ 64
 wide n small = omega (arith, small)
 
-fields_readable : (m : Measured) (x : Exchange) → IsWithinRange m → IsExchangeWithinRange x → AreReadableFields (fields m x)
+fields_readable : (m : Measured) (x : LastExchange) → IsWithinRange m → IsExchangeWithinRange x → AreReadableFields (fields m x)
 fields_readable m x h k = (
   text_readable _,
   (
@@ -101,7 +101,7 @@ fields_readable m x h k = (
   ),
 )
 
-read_back : (m : Measured) (x : Exchange) → IsWithinRange m → IsExchangeWithinRange x
+read_back : (m : Measured) (x : LastExchange) → IsWithinRange m → IsExchangeWithinRange x
     → read (compact_text (full_data m x)) ≡ Some (full_data m x)
 read_back m x h k =
     read_object (members_of (fields m x)) (members_readable (fields m x) (fields_readable m x h k)) (members_ascending (fields m x))
@@ -180,7 +180,7 @@ abbrev tags_of : Measured → List ℕ
 tags_of m = tags_front (decimal m.report.sync_tag) (follow_text m.report.follow_tag) (decimal m.report.request_tag)
     (decimal m.report.response_tag) m.time
 
-abbrev line_of : Measured → Exchange → List ℕ
+abbrev line_of : Measured → LastExchange → List ℕ
 line_of m x = json_results m x ++ (json_times x ++ (tags_of m ++ codes "\"}"))
 
 quoted : (z : ℤ) → IsOf128Bits z → escape (nanoseconds_text z) ≡ nanoseconds_text z
@@ -189,7 +189,7 @@ quoted z small = escape_figures (nanoseconds_text z) (figures_nanoseconds z smal
 moment_alone : (time : ℕ) → list_all is_figure (moment_text time) ≡ true → escape (moment_text time) ≡ moment_text time
 moment_alone time figures = escape_figures (moment_text time) figures
 
-compact_is : (m : Measured) (x : Exchange) → IsWithinRange m → IsExchangeWithinRange x → compact_text (full_data m x) ≡ line_of m x
+compact_is : (m : Measured) (x : LastExchange) → IsWithinRange m → IsExchangeWithinRange x → compact_text (full_data m x) ≡ line_of m x
 unfolding escape_byte
 compact_is m x h k =
     let by = half_alone m.by in
@@ -254,7 +254,7 @@ signed_printed z small = word _ (printed_figures (signed_decimal z) (figures_sig
 moment_printed : (time : ℕ) → list_all is_figure (moment_text time) ≡ true → ArePrinted (moment_text time)
 moment_printed time figures = word _ (printed_figures (moment_text time) figures)
 
-line_printed : (m : Measured) (x : Exchange) → IsWithinRange m → IsExchangeWithinRange x → ArePrinted (line_of m x)
+line_printed : (m : Measured) (x : LastExchange) → IsWithinRange m → IsExchangeWithinRange x → ArePrinted (line_of m x)
 line_printed m x h k =
     both (results_printed _ _ _ _ _ _ _ _ _ _ (half_printed m.by) (nanoseconds_printed (delay_correction2 x) k.delay_correction)
     (number_printed m.line h.line) (nanoseconds_printed m.report.offset2 h.offset) (signed_printed m.report.offset2 h.offset)

@@ -7,14 +7,14 @@ use Rattle.ptp_units.specs.Moment.{bound}
 use Rattle.ptp_units.specs.Nanoseconds.{nanoseconds_text}
 use Rattle.schedule_lines.specs.Json.{value_in}
 use Rattle.schedule_lines.specs.Written.{whole, tags_data}
-use Rattle.slave_port.specs.declared.exchange.Exchange.{Exchange}
+use Rattle.slave_port.specs.declared.exchange.LastExchange.{LastExchange}
 use Rattle.capture_lines.specs.Measurement.{Measured, half_text}
 use Rattle.exchange_lines.specs.Moment.{moment_text}
 use Rattle.exchange_lines.specs.Exchange.{json_text, sync_correction2, delay_correction2, between2}
 use Rattle.measured_json.specs.ReadBack.{IsOf128Bits, IsWithinRange, is_printed}
 
 -- the times of an exchange are moments, its numbers have 16 bits, and its corrections 128 when they are doubled
-pub record IsExchangeWithinRange (x : Exchange) : Type 0 where
+pub record IsExchangeWithinRange (x : LastExchange) : Type 0 where
   pub t1 : x.t1 < bound
   pub t2 : x.t2 < bound
   pub t3 : x.t3 < bound
@@ -26,7 +26,7 @@ pub record IsExchangeWithinRange (x : Exchange) : Type 0 where
   pub between : IsOf128Bits (between2 x)
 
 -- a measurement with its exchange as a value: an object of these members
-abbrev pub full_data : Measured → Exchange → Data
+abbrev pub full_data : Measured → LastExchange → Data
 full_data m x = object
     (member (codes "by") (string (half_text m.by))
     (member (codes "delay_correction") (string (nanoseconds_text (delay_correction2 x)))
@@ -49,6 +49,6 @@ full_data m x = object
 -- the JSON of a measurement with its exchange is one line, which is read as that value
 abbrev pub EachFullMeasurementIsJson : Type 0
 EachFullMeasurementIsJson =
-    (m : Measured) (x : Exchange) → IsWithinRange m → IsExchangeWithinRange x
+    (m : Measured) (x : LastExchange) → IsWithinRange m → IsExchangeWithinRange x
     → (line : List ℕ) × (json_text m x ≡ line ++ codes "\n") × (list_all is_printed line ≡ true)
     × (value_in line ≡ Some (full_data m x))

@@ -3,7 +3,7 @@
 use event_codec::{Header, PortConfig, PortIdentity};
 use pairing::ListTable;
 use ptp_units::{Interval, ScaledTime, Seq, Timestamp};
-use slave_port::{Exchange, Heard, HeldFollow, HeldRequest, HeldSync, Report, SlavePort};
+use slave_port::{Heard, HeldFollow, HeldRequest, HeldSync, LastExchange, Report, SlavePort};
 use std::process::Abort;
 
 /// A slave with 4 places of each kind.
@@ -76,7 +76,7 @@ fn it_has_what_the_report_was_made_of(rt: HostRuntime) {
     assert_eq!(rt; slave.last_exchange(), None);
     let left = moment(&rt, 2, 1_000, 65_535);
     let answered = request(&rt, &mut slave, left, timestamp(&rt, 2, 4_500), 229_376_000);
-    let exchange = Exchange {
+    let exchange = LastExchange {
         t1: moment(&rt, 1, 0, 0),
         t2: moment(&rt, 1, 4_000, 5),
         t3: left,
@@ -122,7 +122,7 @@ fn a_newer_half_takes_the_place_of_the_older(rt: HostRuntime) {
         moment(&rt, 3, 5, 0),
         5,
     );
-    let exchange = Exchange {
+    let exchange = LastExchange {
         t1: moment(&rt, 3, 1, 0),
         t2: moment(&rt, 3, 5, 0),
         t3: moment(&rt, 2, 0, 0),

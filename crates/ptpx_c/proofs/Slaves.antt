@@ -1,7 +1,7 @@
 -- What a slave port answers, by way of its handle.
 use Rattle.std.proofs.Common.{◌≡◌, ℕ, Bool, true, false, List, refl, sym, ap, subst}
 use Rattle.std.specs.Prelude.{Option, Some, if◌then◌else◌}
-use Rattle.slave_port.specs.declared.exchange.Exchange.{Exchange}
+use Rattle.slave_port.specs.declared.exchange.LastExchange.{LastExchange}
 use Rattle.slave_port.specs.declared.heard.Heard.{Heard}
 use Rattle.slave_port.specs.declared.heard.Heard.TheVariants as answers
 use Rattle.slave_port.specs.declared.reason.Reason.{Reason}
@@ -52,7 +52,7 @@ heard_by_handle kind call handle ring after said answer lies says is stands igno
     subst P (one_port (kind.held handle) ring before lies there) (after, answer, (refl, says, is, stands, ignored))
 
 -- the exchange that a port has is the one by way of its handle
-pub last_by_handle : (kind : Kind) (handle : kind.Handle) (ring : kind.Slave) (last : Option Exchange) (code : ℕ) (old new : RawExchange)
+pub last_by_handle : (kind : Kind) (handle : kind.Handle) (ring : kind.Slave) (last : Option LastExchange) (code : ℕ) (old new : RawExchange)
     → kind.held handle ≡ Some ring → IsPut last code old new
     → ((setup : Setup) (history : List Call) → StandsFor setup (kind.kept ring) history → last ≡ last_exchange setup history)
     → IsLast kind handle code old new

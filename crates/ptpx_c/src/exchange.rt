@@ -2,7 +2,7 @@ ghost use Rattle.ptpx_c.specs.Exchanges.{SaysExchange, IsPut};
 
 use crate::refusal::InputRefusal;
 use crate::words::{RawSigned, RawTime};
-use slave_port::Exchange;
+use slave_port::LastExchange;
 
 /// What a report was made of. Corrections and age are in 2^-16 ns.
 #[repr(C)]
@@ -32,7 +32,7 @@ pub struct RawExchange {
 
 impl RawExchange {
     /// The exchange for C.
-    fn of(exchange: Exchange) -> RawExchange
+    fn of(exchange: LastExchange) -> RawExchange
         ensures { SaysExchange result exchange }
     {
         RawExchange {
@@ -51,7 +51,7 @@ impl RawExchange {
 }
 
 /// Puts an exchange there, if there is one.
-pub(crate) fn put_last(last: Option<Exchange>, exchange: &mut RawExchange) -> u16
+pub(crate) fn put_last(last: Option<LastExchange>, exchange: &mut RawExchange) -> u16
     ensures { IsPut last result exchange.old exchange.new }
 {
     match last {

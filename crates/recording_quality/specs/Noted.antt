@@ -1,7 +1,7 @@
 -- What is noted of a datagram. Lists have the newest in front.
 use Rattle.std.specs.Prelude.{ℕ, Option}
 use Rattle.event_codec.specs.declared.refusal.DecodeRefusal.{DecodeRefusal}
-use Rattle.slave_port.specs.declared.exchange.Exchange.{Exchange}
+use Rattle.slave_port.specs.declared.exchange.LastExchange.{LastExchange}
 use Rattle.slave_port.specs.declared.heard.Report.{Report}
 use Rattle.capture_lines.specs.declared.measurement.Half.{Half}
 
@@ -9,7 +9,7 @@ use Rattle.capture_lines.specs.declared.measurement.Half.{Half}
 pub record Reported : Type 0 where
   pub by : Half
   pub report : Report
-  pub exchange : Option Exchange
+  pub exchange : Option LastExchange
 
 -- the number and the time of a line, why its datagram is no message of the four, if it isn't, and the report that it completed,
 -- if it did

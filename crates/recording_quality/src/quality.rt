@@ -8,7 +8,7 @@ use crate::trend::Trend;
 use capture_lines::Half;
 use event_codec::DecodeRefusal;
 use ptp_units::ScaledTime;
-use slave_port::{Exchange, Report};
+use slave_port::{LastExchange, Report};
 
 /// A microsecond, in units of 2^-16 ns.
 const MICROSECOND: u128 = 65_536_000;
@@ -105,7 +105,7 @@ fn path_at(line: u64, time: ScaledTime, report: &Report) -> Point
 }
 
 /// What Sync and Follow_Up of an exchange were corrected by, whose report a line of this time completed.
-fn sync_correction_at(line: u64, time: ScaledTime, exchange: Option<Exchange>) -> Option<Point>
+fn sync_correction_at(line: u64, time: ScaledTime, exchange: Option<LastExchange>) -> Option<Point>
     ensures { result ≡ option_map (λ x. record { line = line; time = time; value = x.sync_correction +ℤ x.follow_correction }) exchange }
 {
     let exchange = exchange?;
@@ -117,7 +117,7 @@ fn sync_correction_at(line: u64, time: ScaledTime, exchange: Option<Exchange>) -
 }
 
 /// What the Delay_Resp of an exchange was corrected by, whose report a line of this time completed.
-fn delay_correction_at(line: u64, time: ScaledTime, exchange: Option<Exchange>) -> Option<Point>
+fn delay_correction_at(line: u64, time: ScaledTime, exchange: Option<LastExchange>) -> Option<Point>
     ensures { result ≡ option_map (λ x. record { line = line; time = time; value = x.response_correction }) exchange }
 {
     let exchange = exchange?;
@@ -169,7 +169,7 @@ impl Statistics {
         time: ScaledTime,
         by: Half,
         report: &Report,
-        exchange: Option<Exchange>,
+        exchange: Option<LastExchange>,
     )
         ensures { (refusal : Option DecodeRefusal) (earlier : List Noted)
             → AreStatistics (record { line = line; time = time; refusal = refusal; reported = None } ∷ earlier) self.old
@@ -253,7 +253,7 @@ impl Quality {
         time: ScaledTime,
         by: Half,
         report: &Report,
-        exchange: Option<Exchange>,
+        exchange: Option<LastExchange>,
     )
         ensures { (refusal : Option DecodeRefusal) (earlier : List Noted)
             → IsQuality (record { line = line; time = time; refusal = refusal; reported = None } ∷ earlier) self.old

@@ -8,7 +8,7 @@ use Rattle.text_lines.proofs.OneAnswer.{IsSure, answers_one}
 use Rattle.datagram_text.specs.Show.{show_rules}
 use Rattle.datagram_text.proofs.OneCourse.{show_course}
 use Rattle.capture_measure.specs.declared.measuring.Form.{Form}
-use Rattle.capture_measure.specs.declared.watch.Wanted.{Wanted}
+use Rattle.capture_measure.specs.declared.watch.WantedPorts.{WantedPorts}
 use Rattle.capture_measure.specs.Measure.{begun, measure_rules, head_text, Measures}
 use Rattle.capture_measure.proofs.OneCourse.{measure_course}
 use Rattle.transcript_text.specs.Fault.{of_line, kind_at, line_kind}
@@ -23,7 +23,7 @@ is_sure : {A : Type 0} (answer : Result A (Stopped (Cause LineFault))) → IsOfI
 is_sure (Ok answer) sure = tt
 is_sure (Err stop) sure = sure_cause of_line stop.what sure
 
-pub measures_one : (form : Form) (wanted : Wanted) → HasOneAnswer line_kind (Measures form wanted)
+pub measures_one : (form : Form) (wanted : WantedPorts) → HasOneAnswer line_kind (Measures form wanted)
 measures_one form wanted octets left before after left' before' after' answer answer' (headed, head, says) (headed', head', says') sure sure' =
     let course = measure_course (IsDevicesBy of_line) tt tt in
     let same = answers_one measure_rules (begun form wanted) (IsDevicesBy of_line) course octets left headed after left' headed' after' answer answer' says says'

@@ -11,13 +11,13 @@ use Rattle.capture_file.specs.declared.fault.CaptureCause.{CaptureCause}
 use Rattle.capture_file.specs.declared.fault.CaptureCause.TheVariants as captures
 use Rattle.capture_file.specs.declared.fault.CaptureStop.{CaptureStop}
 use Rattle.command_line.specs.declared.commands.follow.FollowOptions.{FollowOptions}
-use Rattle.tap_choice.specs.declared.wanted.Wanted.{Wanted}
+use Rattle.tap_choice.specs.declared.wanted.WantedTaps.{WantedTaps}
 use Rattle.tap_following.specs.declared.following.Form.{Form}
 use Rattle.tap_following.specs.declared.following.Form.TheVariants.{Json, Table, Sums}
 use Rattle.tap_follow.specs.declared.fault.FollowFault.{FollowFault}
 use Rattle.tap_follow.specs.declared.fault.FollowFault.TheVariants.{Write, Field, Memory, ThirdTap}
-use Rattle.tap_follow.specs.declared.input.Outcome.{Outcome}
-use Rattle.tap_follow.specs.declared.input.Outcome.TheVariants.{Lines, Capture}
+use Rattle.tap_follow.specs.declared.input.InputOutcome.{InputOutcome}
+use Rattle.tap_follow.specs.declared.input.InputOutcome.TheVariants.{Lines, Capture}
 use Rattle.tap_crossing.specs.declared.crossing.Crossing.{Crossing}
 use Rattle.tap_following.specs.Course.{Course}
 use Rattle.tap_following.specs.SoFar.{crossings_so_far}
@@ -29,7 +29,7 @@ use Rattle.tap_follow.specs.Summed.{WritesSums}
 use Rattle.tap_follow.specs.Told.{IsSummaryOf, TellsInput}
 
 -- which taps and whose messages `follow` is asked for
-abbrev pub taps_wanted : FollowOptions → Wanted
+abbrev pub taps_wanted : FollowOptions → WantedTaps
 taps_wanted options = record {
   from = options.from;
   to = options.to;
@@ -68,7 +68,7 @@ capture_status (Ok count) = 0
 capture_status (Err stop) = capture_cause_status stop.what
 
 -- the exit status of `follow`, by what came of its input
-abbrev pub follow_status : Outcome → ℕ
+abbrev pub follow_status : InputOutcome → ℕ
 follow_status (Lines answer) = lines_status answer
 follow_status (Capture answer) = capture_status answer
 
@@ -99,7 +99,7 @@ capture_leaves (Ok count) = true
 capture_leaves (Err stop) = capture_cause_leaves stop.what
 
 -- whether sums are written after this outcome: at the end, and after a fault of reading or of the input, but for a third tap
-abbrev pub leaves_sums : Outcome → Bool
+abbrev pub leaves_sums : InputOutcome → Bool
 leaves_sums (Lines answer) = lines_leave answer
 leaves_sums (Capture answer) = capture_leaves answer
 
@@ -137,7 +137,7 @@ limited status is_beyond = if status == 0 && is_beyond then 1 else status
 abbrev pub RunsFollow : {R W : Type 0} → (R → Option (List ℕ)) → (W → Option (List ℕ)) → FollowOptions → ℕ
     → (input input' : Counted R) (output output' : Counted W) → Type 0
 RunsFollow {W = W} remaining contents options status input input' output output' =
-    (outcome : Outcome) × (summary : Summary) × (followed : Counted W) × (ended : ℕ) × (is_beyond : Bool)
+    (outcome : InputOutcome) × (summary : Summary) × (followed : Counted W) × (ended : ℕ) × (is_beyond : Bool)
     × OutcomeFailed outcome input input' output followed
     × FollowsInput (crossing_form options) (taps_wanted options) remaining contents outcome input input' output followed
     × ForSome (remaining (device_of input)) (λ octets.

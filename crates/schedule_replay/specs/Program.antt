@@ -14,8 +14,8 @@ use Rattle.command_line.specs.declared.commands.measure.MeasureOptions.{MeasureO
 use Rattle.command_line.specs.declared.commands.explain.ExplainOptions.{ExplainOptions}
 use Rattle.exchange_explain.specs.declared.explaining.Explained.{Explained}
 use Rattle.exchange_explain.specs.declared.explaining.Explained.TheVariants.{Whole, Flawed}
-use Rattle.exchange_explain.specs.declared.input.Found.{Found}
-use Rattle.exchange_explain.specs.declared.input.Found.TheVariants.{Transcript, Schedule}
+use Rattle.exchange_explain.specs.declared.input.FoundInput.{FoundInput}
+use Rattle.exchange_explain.specs.declared.input.FoundInput.TheVariants.{Transcript, Schedule}
 use Rattle.schedule_reading.specs.declared.fault.TaskFault.{TaskFault}
 use Rattle.exchange_explain.specs.Explained.{ExplainsAnswer, ExplainFailedWith}
 use Rattle.exchange_explain.specs.Judgements.{JudgesAnswer, judgement_rules}
@@ -33,10 +33,10 @@ use Rattle.capture_list.specs.Listed.{ListsAnswer}
 use Rattle.capture_measure.specs.declared.measuring.Form.{Form}
 use Rattle.capture_measure.specs.declared.measuring.Form.TheVariants.{Json, Table, FullJson, FullTable}
 use Rattle.text_lines.specs.declared.line_fault.LineFault.{LineFault}
-use Rattle.capture_measure.specs.declared.watch.Wanted.{Wanted}
+use Rattle.capture_measure.specs.declared.watch.WantedPorts.{WantedPorts}
 use Rattle.text_lines.specs.Task.{FailedAt}
-use Rattle.capture_measure.specs.declared.input.Outcome.{Outcome}
-use Rattle.capture_measure.specs.declared.input.Outcome.TheVariants.{Lines, Capture}
+use Rattle.capture_measure.specs.declared.input.InputOutcome.{InputOutcome}
+use Rattle.capture_measure.specs.declared.input.InputOutcome.TheVariants.{Lines, Capture}
 use Rattle.capture_measure.specs.Input.{MeasuresInput, OutcomeFailed}
 use Rattle.schedule_replay.specs.Show.{ShowsAnswer}
 use Rattle.schedule_replay.specs.Follow.{RunsFollow}
@@ -96,7 +96,7 @@ abbrev pub RunsExtract : {R W : Type 0} → (R → Option (List ℕ)) → (W →
 RunsExtract remaining contents options = RunsListed options.list remaining contents options
 
 -- whom `measure` is asked to watch
-abbrev pub wanted_of : MeasureOptions → Wanted
+abbrev pub wanted_of : MeasureOptions → WantedPorts
 wanted_of options = record {
   slave = options.slave;
   master = options.master;
@@ -111,7 +111,7 @@ form_of options =
     else if options.csv then Table else Json
 
 -- the exit status of `measure`, by what came of its input
-abbrev pub outcome_status : Outcome → ℕ
+abbrev pub outcome_status : InputOutcome → ℕ
 outcome_status (Lines answer) = status_of answer
 outcome_status (Capture answer) = status_of answer
 
@@ -119,12 +119,12 @@ outcome_status (Capture answer) = status_of answer
 abbrev pub RunsMeasure : {R W : Type 0} → (R → Option (List ℕ)) → (W → Option (List ℕ)) → MeasureOptions → ℕ
     → (input input' : Counted R) (output output' : Counted W) → Type 0
 RunsMeasure remaining contents options status input input' output output' =
-    (outcome : Outcome) × (status ≡ outcome_status outcome)
+    (outcome : InputOutcome) × (status ≡ outcome_status outcome)
     × OutcomeFailed outcome input input' output output'
     × MeasuresInput (form_of options) (wanted_of options) remaining contents outcome input input' output output'
 
 -- the exit status of `explain` over a whole input: that of `check` or of `replay`
-abbrev pub found_status : Found → ℕ
+abbrev pub found_status : FoundInput → ℕ
 found_status (Transcript (Accepted count)) = 0
 found_status (Transcript (Refused number why)) = 1
 found_status (Schedule events) = 0
@@ -139,7 +139,7 @@ abbrev pub stopped_status : {W : Type 0} → Counted W → Cause TaskFault → �
 stopped_status output what = if is_of_output what && is_unread output then 0 else 3
 
 -- the exit status of `explain --json`, by its answer and what became of the writer
-abbrev pub judging_status : {W : Type 0} → Counted W → Result Found (Stopped (Cause TaskFault)) → ℕ
+abbrev pub judging_status : {W : Type 0} → Counted W → Result FoundInput (Stopped (Cause TaskFault)) → ℕ
 judging_status output (Ok found) = found_status found
 judging_status output (Err stop) = stopped_status output stop.what
 
@@ -150,7 +150,7 @@ explaining_status output (Ok (Flawed line what)) = 3
 explaining_status output (Err stop) = stopped_status output stop.what
 
 -- which of the two devices failed at this answer of `explain --json`
-abbrev pub JudgingFailedWith : {R W : Type 0} → Result Found (Stopped (Cause TaskFault))
+abbrev pub JudgingFailedWith : {R W : Type 0} → Result FoundInput (Stopped (Cause TaskFault))
     → (input input' : Counted R) (output output' : Counted W) → Type 0
 JudgingFailedWith answer input input' output output' = MatchResult answer
     (λ _. HasNotFailed input input' × HasNotFailed output output')
@@ -160,7 +160,7 @@ JudgingFailedWith answer input input' output output' = MatchResult answer
 abbrev pub RunsForm : {R W : Type 0} → Bool → (R → Option (List ℕ)) → (W → Option (List ℕ)) → ExplainOptions → ℕ
     → (input input' : Counted R) (output output' : Counted W) → Type 0
 RunsForm true remaining contents options status input input' output output' =
-    (answer : Result Found (Stopped (Cause TaskFault))) × (status ≡ judging_status output' answer)
+    (answer : Result FoundInput (Stopped (Cause TaskFault))) × (status ≡ judging_status output' answer)
     × JudgingFailedWith answer input input' output output'
     × JudgesAnswer options.first remaining contents answer input input' output output'
 RunsForm false remaining contents options status input input' output output' =

@@ -12,8 +12,8 @@ use command_line::commands::follow::FollowOptions;
 use ptp_units::ScaledTime;
 use std::alloc::Global;
 use std::io::{Read, Write};
-use tap_choice::{Sides, TapName, Wanted};
-use tap_follow::{FollowFault, Outcome, Summary, follow};
+use tap_choice::{Sides, TapName, WantedTaps};
+use tap_follow::{FollowFault, InputOutcome, Summary, follow};
 use tap_following::Form;
 use tap_sums::Sums;
 use text_lines::{Cause, Counted, Numbered, Stopped};
@@ -28,7 +28,7 @@ pub(crate) fn run_follow<R: Read, W: Write, E: Write>(
 ) -> u8
     ensures { RunsFollow R.remaining W.contents options result input.old input.new output.old output.new }
 {
-    let wanted = Wanted {
+    let wanted = WantedTaps {
         from: options.from,
         to: options.to,
         domain: options.domain,
@@ -58,16 +58,16 @@ fn crossing_form(options: &FollowOptions) -> Form
 }
 
 /// Whether sums are written after this outcome: at the end, and after a fault of reading or of the input, but for a third tap.
-fn leaves_sums(outcome: &Outcome) -> bool
+fn leaves_sums(outcome: &InputOutcome) -> bool
     ensures { result ≡ leaves_sums outcome.now }
 {
     match outcome {
-        Outcome::Lines(Ok(_)) | Outcome::Capture(Ok(_)) => true,
-        Outcome::Lines(Err(stop)) => match stop.what {
+        InputOutcome::Lines(Ok(_)) | InputOutcome::Capture(Ok(_)) => true,
+        InputOutcome::Lines(Err(stop)) => match stop.what {
             Cause::Reading(_) => true,
             Cause::Task(fault) => is_field(fault),
         },
-        Outcome::Capture(Err(stop)) => match stop.what {
+        InputOutcome::Capture(Err(stop)) => match stop.what {
             CaptureCause::Read | CaptureCause::Capture(_) => true,
             CaptureCause::Memory => false,
             CaptureCause::Task(fault) => is_field(fault),
@@ -76,7 +76,7 @@ fn leaves_sums(outcome: &Outcome) -> bool
 }
 
 /// Whether sums are asked for, and written after this outcome.
-fn asks_sums(options: &FollowOptions, outcome: &Outcome) -> bool
+fn asks_sums(options: &FollowOptions, outcome: &InputOutcome) -> bool
     ensures { result ≡ (options.now.sum && leaves_sums outcome.now) }
 {
     options.sum && leaves_sums(outcome)
@@ -151,12 +151,12 @@ fn limited(status: u8, is_beyond: bool) -> u8
 }
 
 /// Answers the exit status of `follow`, and says its fault.
-fn finish_followed<E: Write>(errors: &mut E, taps: &Sides, outcome: Outcome) -> u8
+fn finish_followed<E: Write>(errors: &mut E, taps: &Sides, outcome: InputOutcome) -> u8
     ensures { result ≡ follow_status outcome }
 {
     match outcome {
-        Outcome::Lines(answer) => finish_lines(errors, taps, answer),
-        Outcome::Capture(answer) => finish_capture(errors, taps, answer),
+        InputOutcome::Lines(answer) => finish_lines(errors, taps, answer),
+        InputOutcome::Capture(answer) => finish_capture(errors, taps, answer),
     }
 }
 

@@ -1,6 +1,6 @@
 //! What follows from the definitions alone, for any octets.
 ghost use Rattle.capture_measure.specs.declared.measuring.Form.{Form};
-ghost use Rattle.capture_measure.specs.declared.watch.Wanted.{Wanted};
+ghost use Rattle.capture_measure.specs.declared.watch.WantedPorts.{WantedPorts};
 ghost use Rattle.capture_measure.specs.Measure.{Measures};
 ghost use Rattle.schedule_replay.specs.Show.{Shows};
 ghost use Rattle.transcript_text.specs.CheckText.{Checks};
@@ -22,5 +22,5 @@ pub fn octets_have_one_answer()
     ensures show { HasOneAnswer kind_at Shows }
     ensures replay { HasOneAnswer kind_at Replays }
     ensures check_text { HasOneAnswer kind_at Checks }
-    ensures measure { (form : Form) (wanted : Wanted) → HasOneAnswer line_kind (Measures form wanted) }
+    ensures measure { (form : Form) (wanted : WantedPorts) → HasOneAnswer line_kind (Measures form wanted) }
 {}

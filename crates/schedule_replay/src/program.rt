@@ -12,13 +12,13 @@ use crate::showing::show;
 use capture_extract::{Extraction, LineForm, extract};
 use capture_file::{CaptureStop, InterfaceName};
 use capture_list::list;
-use capture_measure::{Form, Outcome, Wanted, measure};
+use capture_measure::{Form, InputOutcome, WantedPorts, measure};
 use command_line::commands::explain::ExplainOptions;
 use command_line::commands::extract::ExtractOptions;
 use command_line::commands::measure::MeasureOptions;
 use command_line::{Invocation, Subcommand, parse};
 use exchange_check::Verdict;
-use exchange_explain::{Explained, Found, explain, write_judgements};
+use exchange_explain::{Explained, FoundInput, explain, write_judgements};
 use schedule_reading::TaskFault;
 use std::alloc::Global;
 use std::io::{Read, Write};
@@ -146,12 +146,12 @@ fn finish_stopped<W: Write, E: Write>(
 }
 
 /// The exit status of `explain` over a whole input: that of `check` or of `replay`.
-fn found_status(found: Found) -> u8
+fn found_status(found: FoundInput) -> u8
     ensures { result ≡ found_status found }
 {
     match found {
-        Found::Transcript(Verdict::Accepted(_)) | Found::Schedule(_) => 0,
-        Found::Transcript(Verdict::Refused { .. }) => 1,
+        FoundInput::Transcript(Verdict::Accepted(_)) | FoundInput::Schedule(_) => 0,
+        FoundInput::Transcript(Verdict::Refused { .. }) => 1,
     }
 }
 
@@ -238,8 +238,8 @@ fn form_of(options: &MeasureOptions) -> Form
 }
 
 /// Says of lines that there are none, and that an interface was asked for in vain.
-fn tell_lines<E: Write>(outcome: &Outcome, is_interface_asked: bool, errors: &mut E) {
-    let Outcome::Lines(answer) = outcome else {
+fn tell_lines<E: Write>(outcome: &InputOutcome, is_interface_asked: bool, errors: &mut E) {
+    let InputOutcome::Lines(answer) = outcome else {
         return;
     };
     if matches!(answer, Ok(0)) {
@@ -260,7 +260,7 @@ fn run_measure<R: Read, W: Write, E: Write>(
 ) -> u8
     ensures { RunsMeasure R.remaining W.contents options result input.old input.new output.old output.new }
 {
-    let wanted = Wanted {
+    let wanted = WantedPorts {
         slave: options.slave,
         master: options.master,
         domain: options.domain,
@@ -310,12 +310,12 @@ fn finish_packets<E: Write>(errors: &mut E, answer: Result<u64, CaptureStop<Line
 }
 
 /// Answers the exit status of `measure`, and says its fault.
-fn finish_outcome<E: Write>(errors: &mut E, outcome: Outcome) -> u8
+fn finish_outcome<E: Write>(errors: &mut E, outcome: InputOutcome) -> u8
     ensures { result ≡ outcome_status outcome }
 {
     match outcome {
-        Outcome::Lines(answer) => finish(errors, answer),
-        Outcome::Capture(answer) => finish_packets(errors, answer),
+        InputOutcome::Lines(answer) => finish(errors, answer),
+        InputOutcome::Capture(answer) => finish_packets(errors, answer),
     }
 }
 

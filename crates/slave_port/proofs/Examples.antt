@@ -9,7 +9,7 @@ use Rattle.event_codec.specs.declared.port.PortIdentity.{PortIdentity}
 use Rattle.event_codec.specs.declared.refusal.DecodeRefusal.TheVariants.{Version}
 use Rattle.event_codec.specs.Packet.{Contents}
 use Rattle.event_codec.specs.Profile.{header_of}
-use Rattle.slave_port.specs.declared.exchange.Exchange.{Exchange}
+use Rattle.slave_port.specs.declared.exchange.LastExchange.{LastExchange}
 use Rattle.slave_port.specs.declared.heard.Heard.{Heard}
 use Rattle.slave_port.specs.declared.heard.Heard.TheVariants.{Held, Completed, Report, Ignored}
 use Rattle.slave_port.specs.declared.reason.Reason.TheVariants.{Decode, WrongType, NoMaster, OtherMaster, TooBig, NotNewer, OtherRequester, UnknownRequest, EgressUnknown}
@@ -77,7 +77,7 @@ exchange_reports : answers (response (clock 2) (pos 229376000) 0 13 ∷ response
 exchange_reports = refl
 
 -- what that was made of; the Sync arrived 0.999997 s before the Delay_Req left
-abbrev of_exchange : Exchange
+abbrev of_exchange : LastExchange
 of_exchange = record {
   t1 = at 1 0;
   t2 = at 1 4000;

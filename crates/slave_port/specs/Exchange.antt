@@ -4,7 +4,7 @@ use Rattle.std.specs.Prelude.{◌≡◌, ℕ, List, [], ◌∷◌, ℤ, pos, ◌
 use Rattle.std.specs.Int.{abs_diff}
 use Rattle.ptp_units.specs.Moment.{moment}
 use Rattle.ptp_units.specs.Exchange.{offset2, path2}
-use Rattle.slave_port.specs.declared.exchange.Exchange.{Exchange}
+use Rattle.slave_port.specs.declared.exchange.LastExchange.{LastExchange}
 use Rattle.slave_port.specs.declared.heard.Heard.{Heard}
 use Rattle.slave_port.specs.declared.heard.Heard.TheVariants as answers
 use Rattle.slave_port.specs.declared.heard.Report.{Report}
@@ -14,19 +14,19 @@ use Rattle.slave_port.specs.Kept.{last_sync_completion, last_delay_completion}
 use Rattle.slave_port.specs.Answer.{answer}
 
 -- t2 less t1, each corrected: t1 by the Follow_Up's correction, and their difference by the Sync's
-abbrev pub sync_bracket_of : Exchange → ℤ
+abbrev pub sync_bracket_of : LastExchange → ℤ
 sync_bracket_of x = (pos x.t2 -ℤ (pos x.t1 +ℤ x.follow_correction)) -ℤ x.sync_correction
 
 -- t4, less the Delay_Resp's correction, less t3
-abbrev pub delay_bracket_of : Exchange → ℤ
+abbrev pub delay_bracket_of : LastExchange → ℤ
 delay_bracket_of x = (pos x.t4 -ℤ x.response_correction) -ℤ pos x.t3
 
 -- how much older the older half is than the newer one: the time between t2 and t3 by the slave's clock
-abbrev pub age : Exchange → ℕ
+abbrev pub age : LastExchange → ℕ
 age x = abs_diff x.t2 x.t3
 
 -- the exchange of a completion of each kind
-abbrev pub exchange_of : SyncCompletion → DelayCompletion → Exchange
+abbrev pub exchange_of : SyncCompletion → DelayCompletion → LastExchange
 exchange_of sync delay = record {
   t1 = moment sync.origin 0;
   t2 = sync.t2;
@@ -40,13 +40,13 @@ exchange_of sync delay = record {
 }
 
 -- an exchange where both completions are there
-abbrev pub exchanged : Option SyncCompletion → Option DelayCompletion → Option Exchange
+abbrev pub exchanged : Option SyncCompletion → Option DelayCompletion → Option LastExchange
 exchanged None delay = None
 exchanged (Some sync) None = None
 exchanged (Some sync) (Some delay) = Some (exchange_of sync delay)
 
 -- the exchange of the last completions in the window
-abbrev pub last_exchange : Setup → List Call → Option Exchange
+abbrev pub last_exchange : Setup → List Call → Option LastExchange
 last_exchange setup history = exchanged (last_sync_completion setup history) (last_delay_completion setup history)
 
 -- the report that an answer is, or else the one before it
@@ -62,10 +62,10 @@ last_report setup [] = None
 last_report setup (call ∷ earlier) = report_or (answer setup earlier call) (last_report setup earlier)
 
 -- a report's two results are those of the four times and the corrections of an exchange
-pub record IsReportOf (x : Exchange) (report : Report) : Type 0 where
+pub record IsReportOf (x : LastExchange) (report : Report) : Type 0 where
   pub offset2 : report.offset2 ≡ offset2 (sync_bracket_of x) (delay_bracket_of x)
   pub path2 : report.path2 ≡ path2 (sync_bracket_of x) (delay_bracket_of x)
 
 -- it is the exchange of the last report in a history
-abbrev pub IsOfLastReport : Setup → List Call → Exchange → Type 0
+abbrev pub IsOfLastReport : Setup → List Call → LastExchange → Type 0
 IsOfLastReport setup history x = (report : Report) × ((last_report setup history ≡ Some report) × IsReportOf x report)

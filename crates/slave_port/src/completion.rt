@@ -4,7 +4,7 @@ ghost use Rattle.slave_port.specs.Answer.{report_of};
 ghost use Rattle.slave_port.specs.Exchange.{exchange_of, exchanged};
 ghost use Rattle.ptp_units.specs.Exchange.{IsBracket};
 
-use crate::exchange::Exchange;
+use crate::exchange::LastExchange;
 use crate::heard::Report;
 use crate::held::{HeldFollow, HeldRequest, HeldSync};
 use crate::used::{OneStepSync, Response};
@@ -235,10 +235,10 @@ pub(crate) fn report_of(sync: SyncCompletion, delay: DelayCompletion) -> Report
 }
 
 /// The exchange of these two completions.
-fn exchange_of(sync: SyncCompletion, delay: DelayCompletion) -> Exchange
+fn exchange_of(sync: SyncCompletion, delay: DelayCompletion) -> LastExchange
     ensures { result ≡ exchange_of sync delay }
 {
-    Exchange {
+    LastExchange {
         t1: ScaledTime::join(sync.origin, 0),
         t2: sync.t2,
         t3: delay.t3,
@@ -255,7 +255,7 @@ fn exchange_of(sync: SyncCompletion, delay: DelayCompletion) -> Exchange
 pub(crate) fn exchanged(
     sync: Option<Last<SyncCompletion>>,
     delay: Option<Last<DelayCompletion>>,
-) -> Option<Exchange>
+) -> Option<LastExchange>
     ensures { result ≡ exchanged
         (option_map (λ last. last.completion) sync)
         (option_map (λ last. last.completion) delay) }

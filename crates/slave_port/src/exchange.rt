@@ -9,7 +9,7 @@ use ptp_units::{ScaledTime, Seq};
 /// meanPathDelay `a + b`, of `a = t2 - (t1 + follow_correction) - sync_correction` and
 /// `b = t4 - response_correction - t3`.
 #[derive(Clone, Copy, Debug, PartialEq, Eq)]
-pub struct Exchange {
+pub struct LastExchange {
     /// When the Sync left, by the master's clock: preciseOriginTimestamp of its Follow_Up, or
     /// originTimestamp where it is one-step. It is whole nanoseconds; `follow_correction` has the rest.
     pub t1: ScaledTime,
@@ -32,7 +32,7 @@ pub struct Exchange {
     pub request_number: Seq,
 }
 
-impl Exchange {
+impl LastExchange {
     /// How much older the older half is than the newer one, in 2^-16 ns: the time between `t2` and `t3`,
     /// whichever is later. It is by the slave's clock, so a clock that was set between them shows in it.
     /// Offset and path delay are as good as both clocks ran alike for that long.

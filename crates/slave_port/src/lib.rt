@@ -14,7 +14,7 @@ mod usable;
 mod used;
 mod written;
 
-pub use exchange::Exchange;
+pub use exchange::LastExchange;
 pub use heard::{Heard, Report};
 pub use held::{HeldFollow, HeldRequest, HeldSync};
 pub use reason::{Reason, SlaveRefusal};

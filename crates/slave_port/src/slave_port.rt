@@ -18,7 +18,7 @@ ghost use Rattle.slave_port.specs.Inner.Changes.{general_heard};
 use crate::completion::{
     DelayCompletion, Last, SyncCompletion, alone, answered, exchanged, pair, report_of,
 };
-use crate::exchange::Exchange;
+use crate::exchange::LastExchange;
 use crate::heard::Heard;
 use crate::held::{HeldFollow, HeldRequest, HeldSync};
 use crate::reason::{Reason, SlaveRefusal};
@@ -244,7 +244,7 @@ where
     /// and after [`restart`](Self::restart), [`set_master`](Self::set_master) or a second
     /// [`tick`](Self::tick) dropped a half of it, until the next report. So it is there when a report was
     /// answered, whatever came before.
-    pub fn last_exchange(&self) -> Option<Exchange>
+    pub fn last_exchange(&self) -> Option<LastExchange>
         ensures exchange { (setup : Setup) (history : List Call) → StandsFor setup self.now history
             → result ≡ last_exchange setup history }
         ensures reported { (setup : Setup) (history : List Call) → StandsFor setup self.now history
@@ -257,7 +257,7 @@ where
     }
 
     /// The exchange of the last completions, where both are there.
-    fn exchange(&self) -> Option<Exchange>
+    fn exchange(&self) -> Option<LastExchange>
         ensures { result ≡ exchange_in self.now }
     {
         exchanged(self.last_sync, self.last_delay)

@@ -7,10 +7,10 @@ use Rattle.tap_choice.specs.declared.choice.Pair.{Pair}
 use Rattle.tap_choice.specs.declared.met.Met.{Met}
 use Rattle.tap_choice.specs.declared.met.Side.{Side}
 use Rattle.tap_choice.specs.declared.met.Side.TheVariants as taps
-use Rattle.tap_choice.specs.declared.wanted.Wanted.{Wanted}
+use Rattle.tap_choice.specs.declared.wanted.WantedTaps.{WantedTaps}
 use Rattle.tap_choice.specs.Known.{Known, asked, noticed, pair_of}
 
-abbrev nothing_asked : Wanted
+abbrev nothing_asked : WantedTaps
 nothing_asked = record { from = None; to = None; domain = None; master = None; slave = None }
 
 abbrev port_of : ℕ → PortIdentity

@@ -12,7 +12,7 @@ use Rattle.tap_choice.specs.declared.met.Met.{Met}
 use Rattle.tap_choice.specs.declared.met.Side.{Side}
 use Rattle.tap_choice.specs.declared.met.Side.TheVariants as taps
 use Rattle.tap_choice.specs.declared.choice.Pair.{Pair}
-use Rattle.tap_choice.specs.declared.wanted.Wanted.{Wanted}
+use Rattle.tap_choice.specs.declared.wanted.WantedTaps.{WantedTaps}
 
 -- what is known: the domain, the master, the tap that its Syncs meet first; and when the last of them were met at each tap
 pub record Known : Type 0 where
@@ -23,7 +23,7 @@ pub record Known : Type 0 where
   pub second_syncs : Marked ℕ
 
 -- before any message: what is asked for. Where a tap is named, the one that is asked for as `from` is the first.
-abbrev pub asked : Wanted → Known
+abbrev pub asked : WantedTaps → Known
 asked w = record {
   domain = w.domain;
   master = w.master;

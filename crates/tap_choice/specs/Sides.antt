@@ -4,7 +4,7 @@ use Rattle.std.specs.Str.{bytes_eq}
 use Rattle.tap_choice.specs.declared.met.Side.{Side}
 use Rattle.tap_choice.specs.declared.met.Side.TheVariants as taps
 use Rattle.tap_choice.specs.declared.sides.Sides.{Sides}
-use Rattle.tap_choice.specs.declared.wanted.Wanted.{Wanted}
+use Rattle.tap_choice.specs.declared.wanted.WantedTaps.{WantedTaps}
 
 -- the tap is known, and called so
 abbrev pub is_named : Option (List ℕ) → List ℕ → Bool
@@ -12,11 +12,11 @@ is_named None name = false
 is_named (Some tap) name = bytes_eq tap name
 
 -- the taps that are asked for
-abbrev pub sides_wanted : Wanted → Sides
+abbrev pub sides_wanted : WantedTaps → Sides
 sides_wanted w = record { first = w.from; second = w.to }
 
 -- both are
-abbrev pub both_named : Wanted → Bool
+abbrev pub both_named : WantedTaps → Bool
 both_named w = is_some w.from && is_some w.to
 
 -- which of the two taps one is that was met; the first one that isn't known, where it is none of those that are; None where

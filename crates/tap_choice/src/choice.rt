@@ -5,7 +5,7 @@ ghost use Rattle.tap_choice.specs.Known.{asked, noticed, pair_of, sync_domain, s
 ghost use Rattle.tap_choice.specs.Known.{syncs_at, told_by, met_sync, from_by};
 
 use crate::met::{Met, Side};
-use crate::wanted::Wanted;
+use crate::wanted::WantedTaps;
 use event_codec::{Body, Header, PortIdentity};
 use pairing::PairTable;
 use ptp_units::ScaledTime;
@@ -91,7 +91,7 @@ fn earlier_side(side: Side, time: ScaledTime, other: ScaledTime) -> Side
 
 impl<T: PairTable<ScaledTime>> Choice<T> {
     /// What is known before any message came: what is asked for.
-    pub fn new(wanted: &Wanted) -> Self
+    pub fn new(wanted: &WantedTaps) -> Self
         requires { (1 ≤ T.CAPACITY) × (T.CAPACITY ≤ 256) }
         ensures { result ≡ asked wanted.now }
     {

@@ -11,4 +11,4 @@ pub use choice::{Choice, Pair};
 pub use met::{Met, Side};
 pub use sides::Sides;
 pub use tap_name::TapName;
-pub use wanted::Wanted;
+pub use wanted::WantedTaps;

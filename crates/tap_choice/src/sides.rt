@@ -4,7 +4,7 @@ ghost use Rattle.tap_choice.specs.Sides.{is_named, side_of, sides_after, sides_w
 
 use crate::met::Side;
 use crate::tap_name::TapName;
-use crate::wanted::Wanted;
+use crate::wanted::WantedTaps;
 
 /// The names of two taps, as far as they are known.
 #[derive(Clone, Copy, Debug, PartialEq, Eq)]
@@ -27,7 +27,7 @@ fn is_named(tap: Option<TapName>, name: TapName) -> bool
 
 impl Sides {
     /// The taps that are asked for, before any was met.
-    pub fn new(wanted: &Wanted) -> Sides
+    pub fn new(wanted: &WantedTaps) -> Sides
         ensures { result ≡ sides_wanted wanted.now }
     {
         Sides {
@@ -60,7 +60,7 @@ impl Sides {
     }
 }
 
-impl Wanted {
+impl WantedTaps {
     /// Whether both taps are asked for.
     pub fn names_both(&self) -> bool
         ensures { result ≡ both_named self.now }

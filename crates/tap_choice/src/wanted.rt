@@ -3,7 +3,7 @@ use event_codec::PortIdentity;
 
 /// Which taps and whose messages are asked for, as far as they are.
 #[derive(Clone, Copy, Debug, PartialEq, Eq)]
-pub struct Wanted {
+pub struct WantedTaps {
     /// The tap that a Sync meets first.
     pub from: Option<TapName>,
     /// The tap that a Delay_Req meets first.

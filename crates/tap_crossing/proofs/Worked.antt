@@ -9,7 +9,7 @@ use Rattle.tap_crossing.specs.declared.sighting.Place.TheVariants as places
 use Rattle.tap_crossing.specs.declared.sighting.Placed.{Placed}
 use Rattle.tap_crossing.specs.declared.crossing.Crossing.{Crossing}
 use Rattle.tap_crossing.specs.declared.crossing.NoCrossing.TheVariants as reasons
-use Rattle.tap_crossing.specs.declared.crossing.Outcome.TheVariants as outcomes
+use Rattle.tap_crossing.specs.declared.crossing.MessageOutcome.TheVariants as outcomes
 use Rattle.tap_crossing.specs.Changes.{no_changes}
 use Rattle.tap_crossing.specs.Open.{number_of, open_count}
 use Rattle.tap_crossing.specs.Records.{records}

@@ -4,7 +4,7 @@ use Rattle.pairing.specs.Marked.{Marked, newest_first}
 use Rattle.tap_crossing.specs.declared.sighting.Kind.TheVariants as kinds
 use Rattle.tap_crossing.specs.declared.sighting.Placed.{Placed}
 use Rattle.tap_crossing.specs.declared.places.Record.{Record}
-use Rattle.tap_crossing.specs.declared.crossing.Outcome.{Outcome}
+use Rattle.tap_crossing.specs.declared.crossing.MessageOutcome.{MessageOutcome}
 use Rattle.tap_crossing.specs.Records.{records}
 use Rattle.tap_crossing.specs.Open.{HoldsOpen}
 use Rattle.tap_crossing.specs.Told.{told}
@@ -32,6 +32,6 @@ StandsAfter p old new =
     (capacity : ℕ) (met : List Placed) → StandsFor capacity old met → StandsFor capacity new (p ∷ met)
 
 -- whatever they stand for, this is told of one more message
-abbrev pub IsTold : Placed → Tables → Outcome → Type 0
+abbrev pub IsTold : Placed → Tables → MessageOutcome → Type 0
 IsTold p tables outcome =
     (capacity : ℕ) (met : List Placed) → StandsFor capacity tables met → outcome ≡ told capacity p met

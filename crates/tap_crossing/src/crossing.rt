@@ -52,7 +52,7 @@ pub enum NoCrossing {
 
 /// What a message brings.
 #[derive(Clone, Copy, Debug, PartialEq, Eq)]
-pub enum Outcome {
+pub enum MessageOutcome {
     /// It took its place, and the record waits for others.
     Waits,
     /// Its place was taken, so the record is spoiled from now on.
@@ -185,30 +185,30 @@ impl Complete {
     }
 
     /// What is told when the record closes.
-    fn closes(&self, kind: Kind, number: Seq) -> Outcome
+    fn closes(&self, kind: Kind, number: Seq) -> MessageOutcome
         ensures value { result ≡ closes kind number self.now }
         ensures within { IfCrossed result IsWithin }
     {
         match self.no_crossing(kind) {
-            Some(reason) => Outcome::Closed(reason),
-            None => Outcome::Crossed(self.crossing(kind, number)),
+            Some(reason) => MessageOutcome::Closed(reason),
+            None => MessageOutcome::Crossed(self.crossing(kind, number)),
         }
     }
 }
 
 /// What is told when a message comes to a record that isn't closed.
-pub(crate) fn comes_to(placed: &Placed, found: &Record) -> Outcome
+pub(crate) fn comes_to(placed: &Placed, found: &Record) -> MessageOutcome
     ensures value { result ≡ comes_to placed.now found.now }
     ensures within { IfCrossed result IsWithin }
 {
     let Record::Open(places) = found else {
-        return Outcome::IsSpoiled;
+        return MessageOutcome::IsSpoiled;
     };
     if places.place(placed.place).is_some() {
-        return Outcome::Spoils;
+        return MessageOutcome::Spoils;
     }
     match places.with(placed.place, placed.sighting).complete() {
         Some(complete) => complete.closes(placed.kind, placed.number),
-        None => Outcome::Waits,
+        None => MessageOutcome::Waits,
     }
 }

@@ -12,7 +12,7 @@ mod taps;
 mod watched;
 
 pub use changes::Changes;
-pub use crossing::{Crossing, NoCrossing, Outcome};
+pub use crossing::{Crossing, MessageOutcome, NoCrossing};
 pub use places::{Filled, Places, Record};
 pub use sighting::{Fields, Kind, Place, Placed, Sighting, Tap};
 pub use taps::Taps;

@@ -10,7 +10,7 @@ ghost use Rattle.tap_crossing.specs.Crossing.{IsWithin};
 ghost use Rattle.tap_crossing.specs.Inner.Counted.{one_more, one_less, recounted};
 ghost use Rattle.tap_crossing.specs.Inner.Kept.{kept, told_in};
 
-use crate::crossing::{Outcome, comes_to};
+use crate::crossing::{MessageOutcome, comes_to};
 use crate::places::{Filled, Places, Record};
 use crate::sighting::{Kind, Placed};
 use pairing::PairTable;
@@ -82,7 +82,11 @@ fn one_less(counts: &mut [u64; 16], number: Option<usize>)
 }
 
 /// A message comes to the newest record of its number, or opens one.
-fn come<T: PairTable<Record>>(table: &mut T, counts: &mut [u64; 16], placed: Placed) -> Outcome
+fn come<T: PairTable<Record>>(
+    table: &mut T,
+    counts: &mut [u64; 16],
+    placed: Placed,
+) -> MessageOutcome
     ensures kept { T.marked table.new ≡ kept T.CAPACITY placed
         (unclosed (find placed.number.0 (T.marked table.old))) (T.marked table.old) }
     ensures told { result ≡ told_in placed (unclosed (find placed.number.0 (T.marked table.old))) }
@@ -124,7 +128,7 @@ impl<T: PairTable<Record>> Taps<T> {
     /// What a message brings that was met: nothing yet, that its record is spoiled, that this closes and is no
     /// crossing, and why, or the crossing. It takes its place in the record of its number that waits for messages, and
     /// opens one where none of the last ones does.
-    pub fn meet(&mut self, placed: Placed) -> Outcome
+    pub fn meet(&mut self, placed: Placed) -> MessageOutcome
         ensures told { IsTold placed self.old result }
         ensures within { IfCrossed result IsWithin }
         ensures stands { StandsAfter placed self.old self.new }

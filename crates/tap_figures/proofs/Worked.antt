@@ -3,8 +3,8 @@
 use Rattle.std.proofs.Common.{◌≡◌, pos, true, List, [], ◌∷◌, Some, None, refl}
 use Rattle.tap_crossing.specs.declared.changes.Changes.{Changes}
 use Rattle.tap_crossing.specs.declared.crossing.NoCrossing.TheVariants.{TooBig, TwoStepAtFromAlone, OtherTimestamp}
-use Rattle.tap_crossing.specs.declared.crossing.Outcome.{Outcome}
-use Rattle.tap_crossing.specs.declared.crossing.Outcome.TheVariants.{Waits, Spoils, IsSpoiled, Closed}
+use Rattle.tap_crossing.specs.declared.crossing.MessageOutcome.{MessageOutcome}
+use Rattle.tap_crossing.specs.declared.crossing.MessageOutcome.TheVariants.{Waits, Spoils, IsSpoiled, Closed}
 use Rattle.tap_crossing.specs.Changes.{no_changes}
 use Rattle.tap_figures.specs.Changed.{AreChanged}
 use Rattle.tap_figures.specs.Median.{middle_of}
@@ -45,7 +45,7 @@ changed = record {
 }
 
 -- a record that two messages came to once it was spoiled counts once
-abbrev outcomes : List Outcome
+abbrev outcomes : List MessageOutcome
 outcomes = Closed OtherTimestamp ∷ IsSpoiled ∷ Closed TooBig ∷ IsSpoiled ∷ Spoils ∷ Waits ∷ Closed TwoStepAtFromAlone
     ∷ Closed OtherTimestamp ∷ []
 

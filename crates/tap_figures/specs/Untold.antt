@@ -3,12 +3,12 @@ use Rattle.std.specs.Prelude.{◌≡◌, Bool, true, false, List, count_by}
 use Rattle.recording_quality.specs.Wide.{at_most}
 use Rattle.tap_crossing.specs.declared.crossing.NoCrossing.{NoCrossing}
 use Rattle.tap_crossing.specs.declared.crossing.NoCrossing.TheVariants as reasons
-use Rattle.tap_crossing.specs.declared.crossing.Outcome.{Outcome}
-use Rattle.tap_crossing.specs.declared.crossing.Outcome.TheVariants as outcomes
+use Rattle.tap_crossing.specs.declared.crossing.MessageOutcome.{MessageOutcome}
+use Rattle.tap_crossing.specs.declared.crossing.MessageOutcome.TheVariants as outcomes
 use Rattle.tap_figures.specs.declared.untold.Untold.{Untold}
 
 -- a message's place was taken, so its record is spoiled from now on
-abbrev pub is_spoiling : Outcome → Bool
+abbrev pub is_spoiling : MessageOutcome → Bool
 is_spoiling outcomes.Waits = false
 is_spoiling outcomes.Spoils = true
 is_spoiling outcomes.IsSpoiled = false
@@ -16,7 +16,7 @@ is_spoiling (outcomes.Crossed x) = false
 is_spoiling (outcomes.Closed reason) = false
 
 -- a record closed for a reason for which this is so
-abbrev pub is_closed : (NoCrossing → Bool) → Outcome → Bool
+abbrev pub is_closed : (NoCrossing → Bool) → MessageOutcome → Bool
 is_closed is outcomes.Waits = false
 is_closed is outcomes.Spoils = false
 is_closed is outcomes.IsSpoiled = false
@@ -39,7 +39,7 @@ other_timestamp reasons.TwoStepAtFromAlone = false
 other_timestamp reasons.OtherTimestamp = true
 
 -- these are the counts of what messages brought
-pub record AreUntold (all : List Outcome) (u : Untold) : Type 0 where
+pub record AreUntold (all : List MessageOutcome) (u : Untold) : Type 0 where
   pub spoiled : u.spoiled ≡ at_most (count_by is_spoiling all)
   pub too_big : u.too_big ≡ at_most (count_by (is_closed too_big) all)
   pub two_step_at_from_alone : u.two_step_at_from_alone ≡ at_most (count_by (is_closed two_step_at_from_alone) all)

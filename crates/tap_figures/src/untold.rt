@@ -1,10 +1,10 @@
 //! Of how many records nothing is told, and why.
 ghost use Rattle.std.specs.Prelude.{◌≡◌, List, [], ◌∷◌};
-ghost use Rattle.tap_crossing.specs.declared.crossing.Outcome.{Outcome};
+ghost use Rattle.tap_crossing.specs.declared.crossing.MessageOutcome.{MessageOutcome};
 ghost use Rattle.tap_figures.specs.Untold.{AreUntold, is_spoiling, is_closed, too_big, two_step_at_from_alone, other_timestamp};
 
 use crate::counting::count_if;
-use tap_crossing::{NoCrossing, Outcome};
+use tap_crossing::{MessageOutcome, NoCrossing};
 
 /// Of how many records nothing is told, by why, each as far as 2^64 - 1.
 #[derive(Clone, Copy, Debug, PartialEq, Eq)]
@@ -19,28 +19,31 @@ pub struct Untold {
     pub other_timestamp: u64,
 }
 
-fn is_spoiling(outcome: &Outcome) -> bool
+fn is_spoiling(outcome: &MessageOutcome) -> bool
     ensures { result ≡ is_spoiling outcome.now }
 {
-    matches!(outcome, Outcome::Spoils)
+    matches!(outcome, MessageOutcome::Spoils)
 }
 
-fn is_too_big(outcome: &Outcome) -> bool
+fn is_too_big(outcome: &MessageOutcome) -> bool
     ensures { result ≡ is_closed too_big outcome.now }
 {
-    matches!(outcome, Outcome::Closed(NoCrossing::TooBig))
+    matches!(outcome, MessageOutcome::Closed(NoCrossing::TooBig))
 }
 
-fn is_two_step_at_from_alone(outcome: &Outcome) -> bool
+fn is_two_step_at_from_alone(outcome: &MessageOutcome) -> bool
     ensures { result ≡ is_closed two_step_at_from_alone outcome.now }
 {
-    matches!(outcome, Outcome::Closed(NoCrossing::TwoStepAtFromAlone))
+    matches!(
+        outcome,
+        MessageOutcome::Closed(NoCrossing::TwoStepAtFromAlone)
+    )
 }
 
-fn is_other_timestamp(outcome: &Outcome) -> bool
+fn is_other_timestamp(outcome: &MessageOutcome) -> bool
     ensures { result ≡ is_closed other_timestamp outcome.now }
 {
-    matches!(outcome, Outcome::Closed(NoCrossing::OtherTimestamp))
+    matches!(outcome, MessageOutcome::Closed(NoCrossing::OtherTimestamp))
 }
 
 impl Untold {
@@ -57,8 +60,8 @@ impl Untold {
     }
 
     /// Counts what one message more brings, where that is a record of which nothing is told.
-    pub fn take(&mut self, outcome: &Outcome)
-        ensures { (earlier : List Outcome) → AreUntold earlier self.old → AreUntold (outcome.now ∷ earlier) self.new }
+    pub fn take(&mut self, outcome: &MessageOutcome)
+        ensures { (earlier : List MessageOutcome) → AreUntold earlier self.old → AreUntold (outcome.now ∷ earlier) self.new }
     {
         self.spoiled = count_if(self.spoiled, is_spoiling(outcome));
         self.too_big = count_if(self.too_big, is_too_big(outcome));

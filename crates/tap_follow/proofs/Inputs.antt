@@ -11,13 +11,13 @@ use Rattle.text_lines.specs.Lines.{lfs_in}
 use Rattle.text_lines.proofs.KnownOctets.{Consumes-known}
 use Rattle.capture_file.specs.Beginning.{AreEnough, enough, start_of}
 use Rattle.capture_file.specs.Wrong.{HasMagic, HasNoMagic}
-use Rattle.tap_choice.specs.declared.wanted.Wanted.{Wanted}
+use Rattle.tap_choice.specs.declared.wanted.WantedTaps.{WantedTaps}
 use Rattle.tap_following.specs.declared.following.Form.{Form}
 use Rattle.tap_following.specs.Course.{begun}
 use Rattle.tap_follow.specs.declared.fault.FollowFault.{FollowFault}
 use Rattle.tap_follow.specs.declared.fault.FollowFault.TheVariants.{Write, Field, Memory, ThirdTap}
-use Rattle.tap_follow.specs.declared.input.Outcome.{Outcome}
-use Rattle.tap_follow.specs.declared.input.Outcome.TheVariants.{Lines, Capture}
+use Rattle.tap_follow.specs.declared.input.InputOutcome.{InputOutcome}
+use Rattle.tap_follow.specs.declared.input.InputOutcome.TheVariants.{Lines, Capture}
 use Rattle.tap_follow.specs.declared.summary.Summary.{Summary}
 use Rattle.tap_follow.specs.Rules.{nothing_read}
 use Rattle.tap_follow.specs.Input.{IsOutcome, head_text}
@@ -69,20 +69,20 @@ is_begun all left first octets read are known =
 
 -- ---- outcomes
 
-captured_outcome : (form : Form) (w : Wanted) (octets : List ℕ) (left before headed after : Option (List ℕ)) (outcome : Outcome)
+captured_outcome : (form : Form) (w : WantedTaps) (octets : List ℕ) (left before headed after : Option (List ℕ)) (outcome : InputOutcome)
     → HasMagic (start_of octets) → Appends before headed (head_text form)
     → PacketsAnswer (begun form w) octets left headed after outcome → IsOutcome form w octets left before after outcome
 captured_outcome form w octets left before headed after (Lines answer) magic head told = absurd told
 captured_outcome form w octets left before headed after (Capture answer) magic head told = (magic, (headed, head, told))
 
-lines_outcome : (form : Form) (w : Wanted) (octets : List ℕ) (left before headed after : Option (List ℕ)) (outcome : Outcome)
+lines_outcome : (form : Form) (w : WantedTaps) (octets : List ℕ) (left before headed after : Option (List ℕ)) (outcome : InputOutcome)
     → HasNoMagic (start_of octets) → Appends before headed (head_text form)
     → LinesAnswer (nothing_read form w) octets left headed after outcome → IsOutcome form w octets left before after outcome
 lines_outcome form w octets left before headed after (Lines answer) none head told = inr (none, inl (headed, head, told))
 lines_outcome form w octets left before headed after (Capture answer) none head told = absurd told
 
 -- a capture was measured behind its first octets
-pub captured : (form : Form) (w : Wanted) (all rest left before headed after : Option (List ℕ)) (first : List ℕ) (outcome : Outcome)
+pub captured : (form : Form) (w : WantedTaps) (all rest left before headed after : Option (List ℕ)) (first : List ℕ) (outcome : InputOutcome)
     → Consumes all rest first → AreEnough first rest → HasMagic first → Appends before headed (head_text form)
     → ForSome rest (λ octets. PacketsAnswer (begun form w) (first ++ octets) left headed after outcome)
     → ForSome all (λ octets. IsOutcome form w octets left before after outcome)
@@ -92,7 +92,7 @@ captured form w all rest left before headed after first outcome read are magic h
     (subst (λ (o : List ℕ). PacketsAnswer (begun form w) o left headed after outcome) (sym is.split) (told behind is.is_left))
 
 -- lines were measured behind their first octets
-pub lined : (form : Form) (w : Wanted) (all rest left before headed after : Option (List ℕ)) (first : List ℕ) (outcome : Outcome)
+pub lined : (form : Form) (w : WantedTaps) (all rest left before headed after : Option (List ℕ)) (first : List ℕ) (outcome : InputOutcome)
     → Consumes all rest first → AreEnough first rest → HasNoMagic first → Appends before headed (head_text form)
     → ForSome rest (λ octets. LinesAnswer (nothing_read form w) (first ++ octets) left headed after outcome)
     → ForSome all (λ octets. IsOutcome form w octets left before after outcome)
@@ -102,7 +102,7 @@ lined form w all rest left before headed after first outcome read are none head 
     (subst (λ (o : List ℕ). LinesAnswer (nothing_read form w) o left headed after outcome) (sym is.split) (told behind is.is_left))
 
 -- an LF is among the first octets
-pub short : (form : Form) (w : Wanted) (all rest before after : Option (List ℕ)) (first : List ℕ)
+pub short : (form : Form) (w : WantedTaps) (all rest before after : Option (List ℕ)) (first : List ℕ)
     → Consumes all rest first → AreEnough first rest → HasNoMagic first → 0 < lfs_in first → Appends before after (head_text form)
     → ForSome all (λ octets. IsOutcome form w octets rest before after (Lines (Err (record { line = 1; what = Task Field }))))
 short form w all rest before after first read are none lf head = λ octets known.
@@ -116,7 +116,7 @@ short form w all rest before after first read are none lf head = λ octets known
     )
 
 -- the reader failed ahead of the fourth octet
-pub failed_ahead : (form : Form) (w : Wanted) (all rest before after : Option (List ℕ)) (seen : List ℕ) → Consumes all rest seen
+pub failed_ahead : (form : Form) (w : WantedTaps) (all rest before after : Option (List ℕ)) (seen : List ℕ) → Consumes all rest seen
     → length seen < 4 → Appends before after (head_text form)
     → ForSome all (λ octets. IsOutcome form w octets rest before after (Lines (Err (record { line = 1; what = Reading Read }))))
 failed_ahead form w all rest before after seen read few head = λ octets known.
@@ -124,17 +124,17 @@ failed_ahead form w all rest before after seen read few head = λ octets known.
     inl (seen, unread, split, few, record { stopped = refl; head = head; input = is })
 
 -- ---- what is told
-lines_told : (form : Form) (w : Wanted) (octets : List ℕ) (outcome : Outcome) (summary : Summary)
+lines_told : (form : Form) (w : WantedTaps) (octets : List ℕ) (outcome : InputOutcome) (summary : Summary)
     → LinesTell form w octets outcome summary → TellsInput form w octets outcome summary
 lines_told form w octets (Lines answer) summary told = told
 lines_told form w octets (Capture answer) summary told = absurd told
 
-packets_told : (form : Form) (w : Wanted) (octets : List ℕ) (outcome : Outcome) (summary : Summary)
+packets_told : (form : Form) (w : WantedTaps) (octets : List ℕ) (outcome : InputOutcome) (summary : Summary)
     → PacketsTell form w octets outcome summary → TellsInput form w octets outcome summary
 packets_told form w octets (Lines answer) summary told = absurd told
 packets_told form w octets (Capture answer) summary told = told
 
-pub lined_told : (form : Form) (w : Wanted) (all rest : Option (List ℕ)) (first : List ℕ) (outcome : Outcome) (summary : Summary)
+pub lined_told : (form : Form) (w : WantedTaps) (all rest : Option (List ℕ)) (first : List ℕ) (outcome : InputOutcome) (summary : Summary)
     → Consumes all rest first → AreEnough first rest
     → ForSome rest (λ octets. LinesTell form w (first ++ octets) outcome summary)
     → ForSome all (λ octets. TellsInput form w octets outcome summary)
@@ -143,7 +143,7 @@ lined_told form w all rest first outcome summary read are told = λ octets known
     lines_told form w octets outcome summary
     (subst (λ (o : List ℕ). LinesTell form w o outcome summary) (sym is.split) (told behind is.is_left))
 
-pub captured_told : (form : Form) (w : Wanted) (all rest : Option (List ℕ)) (first : List ℕ) (outcome : Outcome) (summary : Summary)
+pub captured_told : (form : Form) (w : WantedTaps) (all rest : Option (List ℕ)) (first : List ℕ) (outcome : InputOutcome) (summary : Summary)
     → Consumes all rest first → AreEnough first rest
     → ForSome rest (λ octets. PacketsTell form w (first ++ octets) outcome summary)
     → ForSome all (λ octets. TellsInput form w octets outcome summary)
@@ -153,7 +153,7 @@ captured_told form w all rest first outcome summary read are told = λ octets kn
     (subst (λ (o : List ℕ). PacketsTell form w o outcome summary) (sym is.split) (told behind is.is_left))
 
 -- where nothing of the first line was taken
-pub none_told : (form : Form) (w : Wanted) (octets : List ℕ) (what : Cause FollowFault) (outcome : Outcome) (summary : Summary)
+pub none_told : (form : Form) (w : WantedTaps) (octets : List ℕ) (what : Cause FollowFault) (outcome : InputOutcome) (summary : Summary)
     → outcome ≡ Lines (Err (record { line = 1; what = what })) → IsSummaryOf (begun form w) summary
     → TellsInput form w octets outcome summary
 none_told form w octets (Reading fault) outcome summary is told = rw is (0, refl, nothing_read form w, [], (refl, refl), told)

@@ -10,7 +10,7 @@ use Rattle.capture_file.specs.declared.fault.CaptureCause.TheVariants as causes
 use Rattle.capture_file.specs.declared.fault.CaptureStop.{CaptureStop}
 use Rattle.capture_file.specs.Parts.{Part, packets_of}
 use Rattle.capture_file.specs.Task as packets
-use Rattle.tap_choice.specs.declared.wanted.Wanted.{Wanted}
+use Rattle.tap_choice.specs.declared.wanted.WantedTaps.{WantedTaps}
 use Rattle.tap_following.specs.declared.following.Form.{Form}
 use Rattle.tap_following.specs.Course.{Course, begun, ended}
 use Rattle.tap_following.specs.Held.{IsFollower}
@@ -39,7 +39,7 @@ PacketsEnded of old new = IsEnded (of old).taking.follower (of new).taking.follo
 
 -- ---- lines
 -- of a task that has in it what follows
-module _ {T : Type 0} (of : T → Lines) (form : Form) (w : Wanted) (octets : List ℕ) (task : T) (summary : Summary)
+module _ {T : Type 0} (of : T → Lines) (form : Form) (w : WantedTaps) (octets : List ℕ) (task : T) (summary : Summary)
     (is : (c : Course) → IsFollower (of task).taking.follower c → IsSummaryOf c summary)
   where
     lines_until : (earlier line : ℕ) (what : Cause FollowFault) (state : LinesRead) (text : List ℕ) → line ≡ earlier + 1
@@ -64,7 +64,7 @@ module _ {T : Type 0} (of : T → Lines) (form : Form) (w : Wanted) (octets : Li
 
 -- ---- packets
 -- the same
-module _ {T : Type 0} (of : T → Packets) (form : Form) (w : Wanted) (octets : List ℕ) (task : T) (summary : Summary)
+module _ {T : Type 0} (of : T → Packets) (form : Form) (w : WantedTaps) (octets : List ℕ) (task : T) (summary : Summary)
     (is : (c : Course) → IsFollower (of task).taking.follower c → IsSummaryOf c summary)
   where
     packets_until : (count : ℕ) (what : CaptureCause FollowFault) (parts : List Part) (rest : List ℕ) (state : Course)

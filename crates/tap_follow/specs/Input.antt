@@ -15,15 +15,15 @@ use Rattle.capture_file.specs.declared.fault.CaptureStop.{CaptureStop}
 use Rattle.capture_file.specs.Beginning.{enough, start_of}
 use Rattle.capture_file.specs.Task as packets
 use Rattle.capture_file.specs.Wrong.{HasMagic, HasNoMagic}
-use Rattle.tap_choice.specs.declared.wanted.Wanted.{Wanted}
+use Rattle.tap_choice.specs.declared.wanted.WantedTaps.{WantedTaps}
 use Rattle.tap_following.specs.declared.following.Form.{Form}
 use Rattle.tap_following.specs.declared.following.Form.TheVariants.{Json, Table, Sums}
 use Rattle.tap_following.specs.Course.{begun}
 use Rattle.tap_lines.specs.Crossed.{table_head}
 use Rattle.tap_follow.specs.declared.fault.FollowFault.{FollowFault}
 use Rattle.tap_follow.specs.declared.fault.FollowFault.TheVariants.{Write, Field}
-use Rattle.tap_follow.specs.declared.input.Outcome.{Outcome}
-use Rattle.tap_follow.specs.declared.input.Outcome.TheVariants.{Lines, Capture}
+use Rattle.tap_follow.specs.declared.input.InputOutcome.{InputOutcome}
+use Rattle.tap_follow.specs.declared.input.InputOutcome.TheVariants.{Lines, Capture}
 use Rattle.tap_follow.specs.Rules.{nothing_read, line_rules, packet_rules}
 
 -- what goes out before anything is read
@@ -33,14 +33,14 @@ head_text Table = table_head
 head_text Sums = []
 
 -- what an answer over the octets of lines says: the head went out, and then what the lines bring
-abbrev pub FollowsLines : Form → Wanted → List ℕ → (left before after : Option (List ℕ))
+abbrev pub FollowsLines : Form → WantedTaps → List ℕ → (left before after : Option (List ℕ))
     → Result ℕ (Stopped (Cause FollowFault)) → Type 0
 FollowsLines form w octets left before after answer =
     (headed : Option (List ℕ)) × Appends before headed (head_text form)
     × Answers line_rules (nothing_read form w) octets left headed after answer
 
 -- what an answer over the octets of a capture says: the head went out, and then what the packets bring
-abbrev pub FollowsCapture : Form → Wanted → List ℕ → (left before after : Option (List ℕ))
+abbrev pub FollowsCapture : Form → WantedTaps → List ℕ → (left before after : Option (List ℕ))
     → Result ℕ (CaptureStop FollowFault) → Type 0
 FollowsCapture form w octets left before after answer =
     (headed : Option (List ℕ)) × Appends before headed (head_text form)
@@ -67,7 +67,7 @@ HasShortLine form octets left before after answer =
     × StopsEarly form left before after (drop (enough octets) octets) (Task Field) answer
 
 -- what came of octets
-abbrev pub IsOutcome : Form → Wanted → List ℕ → (left before after : Option (List ℕ)) → Outcome → Type 0
+abbrev pub IsOutcome : Form → WantedTaps → List ℕ → (left before after : Option (List ℕ)) → InputOutcome → Type 0
 IsOutcome form w octets left before after (Lines answer) =
     FailsAhead form octets left before after answer
     ⊎ (HasNoMagic (start_of octets)
@@ -76,7 +76,7 @@ IsOutcome form w octets left before after (Capture answer) =
     HasMagic (start_of octets) × FollowsCapture form w octets left before after answer
 
 -- the head of a table couldn't be written, and nothing was read
-pub record HasNoHead {R W : Type 0} (form : Form) (outcome : Outcome) (input input' : Counted R) (output output' : Counted W)
+pub record HasNoHead {R W : Type 0} (form : Form) (outcome : InputOutcome) (input input' : Counted R) (output output' : Counted W)
     : Type 0 where
   pub table : form ≡ Table
   pub stopped : outcome ≡ Lines (Err (record { line = 0; what = Task Write }))
@@ -84,7 +84,7 @@ pub record HasNoHead {R W : Type 0} (form : Form) (outcome : Outcome) (input inp
   pub failed : HasFailed output output'
 
 -- what an outcome says where the reader tells its octets, and where the writer does
-abbrev pub FollowsInput : {R W : Type 0} → Form → Wanted → (R → Option (List ℕ)) → (W → Option (List ℕ)) → Outcome
+abbrev pub FollowsInput : {R W : Type 0} → Form → WantedTaps → (R → Option (List ℕ)) → (W → Option (List ℕ)) → InputOutcome
     → (input input' : Counted R) (output output' : Counted W) → Type 0
 FollowsInput form w remaining contents outcome input input' output output' =
     HasNoHead form outcome input input' output output'
@@ -93,7 +93,7 @@ FollowsInput form w remaining contents outcome input input' output output' =
     outcome)
 
 -- which of the two devices failed at this outcome
-abbrev pub OutcomeFailed : {R W : Type 0} → Outcome → (input input' : Counted R) (output output' : Counted W) → Type 0
+abbrev pub OutcomeFailed : {R W : Type 0} → InputOutcome → (input input' : Counted R) (output output' : Counted W) → Type 0
 OutcomeFailed (Lines answer) input input' output output' = MatchResult answer
     (λ _. HasNotFailed input input' × HasNotFailed output output')
     (λ stop. FailedAt line_rules stop.what input input' output output')

@@ -5,7 +5,7 @@ use Rattle.text_lines.specs.declared.fault.Cause.{Cause}
 use Rattle.text_lines.specs.declared.fault.Cause.TheVariants.{Reading, Task}
 use Rattle.text_lines.specs.declared.fault.ReadingFault.TheVariants.{Read, LineTooLong, TooManyLines}
 use Rattle.text_lines.specs.declared.fault.Stopped.{Stopped}
-use Rattle.tap_choice.specs.declared.wanted.Wanted.{Wanted}
+use Rattle.tap_choice.specs.declared.wanted.WantedTaps.{WantedTaps}
 use Rattle.tap_following.specs.declared.following.Form.{Form}
 use Rattle.tap_follow.specs.declared.fault.FollowFault.{FollowFault}
 use Rattle.tap_follow.specs.declared.fault.FollowFault.TheVariants.{Write, Field, Memory, ThirdTap}
@@ -26,7 +26,7 @@ IsSure answer = MatchResult answer (λ _. ⊤) (λ stop. IsOfInput stop.what)
 
 -- two such answers over the same lines are the same, leave the same octets and have written the same
 abbrev pub LinesHaveOneAnswer : Type 0
-LinesHaveOneAnswer = (form : Form) (w : Wanted) (octets : List ℕ) (left before after left' before' after' : Option (List ℕ))
+LinesHaveOneAnswer = (form : Form) (w : WantedTaps) (octets : List ℕ) (left before after left' before' after' : Option (List ℕ))
     (answer answer' : Result ℕ (Stopped (Cause FollowFault)))
     → FollowsLines form w octets left before after answer → FollowsLines form w octets left' before' after' answer'
     → IsSure answer → IsSure answer'

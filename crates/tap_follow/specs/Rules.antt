@@ -6,7 +6,7 @@ use Rattle.capture_file.specs.Packet.{PacketOf}
 use Rattle.capture_file.specs.Task.{PacketRules}
 use Rattle.tap_choice.specs.declared.met.Met.{Met}
 use Rattle.tap_choice.specs.declared.met.Side.{Side}
-use Rattle.tap_choice.specs.declared.wanted.Wanted.{Wanted}
+use Rattle.tap_choice.specs.declared.wanted.WantedTaps.{WantedTaps}
 use Rattle.tap_following.specs.declared.following.Form.{Form}
 use Rattle.tap_following.specs.declared.follower.Arrival.{Arrival}
 use Rattle.tap_following.specs.declared.follower.Arrival.TheVariants as arrivals
@@ -69,7 +69,7 @@ StopsAtEnd c Memory out = out ≡ []
 StopsAtEnd c (ThirdTap name) out = ⊥
 
 -- nothing was read
-abbrev pub nothing_read : Form → Wanted → LinesRead
+abbrev pub nothing_read : Form → WantedTaps → LinesRead
 nothing_read form w = record { count = 0; course = begun form w }
 
 -- the lines of an input, as many as can be counted

@@ -20,14 +20,14 @@ use crate::told::Told;
 use capture_file::{Beginning, CaptureStop, answer_packets_behind};
 use std::alloc::Global;
 use std::io::{Read, Write};
-use tap_choice::Wanted;
+use tap_choice::WantedTaps;
 use tap_following::{Follower, Form};
 use tap_lines::table_head;
 use text_lines::{Cause, Counted, ReadingFault, Stopped, answer_lines_behind, write_text};
 
 /// What came of an input that was followed.
 #[derive(Clone, Copy, Debug)]
-pub enum Outcome {
+pub enum InputOutcome {
     /// It was lines: how many there were, or at which one it stopped, and why.
     Lines(Result<u64, Stopped<Cause<FollowFault>>>),
     /// It was a capture: how many packets there were, or where it stopped, and why.
@@ -48,12 +48,12 @@ pub enum Outcome {
 /// refused) and 809 (a third tap). What was told before is written then.
 pub fn follow<R: Read, W: Write, E: Write>(
     alloc: Global,
-    wanted: &Wanted,
+    wanted: &WantedTaps,
     form: Form,
     input: &mut Counted<R>,
     output: &mut Counted<W>,
     errors: &mut E,
-) -> (Outcome, Summary)
+) -> (InputOutcome, Summary)
     ensures followed { FollowsInput form wanted.now R.remaining W.contents result.0
         input.old input.new output.old output.new }
     ensures summary { ForSome (R.remaining (device_of input.old)) (λ octets.
@@ -102,28 +102,28 @@ fn has_lf(octets: &[u8]) -> bool
 /// What came of lines where one stops them early.
 fn stopped(
     alloc: Global,
-    wanted: &Wanted,
+    wanted: &WantedTaps,
     form: Form,
     line: u64,
     what: Cause<FollowFault>,
-) -> (Outcome, Summary)
-    ensures outcome { result.0 ≡ Outcome.Lines (Err (record { line = line; what = what })) }
+) -> (InputOutcome, Summary)
+    ensures outcome { result.0 ≡ InputOutcome.Lines (Err (record { line = line; what = what })) }
     ensures summary { IsSummaryOf (begun form wanted.now) result.1 }
 {
     let summary = Summary::new(Follower::new(alloc, form, wanted), Told::new(), None);
-    (Outcome::Lines(Err(Stopped { line, what })), summary)
+    (InputOutcome::Lines(Err(Stopped { line, what })), summary)
 }
 
 /// Follows lines, of which these octets were read.
 fn follow_lines<R: Read, W: Write, E: Write>(
     alloc: Global,
-    wanted: &Wanted,
+    wanted: &WantedTaps,
     form: Form,
     start: &[u8],
     input: &mut Counted<R>,
     output: &mut Counted<W>,
     errors: &mut E,
-) -> (Outcome, Summary)
+) -> (InputOutcome, Summary)
     requires unended { All (λ x. x ≢ 10) start.now }
     requires within { length start.now ≤ line_limit }
     ensures answered { ForSome (R.remaining (device_of input.old)) (λ octets.
@@ -140,24 +140,27 @@ fn follow_lines<R: Read, W: Write, E: Write>(
 }
 
 /// What came of lines, and what is told of them.
-fn of_lines(answer: Result<u64, Stopped<Cause<FollowFault>>>, lines: Lines) -> (Outcome, Summary)
-    ensures outcome { result.0 ≡ Outcome.Lines answer }
+fn of_lines(
+    answer: Result<u64, Stopped<Cause<FollowFault>>>,
+    lines: Lines,
+) -> (InputOutcome, Summary)
+    ensures outcome { result.0 ≡ InputOutcome.Lines answer }
     ensures summary { (c : Course) → IsFollower lines.taking.follower c → IsSummaryOf c result.1 }
 {
     let summary = Summary::new(lines.taking.follower, lines.taking.told, None);
-    (Outcome::Lines(answer), summary)
+    (InputOutcome::Lines(answer), summary)
 }
 
 /// Follows a capture, of which these octets were read.
 fn follow_packets<R: Read, W: Write, E: Write>(
     alloc: Global,
-    wanted: &Wanted,
+    wanted: &WantedTaps,
     form: Form,
     start: &[u8],
     input: &mut Counted<R>,
     output: &mut Counted<W>,
     errors: &mut E,
-) -> (Outcome, Summary)
+) -> (InputOutcome, Summary)
     requires { length start.now ≤ 4 }
     ensures answered { ForSome (R.remaining (device_of input.old)) (λ octets.
         PacketsAnswer (begun form wanted.now) (start.now ++ octets) (R.remaining (device_of input.new))
@@ -173,11 +176,14 @@ fn follow_packets<R: Read, W: Write, E: Write>(
 }
 
 /// What came of a capture, and what is told of it.
-fn of_packets(answer: Result<u64, CaptureStop<FollowFault>>, packets: Packets) -> (Outcome, Summary)
-    ensures outcome { result.0 ≡ Outcome.Capture answer }
+fn of_packets(
+    answer: Result<u64, CaptureStop<FollowFault>>,
+    packets: Packets,
+) -> (InputOutcome, Summary)
+    ensures outcome { result.0 ≡ InputOutcome.Capture answer }
     ensures summary { (c : Course) → IsFollower packets.taking.follower c → IsSummaryOf c result.1 }
 {
     let Packets { taking, counts } = packets;
     let summary = Summary::new(taking.follower, taking.told, Some(counts));
-    (Outcome::Capture(answer), summary)
+    (InputOutcome::Capture(answer), summary)
 }

@@ -13,5 +13,5 @@ mod task;
 mod told;
 
 pub use fault::FollowFault;
-pub use input::{Outcome, follow};
+pub use input::{InputOutcome, follow};
 pub use summary::Summary;

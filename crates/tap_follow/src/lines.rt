@@ -13,7 +13,7 @@ use crate::task::{Datagram, Taking, message_in};
 use capture_lines::{Timed, read_timed};
 use std::alloc::Global;
 use std::io::Write;
-use tap_choice::{TapName, Wanted};
+use tap_choice::{TapName, WantedTaps};
 use tap_following::Form;
 use text_lines::{Counted, LINE_LIMIT, LineTask};
 
@@ -102,7 +102,7 @@ fn read_line<'room>(
 
 impl Lines {
     /// No line came yet.
-    pub(crate) fn new(alloc: Global, wanted: &Wanted, form: Form) -> Lines
+    pub(crate) fn new(alloc: Global, wanted: &WantedTaps, form: Form) -> Lines
         ensures { AreLines result (nothing_read form wanted.now) }
     {
         Lines {

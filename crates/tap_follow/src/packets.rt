@@ -20,7 +20,7 @@ use itoa::Buffer;
 use ptp_units::ScaledTime;
 use std::alloc::Global;
 use std::io::Write;
-use tap_choice::{TapName, Wanted};
+use tap_choice::{TapName, WantedTaps};
 use tap_following::Form;
 use text_lines::Counted;
 
@@ -59,7 +59,7 @@ fn tap_of(interface: &Interface<'_>) -> Option<TapName>
 
 impl Packets {
     /// No packet came yet.
-    pub(crate) fn new(alloc: Global, wanted: &Wanted, form: Form) -> Packets
+    pub(crate) fn new(alloc: Global, wanted: &WantedTaps, form: Form) -> Packets
         ensures { ArePackets result (begun form wanted.now) }
     {
         Packets {

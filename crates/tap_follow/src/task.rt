@@ -16,7 +16,7 @@ use event_codec::{DecodeRefusal, Message, decode};
 use ptp_units::ScaledTime;
 use std::alloc::Global;
 use std::io::Write;
-use tap_choice::{Met, Side, TapName, Wanted};
+use tap_choice::{Met, Side, TapName, WantedTaps};
 use tap_following::{Arrival, Follower, Form};
 use text_lines::{Counted, write_text};
 
@@ -52,7 +52,7 @@ pub(crate) fn message_in(octets: &[u8]) -> Result<Message<'_>, DecodeRefusal>
 
 impl Taking {
     /// Nothing was met.
-    pub(crate) fn new(alloc: Global, wanted: &Wanted, form: Form) -> Taking
+    pub(crate) fn new(alloc: Global, wanted: &WantedTaps, form: Form) -> Taking
         ensures { IsFollower result.follower (begun form wanted.now) }
     {
         Taking {

@@ -8,8 +8,8 @@ use Rattle.datagram_text.specs.Shown.{stamp_text}
 use Rattle.tap_choice.specs.declared.met.Met.{Met}
 use Rattle.tap_crossing.specs.declared.crossing.Crossing.{Crossing}
 use Rattle.tap_crossing.specs.declared.crossing.NoCrossing.{NoCrossing}
-use Rattle.tap_crossing.specs.declared.crossing.Outcome.{Outcome}
-use Rattle.tap_crossing.specs.declared.crossing.Outcome.TheVariants as outcomes
+use Rattle.tap_crossing.specs.declared.crossing.MessageOutcome.{MessageOutcome}
+use Rattle.tap_crossing.specs.declared.crossing.MessageOutcome.TheVariants as outcomes
 use Rattle.tap_crossing.specs.declared.sighting.Kind.{Kind}
 use Rattle.tap_crossing.specs.declared.sighting.Kind.TheVariants as kinds
 use Rattle.tap_crossing.specs.declared.sighting.Placed.{Placed}
@@ -71,7 +71,7 @@ module _ (form : Form) (f : Followed) (m : Met) (earlier : List Met) where
   abbrev crossing_by : Option Placed → Option Crossing
   crossing_by p = option_and_then (λ q. crossing_in (told records_most q (placed_in f earlier))) p
 
-  abbrev outcome_by : Kind → Option Placed → Option Outcome
+  abbrev outcome_by : Kind → Option Placed → Option MessageOutcome
   outcome_by kind p = option_and_then (λ q. outcome_of kind q.kind (told records_most q (placed_in f earlier))) p
 
   abbrev text_by : Option Crossing → List ℕ
@@ -128,7 +128,7 @@ module _ (form : Form) (f : Followed) (m : Met) (earlier : List Met) where
   })
 
   -- what is held once a message that has a place was met, and what it brought was counted
-  pub record Counted (p : Placed) (outcome : Outcome) (held new : Held) : Type 0 where
+  pub record Counted (p : Placed) (outcome : MessageOutcome) (held new : Held) : Type 0 where
     pub form_is : new.form ≡ held.form
     pub followed : new.followed ≡ held.followed
     pub stands : StandsAfter p held.tables new.tables
@@ -138,7 +138,7 @@ module _ (form : Form) (f : Followed) (m : Met) (earlier : List Met) where
         AreUntold (option_to_list (outcome_of kinds.DelayReq p.kind outcome) ++ outcomes_in kinds.DelayReq f earlier)
         new.untold_requests
 
-  pub told-more : (held new : Held) (p : Placed) (outcome : Outcome) (x : Option Crossing) (text : List ℕ)
+  pub told-more : (held new : Held) (p : Placed) (outcome : MessageOutcome) (x : Option Crossing) (text : List ℕ)
       → IsLearned form f m earlier held → outcome ≡ told records_most p (placed_in f earlier) → crossing_in outcome ≡ x
       → Counted p outcome held new → AreSums (option_to_list x ++ crossings_in f earlier) new.sums
       → AreFigures (option_to_list x ++ crossings_in f earlier) new.figures → text ≡ text_by x → Comes (Some p) new text
@@ -153,15 +153,15 @@ module _ (form : Form) (f : Followed) (m : Met) (earlier : List Met) where
         stands = counted.stands records_most (placed_in f earlier) at.stands;
         sums = subst (λ (y : Option Crossing). AreSums (option_to_list y ++ crossings_in f earlier) new.sums) x_is sums;
         figures = subst (λ (y : Option Crossing). AreFigures (option_to_list y ++ crossings_in f earlier) new.figures) x_is figures;
-        untold_syncs = subst (λ (o : Outcome). AreUntold (option_to_list (outcome_of kinds.Sync p.kind o)
+        untold_syncs = subst (λ (o : MessageOutcome). AreUntold (option_to_list (outcome_of kinds.Sync p.kind o)
             ++ outcomes_in kinds.Sync f earlier) new.untold_syncs) is counted.untold_syncs;
-        untold_requests = subst (λ (o : Outcome). AreUntold (option_to_list (outcome_of kinds.DelayReq p.kind o)
+        untold_requests = subst (λ (o : MessageOutcome). AreUntold (option_to_list (outcome_of kinds.DelayReq p.kind o)
             ++ outcomes_in kinds.DelayReq f earlier) new.untold_requests) is counted.untold_requests;
         text_is = text_is ∙ ap text_by x_is;
       }
 
   -- the same with other sums
-  pub counted-with : (p : Placed) (outcome : Outcome) (held new : Held) (sums : Sums) (figures : Figures)
+  pub counted-with : (p : Placed) (outcome : MessageOutcome) (held new : Held) (sums : Sums) (figures : Figures)
       → Counted p outcome held new → Counted p outcome held (record new { sums = sums; figures = figures })
   counted-with p outcome held new sums figures counted = record {
     form_is = counted.form_is;
@@ -171,7 +171,7 @@ module _ (form : Form) (f : Followed) (m : Met) (earlier : List Met) where
     untold_requests = counted.untold_requests;
   }
 
-  pub text-told : (held new : Held) (p : Placed) (outcome : Outcome) (x : Crossing) → IsLearned form f m earlier held
+  pub text-told : (held new : Held) (p : Placed) (outcome : MessageOutcome) (x : Crossing) → IsLearned form f m earlier held
       → Counted p outcome held new → text_as new.form (told_of new.followed x) ≡ text_by (Some x)
   text-told held new p outcome x at counted =
       let from : new.followed.from_name ≡ f.from_name = ap (λ (g : Followed). g.from_name) counted.followed ∙ at.from_name in
@@ -185,7 +185,7 @@ module _ (form : Form) (f : Followed) (m : Met) (earlier : List Met) where
       })
 
 -- an outcome that is no crossing
-pub none-crossed : (outcome : Outcome) → (outcome ≡ outcomes.Waits) ⊎ ((outcome ≡ outcomes.Spoils)
+pub none-crossed : (outcome : MessageOutcome) → (outcome ≡ outcomes.Waits) ⊎ ((outcome ≡ outcomes.Spoils)
     ⊎ ((outcome ≡ outcomes.IsSpoiled) ⊎ ((reason : NoCrossing) × (outcome ≡ outcomes.Closed reason))))
     → crossing_in outcome ≡ None
 none-crossed outcome (inl is) = ap crossing_in is

@@ -5,7 +5,7 @@ use Rattle.std.proofs.lemmas.List.{append-nil, append_assoc}
 use Rattle.std.proofs.lemmas.Bool.Decides.{nat_tests}
 use Rattle.tap_choice.specs.declared.met.Met.{Met}
 use Rattle.tap_choice.specs.declared.sides.Sides.{Sides}
-use Rattle.tap_choice.specs.declared.wanted.Wanted.{Wanted}
+use Rattle.tap_choice.specs.declared.wanted.WantedTaps.{WantedTaps}
 use Rattle.tap_choice.specs.Known.{Known, noticed}
 use Rattle.tap_following.specs.declared.followed.Followed.{Followed}
 use Rattle.tap_following.specs.declared.following.Form.{Form}
@@ -79,7 +79,7 @@ enough : (count n : ℕ) → count ≡ min n 1024 → (count == 1024) ≡ nat_le
 enough count n is = grind (arith, nat_tests)
 
 -- what is chosen by what is kept
-pub chosen_is : (w : Wanted) (s : Sides) (k : Known) (before kept : List Met) (count : ℕ) (result : Option Followed)
+pub chosen_is : (w : WantedTaps) (s : Sides) (k : Known) (before kept : List Met) (count : ℕ) (result : Option Followed)
     → IsKept before kept count → result ≡ followed_by (count == 1024) w s k (reverse kept) → result ≡ chosen w s k before
 chosen_is w s k before kept count result keeps is =
     is ∙ ap (λ (b : Bool). followed_by b w s k (reverse kept)) (enough count (length before) keeps.count_is)
@@ -114,7 +114,7 @@ pub chosen_now : (c : Course) (m : Met) (task : Holding) (result : Option Follow
     → chosen c.wanted c.sides (noticed syncs_most m c.known) (m ∷ c.before) ≡ result
 chosen_now c m task result is by =
     sym (chosen_is task.wanted task.sides task.known (m ∷ c.before) task.kept task.count result is.kept by
-    ∙ ap (λ (w : Wanted). chosen w task.sides task.known (m ∷ c.before)) is.wanted
+    ∙ ap (λ (w : WantedTaps). chosen w task.sides task.known (m ∷ c.before)) is.wanted
     ∙ ap (λ (s : Sides). chosen c.wanted s task.known (m ∷ c.before)) is.sides
     ∙ ap (λ (k : Known). chosen c.wanted c.sides k (m ∷ c.before)) is.choice)
 
@@ -168,7 +168,7 @@ ended_with known c = record c { followed = known; met = begins known c.before }
 ends_with : (c : Course) (task : Holding) → IsFollower task c → task.known ≡ c.known → IsKept c.before task.kept task.count
     → followed_by true task.wanted task.sides task.known (reverse task.kept) ≡ chosen_at_end c
 ends_with c task at choice kept =
-    ap (λ (w : Wanted). followed_by true w task.sides task.known (reverse task.kept)) at.wanted
+    ap (λ (w : WantedTaps). followed_by true w task.sides task.known (reverse task.kept)) at.wanted
     ∙ ap (λ (s : Sides). followed_by true c.wanted s task.known (reverse task.kept)) at.sides
     ∙ ap (λ (k : Known). followed_by true c.wanted c.sides k (reverse task.kept)) choice
     ∙ ap (λ (met : List Met). followed_by true c.wanted c.sides c.known met) kept.kept_are

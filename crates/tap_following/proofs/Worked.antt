@@ -9,7 +9,7 @@ use Rattle.event_codec.specs.declared.port.PortIdentity.{PortIdentity}
 use Rattle.tap_choice.specs.declared.met.Met.{Met}
 use Rattle.tap_choice.specs.declared.met.Side.{Side}
 use Rattle.tap_choice.specs.declared.met.Side.TheVariants as taps
-use Rattle.tap_choice.specs.declared.wanted.Wanted.{Wanted}
+use Rattle.tap_choice.specs.declared.wanted.WantedTaps.{WantedTaps}
 use Rattle.tap_following.specs.declared.follower.Arrival.TheVariants as arrivals
 use Rattle.tap_following.specs.declared.following.Form.TheVariants.{Json}
 use Rattle.tap_following.specs.Course.{Course, begun, arrival_of, with_tap, after, new_text, end_text}
@@ -55,7 +55,7 @@ abbrev follow_right : Met
 follow_right = message 0 taps.Second 7 117679394939045136302080 (pos 5203755008) (bodies.FollowUp precise)
 
 -- who the slave is, is asked for or not
-abbrev asked : Option PortIdentity → Wanted
+abbrev asked : Option PortIdentity → WantedTaps
 asked slave = record { from = None; to = None; domain = None; master = None; slave = slave }
 
 -- once both taps met something

@@ -8,7 +8,7 @@ use Rattle.tap_choice.specs.declared.met.Met.{Met}
 use Rattle.tap_choice.specs.declared.met.Side.{Side}
 use Rattle.tap_choice.specs.declared.met.Side.TheVariants as taps
 use Rattle.tap_choice.specs.declared.sides.Sides.{Sides}
-use Rattle.tap_choice.specs.declared.wanted.Wanted.{Wanted}
+use Rattle.tap_choice.specs.declared.wanted.WantedTaps.{WantedTaps}
 use Rattle.tap_choice.specs.Known.{Known, asked, noticed, pair_of, other_side}
 use Rattle.tap_choice.specs.Sides.{side_of, sides_after, sides_wanted, both_named}
 use Rattle.tap_following.specs.declared.followed.Followed.{Followed}
@@ -22,7 +22,7 @@ use Rattle.tap_following.specs.Written.{text_at, written}
 -- which these are, once that is known, and those that were followed
 pub record Course : Type 0 where
   pub form : Form
-  pub wanted : Wanted
+  pub wanted : WantedTaps
   pub sides : Sides
   pub known : Known
   pub before : List Met
@@ -30,7 +30,7 @@ pub record Course : Type 0 where
   pub met : List Met
 
 -- before anything was met
-abbrev pub begun : Form → Wanted → Course
+abbrev pub begun : Form → WantedTaps → Course
 begun form w = record {
   form = form;
   wanted = w;
@@ -85,14 +85,14 @@ followed_with is_enough slave pair from_name to_name =
 
 -- which messages are followed, where domain, master, both taps and their order are known, and the slave too, which those tell
 -- that would be followed; unless it is enough to know the others
-abbrev pub followed_by : (is_enough : Bool) → Wanted → Sides → Known → List Met → Option Followed
+abbrev pub followed_by : (is_enough : Bool) → WantedTaps → Sides → Known → List Met → Option Followed
 followed_by is_enough w s k met =
     option_and_then (λ pair. option_and_then (λ from_name. option_and_then
     (λ to_name. followed_with is_enough (slave_in w.slave pair.domain pair.from met) pair from_name to_name)
     (name_at s (other_side pair.from))) (name_at s pair.from)) (pair_of k)
 
 -- once these messages were met, and it wasn't known before: it is enough behind so many
-abbrev pub chosen : Wanted → Sides → Known → List Met → Option Followed
+abbrev pub chosen : WantedTaps → Sides → Known → List Met → Option Followed
 chosen w s k before = followed_by (nat_le kept_most (length before)) w s k (first_followed before)
 
 -- where it is known now, these are followed

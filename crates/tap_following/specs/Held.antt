@@ -2,7 +2,7 @@
 use Rattle.std.specs.Prelude.{◌≡◌, ℕ, min, List, [], length, reverse, Option, Some, None}
 use Rattle.tap_choice.specs.declared.met.Met.{Met}
 use Rattle.tap_choice.specs.declared.sides.Sides.{Sides}
-use Rattle.tap_choice.specs.declared.wanted.Wanted.{Wanted}
+use Rattle.tap_choice.specs.declared.wanted.WantedTaps.{WantedTaps}
 use Rattle.tap_choice.specs.Known.{Known}
 use Rattle.tap_crossing.specs.declared.sighting.Kind.TheVariants as kinds
 use Rattle.tap_crossing.specs.StandsFor.{Tables, StandsFor}
@@ -46,7 +46,7 @@ pub record IsFollowing (form : Form) (f : Followed) (met : List Met) (task : Hel
 -- there were; what is held of those that are followed, once it is known which
 pub record Holding : Type 0 where
   pub form : Form
-  pub wanted : Wanted
+  pub wanted : WantedTaps
   pub sides : Sides
   pub known : Known
   pub kept : List Met

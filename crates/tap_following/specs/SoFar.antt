@@ -2,7 +2,7 @@
 use Rattle.std.specs.Prelude.{ℕ, ◌%◌, ◌^◌, List, [], Option, option_map}
 use Rattle.std.specs.Option.{option_map_or}
 use Rattle.tap_crossing.specs.declared.crossing.Crossing.{Crossing}
-use Rattle.tap_crossing.specs.declared.crossing.Outcome.{Outcome}
+use Rattle.tap_crossing.specs.declared.crossing.MessageOutcome.{MessageOutcome}
 use Rattle.tap_choice.specs.declared.met.Met.{Met}
 use Rattle.tap_crossing.specs.declared.places.Filled.{Filled}
 use Rattle.tap_crossing.specs.declared.sighting.Kind.{Kind}
@@ -31,5 +31,5 @@ open_so_far kind filled c =
     option_map (λ f. open_count (number_of filled) (records records_most kind (placed_in f c.met)) % 2 ^ 64) c.followed
 
 -- what the messages of a kind brought so far, the newest in front
-abbrev pub outcomes_so_far : Kind → Course → List Outcome
+abbrev pub outcomes_so_far : Kind → Course → List MessageOutcome
 outcomes_so_far kind c = option_map_or (λ f. outcomes_in kind f c.met) c.followed []

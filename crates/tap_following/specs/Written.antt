@@ -5,8 +5,8 @@ use Rattle.ptp_units.specs.Moment.{stamp_of}
 use Rattle.datagram_text.specs.Shown.{stamp_text}
 use Rattle.tap_choice.specs.declared.met.Met.{Met}
 use Rattle.tap_crossing.specs.declared.crossing.Crossing.{Crossing}
-use Rattle.tap_crossing.specs.declared.crossing.Outcome.{Outcome}
-use Rattle.tap_crossing.specs.declared.crossing.Outcome.TheVariants as outcomes
+use Rattle.tap_crossing.specs.declared.crossing.MessageOutcome.{MessageOutcome}
+use Rattle.tap_crossing.specs.declared.crossing.MessageOutcome.TheVariants as outcomes
 use Rattle.tap_crossing.specs.declared.sighting.Kind.{Kind}
 use Rattle.tap_crossing.specs.declared.sighting.Placed.{Placed}
 use Rattle.tap_crossing.specs.Placed.{placed}
@@ -33,7 +33,7 @@ placed_in f [] = []
 placed_in f (m ∷ earlier) = option_to_list (placed_at f m earlier) ++ placed_in f earlier
 
 -- the crossing that an outcome is
-abbrev pub crossing_in : Outcome → Option Crossing
+abbrev pub crossing_in : MessageOutcome → Option Crossing
 crossing_in outcomes.Waits = None
 crossing_in outcomes.Spoils = None
 crossing_in outcomes.IsSpoiled = None
@@ -41,16 +41,16 @@ crossing_in (outcomes.Crossed x) = Some x
 crossing_in (outcomes.Closed reason) = None
 
 -- an outcome, where it is of this kind
-abbrev pub outcome_of : (wanted kind : Kind) → Outcome → Option Outcome
+abbrev pub outcome_of : (wanted kind : Kind) → MessageOutcome → Option MessageOutcome
 outcome_of wanted kind outcome = if is_same_kind wanted kind then Some outcome else None
 
 -- what the newest message brings, where it is one of those that are followed and of this kind
-abbrev pub outcome_at : Kind → Followed → Met → (earlier : List Met) → Option Outcome
+abbrev pub outcome_at : Kind → Followed → Met → (earlier : List Met) → Option MessageOutcome
 outcome_at kind f m earlier =
     option_and_then (λ p. outcome_of kind p.kind (told records_most p (placed_in f earlier))) (placed_at f m earlier)
 
 -- what all that are followed and of this kind brought, the newest in front
-abbrev pub outcomes_in : Kind → Followed → List Met → List Outcome
+abbrev pub outcomes_in : Kind → Followed → List Met → List MessageOutcome
 outcomes_in kind f [] = []
 outcomes_in kind f (m ∷ earlier) = option_to_list (outcome_at kind f m earlier) ++ outcomes_in kind f earlier
 

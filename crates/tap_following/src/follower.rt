@@ -17,7 +17,7 @@ use pairing::RingTable;
 use ptp_units::ScaledTime;
 use std::alloc::{AllocError, Global};
 use std::marker::Model;
-use tap_choice::{Choice, Met, Pair, Side, Sides, TapName, Wanted};
+use tap_choice::{Choice, Met, Pair, Side, Sides, TapName, WantedTaps};
 use tap_crossing::{Filled, Kind, Watched};
 use tap_figures::{Figures, Untold};
 use tap_sums::Sums;
@@ -44,7 +44,7 @@ pub enum Arrival {
 pub struct Follower {
     alloc: Global,
     form: Form,
-    wanted: Wanted,
+    wanted: WantedTaps,
     sides: Sides,
     choice: Choice<RingTable<ScaledTime, SYNCS_MOST>>,
     /// Those that would be followed if it were known now which: all, or behind so many the newest alone.
@@ -72,7 +72,7 @@ impl Model for Follower {
 
 impl Follower {
     /// Nothing was met yet, and what is asked for is known.
-    pub fn new(alloc: Global, form: Form, wanted: &Wanted) -> Follower
+    pub fn new(alloc: Global, form: Form, wanted: &WantedTaps) -> Follower
         ensures { IsFollower result (begun form wanted.now) }
     {
         Follower {

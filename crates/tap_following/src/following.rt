@@ -6,7 +6,7 @@ ghost use Rattle.tap_crossing.specs.Crossing.{IsWithin};
 ghost use Rattle.tap_crossing.specs.Open.{number_of, open_count};
 ghost use Rattle.tap_crossing.specs.Records.{records};
 ghost use Rattle.tap_crossing.specs.StandsFor.{StandsFor};
-ghost use Rattle.tap_crossing.specs.declared.crossing.Outcome.{Outcome};
+ghost use Rattle.tap_crossing.specs.declared.crossing.MessageOutcome.{MessageOutcome};
 ghost use Rattle.tap_crossing.specs.declared.sighting.Kind.TheVariants as kinds;
 ghost use Rattle.tap_crossing.specs.declared.sighting.Placed.{Placed};
 ghost use Rattle.tap_figures.specs.Untold.{AreUntold};
@@ -22,7 +22,7 @@ use std::alloc::{AllocError, Global};
 use std::fmt::Write;
 use std::marker::Model;
 use tap_choice::Met;
-use tap_crossing::{Crossing, Filled, Kind, Outcome, Record, Taps};
+use tap_crossing::{Crossing, Filled, Kind, MessageOutcome, Record, Taps};
 use tap_figures::{Figures, Untold};
 use tap_lines::{Crossed, push_json, push_row};
 use tap_sums::Sums;
@@ -141,10 +141,10 @@ impl Following {
     }
 
     /// Counts what a message of a kind brings.
-    fn count(&mut self, kind: Kind, outcome: &Outcome)
-        ensures syncs { (earlier : List Outcome) → AreUntold earlier self.old.untold_syncs
+    fn count(&mut self, kind: Kind, outcome: &MessageOutcome)
+        ensures syncs { (earlier : List MessageOutcome) → AreUntold earlier self.old.untold_syncs
             → AreUntold (option_to_list (outcome_of kinds.Sync kind outcome.now) ++ earlier) self.new.untold_syncs }
-        ensures requests { (earlier : List Outcome) → AreUntold earlier self.old.untold_requests
+        ensures requests { (earlier : List MessageOutcome) → AreUntold earlier self.old.untold_requests
             → AreUntold (option_to_list (outcome_of kinds.DelayReq kind outcome.now) ++ earlier) self.new.untold_requests }
         ensures others { self.new ≡ record self.old {
           untold_syncs = self.new.untold_syncs;
@@ -209,12 +209,15 @@ impl Following {
         let outcome = self.taps.meet(placed);
         self.count(kind, &outcome);
         match outcome {
-            Outcome::Crossed(crossing) => {
+            MessageOutcome::Crossed(crossing) => {
                 self.sums.take(&crossing);
                 self.figures.take(&crossing)?;
                 self.push(&crossing, text)
             }
-            Outcome::Waits | Outcome::Spoils | Outcome::IsSpoiled | Outcome::Closed(_) => Ok(()),
+            MessageOutcome::Waits
+            | MessageOutcome::Spoils
+            | MessageOutcome::IsSpoiled
+            | MessageOutcome::Closed(_) => Ok(()),
         }
     }
 }

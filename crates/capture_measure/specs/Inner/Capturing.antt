@@ -7,11 +7,11 @@ use Rattle.capture_measure.specs.Made.{Measured}
 use Rattle.capture_model.specs.declared.watched.Watched.{Watched}
 use Rattle.capture_model.specs.Listening.{after_all}
 use Rattle.capture_measure.specs.declared.packets.CaptureMeasuring.{CaptureMeasuring}
-use Rattle.capture_measure.specs.declared.packets.Stage.{Stage}
+use Rattle.capture_measure.specs.declared.packets.PacketStage.{PacketStage}
 use Rattle.capture_measure.specs.declared.recording.Recording.{Recording}
-use Rattle.capture_measure.specs.declared.packets.Stage.TheVariants.{Looking, Hearing}
+use Rattle.capture_measure.specs.declared.packets.PacketStage.TheVariants.{Looking, Hearing}
 use Rattle.capture_measure.specs.declared.reports.Datagram.{Datagram}
-use Rattle.capture_measure.specs.declared.watch.Wanted.{Wanted}
+use Rattle.capture_measure.specs.declared.watch.WantedPorts.{WantedPorts}
 use Rattle.capture_measure.specs.Row.{Row, datagrams, kept_most}
 use Rattle.capture_measure.specs.Interfaces.{InterfaceRow}
 use Rattle.capture_measure.specs.Chosen.{chosen, heard_at, capture_watched}
@@ -26,13 +26,13 @@ use Rattle.capture_measure.specs.Inner.Listener.{IsListener}
 use Rattle.capture_measure.specs.Inner.Recordings.{row_at, AreRecordings}
 
 -- a port heard these rows of an interface
-abbrev pub IsHearingAt : Watched → (place : ℕ) → List Row → Stage → Type 0
+abbrev pub IsHearingAt : Watched → (place : ℕ) → List Row → PacketStage → Type 0
 IsHearingAt watched place rows (Looking count) = ⊥
 IsHearingAt watched place rows (Hearing at listener) =
     (at ≡ place) × IsListener watched listener (after_all watched (datagrams rows))
 
 -- what is done with the next datagram, after these rows, and with these interfaces
-abbrev pub IsCaptureStage : Wanted → List InterfaceRow → List Recording → Stage → Type 0
+abbrev pub IsCaptureStage : WantedPorts → List InterfaceRow → List Recording → PacketStage → Type 0
 IsCaptureStage w rows recordings (Looking count) =
     (chosen w rows ≡ None) × AreRecordings w rows recordings × (count ≡ min (length rows) kept_most)
 IsCaptureStage w rows recordings (Hearing place listener) =

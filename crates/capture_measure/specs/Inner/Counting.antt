@@ -5,20 +5,20 @@ use Rattle.event_codec.specs.declared.message.Header.{Header}
 use Rattle.capture_file.specs.Packet.{InterfaceOf}
 use Rattle.capture_measure.specs.declared.listener.Became.{Became}
 use Rattle.capture_measure.specs.declared.listener.Became.TheVariants.{Heard, HeardAnew, HeardBefore, Asked, Repeated, Anew, Foreign}
-use Rattle.capture_measure.specs.declared.measuring.Stage.{Stage}
-use Rattle.capture_measure.specs.declared.measuring.Stage.TheVariants as stages
-use Rattle.capture_measure.specs.declared.packets.Stage.{Stage as PacketStage}
-use Rattle.capture_measure.specs.declared.packets.Stage.TheVariants.{Looking, Hearing}
+use Rattle.capture_measure.specs.declared.measuring.LineStage.{LineStage}
+use Rattle.capture_measure.specs.declared.measuring.LineStage.TheVariants as stages
+use Rattle.capture_measure.specs.declared.packets.PacketStage.{PacketStage}
+use Rattle.capture_measure.specs.declared.packets.PacketStage.TheVariants.{Looking, Hearing}
 use Rattle.capture_measure.specs.declared.tally.Counts.{Counts}
 use Rattle.capture_measure.specs.declared.tally.Kind.{Kind}
-use Rattle.capture_measure.specs.declared.tally.Why.{Why}
-use Rattle.capture_measure.specs.declared.tally.Why.TheVariants as whys
-use Rattle.capture_measure.specs.declared.watch.Wanted.{Wanted}
+use Rattle.capture_measure.specs.declared.tally.NoReport.{NoReport}
+use Rattle.capture_measure.specs.declared.tally.NoReport.TheVariants as whys
+use Rattle.capture_measure.specs.declared.watch.WantedPorts.{WantedPorts}
 use Rattle.capture_measure.specs.Interfaces.{InterfaceRow}
 use Rattle.capture_measure.specs.Counts.{place_of, why_answered, Fate, capture_fates, IsCounts}
 
 -- what is counted of a capture so far: nothing until it is known which interface is measured
-abbrev pub CountsSoFar : Wanted → (measured : Option InterfaceOf) → List InterfaceRow → Counts → Type 0
+abbrev pub CountsSoFar : WantedPorts → (measured : Option InterfaceOf) → List InterfaceRow → Counts → Type 0
 CountsSoFar w None rows counts = IsCounts [] counts
 CountsSoFar w (Some interface) rows counts = IsCounts (capture_fates w interface rows) counts
 
@@ -32,14 +32,14 @@ abbrev pub with_one : ℕ → ℕ
 with_one count = min (count + 1) (2 ^ 64 - 1)
 
 -- one more of a kind that gave no report for a reason
-abbrev pub with_unreported : Kind → Why → Counts → Counts
+abbrev pub with_unreported : Kind → NoReport → Counts → Counts
 with_unreported kind why counts = record counts {
   unreported = slice_set counts.unreported (place_of kind why)
       (with_one (slice_index counts.unreported (place_of kind why)));
 }
 
 -- the same, where there is a reason
-abbrev pub with_why : Kind → Option Why → Counts → Counts
+abbrev pub with_why : Kind → Option NoReport → Counts → Counts
 with_why kind None counts = counts
 with_why kind (Some why) counts = with_unreported kind why counts
 
@@ -50,7 +50,7 @@ with_anew (HeardAnew reply) counts = record counts { master_anew = with_one coun
 with_anew _ counts = counts
 
 -- why a message gave no report of which this became in this domain
-abbrev pub why_by : (domain : ℕ) → Header → Became → Option Why
+abbrev pub why_by : (domain : ℕ) → Header → Became → Option NoReport
 why_by domain header (Heard reply) = why_answered reply.heard
 why_by domain header (HeardAnew reply) = why_answered reply.heard
 why_by domain header HeardBefore = Some whys.Before
@@ -69,7 +69,7 @@ is_master_anew (HeardAnew reply) = true
 is_master_anew _ = false
 
 -- what stays counted of the lines before, once it is known whom to watch: nothing where these were kept, and are heard
-abbrev pub stays : Stage → List Fate → List Fate
+abbrev pub stays : LineStage → List Fate → List Fate
 stays (stages.Kept kept) all = []
 stays stages.Passed all = all
 stays (stages.Hearing listener) all = all

@@ -13,7 +13,7 @@ use Rattle.sync_watch.specs.Judged.{after_sync, after_follow_up, after_refused, 
 use Rattle.sync_watch.specs.StandsFor as watches
 use Rattle.slave_port.specs.declared.heard.Heard.{Heard}
 use Rattle.slave_port.specs.declared.heard.Report.{Report}
-use Rattle.slave_port.specs.declared.exchange.Exchange.{Exchange}
+use Rattle.slave_port.specs.declared.exchange.LastExchange.{LastExchange}
 use Rattle.slave_port.specs.Exchange.{last_exchange}
 use Rattle.slave_port.specs.History.{Call, SetMaster, Event, General, next_number}
 use Rattle.slave_port.specs.StandsFor.{StandsFor}
@@ -100,7 +100,7 @@ abbrev pub heard_by : Became → Option Heard
 heard_by became = option_map (λ r. r.heard) (reply_by became)
 
 -- the exchange of the last report then
-abbrev pub exchange_by : Became → Option Exchange
+abbrev pub exchange_by : Became → Option LastExchange
 exchange_by became = option_and_then (λ r. r.exchange) (reply_by became)
 
 -- the report in it

@@ -14,9 +14,9 @@ use Rattle.capture_measure.specs.declared.measuring.Line.{Line}
 use Rattle.text_lines.specs.declared.line_fault.LineFault.{LineFault}
 use Rattle.text_lines.specs.declared.line_fault.LineFault.TheVariants.{Write, Field, Memory}
 use Rattle.capture_measure.specs.declared.measuring.Measuring.{Measuring}
-use Rattle.capture_measure.specs.declared.measuring.Stage.{Stage}
-use Rattle.capture_measure.specs.declared.measuring.Stage.TheVariants.{Kept, Passed, Hearing}
-use Rattle.capture_measure.specs.declared.watch.Wanted.{Wanted}
+use Rattle.capture_measure.specs.declared.measuring.LineStage.{LineStage}
+use Rattle.capture_measure.specs.declared.measuring.LineStage.TheVariants.{Kept, Passed, Hearing}
+use Rattle.capture_measure.specs.declared.watch.WantedPorts.{WantedPorts}
 use Rattle.capture_measure.specs.Watch.{watched_in}
 use Rattle.capture_measure.specs.Row.{Row, datagrams, kept_most, heard, IsRow}
 use Rattle.capture_measure.specs.Measure.{Recording}
@@ -78,23 +78,23 @@ AreRows earlier (line ∷ lines) rows =
     (row : Row) × IsRow (length earlier + 1) line row × AreRows (row ∷ earlier) lines rows
 
 -- no line that is kept is too long
-abbrev pub AreWithin : Stage → Type 0
+abbrev pub AreWithin : LineStage → Type 0
 AreWithin (Kept kept) = All (λ line. length line.items ≤ line_limit) kept.items
 AreWithin stage = ⊤
 
 -- these lines are kept
-abbrev pub AreKept : Stage → List Row → Type 0
+abbrev pub AreKept : LineStage → List Row → Type 0
 AreKept (Kept kept) rows = AreRows [] (map (λ line. line.items) kept.items) rows
 AreKept Passed rows = rows ≡ []
 AreKept (Hearing listener) rows = ⊥
 
 -- a port heard these lines
-abbrev pub IsHearing : Watched → List Row → Stage → Type 0
+abbrev pub IsHearing : Watched → List Row → LineStage → Type 0
 IsHearing watched rows (Hearing listener) = IsListener watched listener (after_all watched (datagrams rows))
 IsHearing watched rows stage = ⊥
 
 -- what is done with the next line, after these
-abbrev pub IsStage : Wanted → List Row → Stage → Type 0
+abbrev pub IsStage : WantedPorts → List Row → LineStage → Type 0
 IsStage w rows (Kept kept) =
     (watched_in w (datagrams rows) ≡ None) × (length rows < kept_most)
     × All (λ line. length line.items ≤ line_limit) kept.items

@@ -12,7 +12,7 @@ use Rattle.capture_measure.specs.declared.recording.Kept.{Kept}
 use Rattle.capture_measure.specs.declared.recording.Met.{Met}
 use Rattle.capture_measure.specs.declared.recording.Recording.{Recording}
 use Rattle.capture_measure.specs.declared.reports.Datagram.{Datagram}
-use Rattle.capture_measure.specs.declared.watch.Wanted.{Wanted}
+use Rattle.capture_measure.specs.declared.watch.WantedPorts.{WantedPorts}
 use Rattle.capture_measure.specs.Row.{Row, datagrams, kept_most}
 use Rattle.capture_measure.specs.Interfaces.{InterfaceRow, rows_at, is_among, with_interface, interfaces_in, interfaces_most}
 use Rattle.capture_measure.specs.Chosen.{is_domain_met, is_port_met}
@@ -31,18 +31,18 @@ abbrev pub row_at : Stamp → Datagram → Row
 row_at time d = record { time = stamp_text time; datagram = recorded_of d }
 
 -- of what is asked for, what was met in these datagrams
-pub record IsMet (w : Wanted) (ds : List Recorded) (met : Met) : Type 0 where
+pub record IsMet (w : WantedPorts) (ds : List Recorded) (met : Met) : Type 0 where
   pub domain : met.domain ≡ is_domain_met w.domain ds
   pub master : met.master ≡ is_port_met w.master ds
   pub slave : met.slave ≡ is_port_met w.slave ds
 
 -- what these datagrams tell was noticed
-pub record IsNoticed (w : Wanted) (ds : List Recorded) (recording : Recording) : Type 0 where
+pub record IsNoticed (w : WantedPorts) (ds : List Recorded) (recording : Recording) : Type 0 where
   pub watch : IsWatch w ds recording.watch
   pub met : IsMet w ds recording.met
 
 -- before the first datagram of an interface
-pub record IsFresh (w : Wanted) (interface : InterfaceOf) (recording : Recording) : Type 0 where
+pub record IsFresh (w : WantedPorts) (interface : InterfaceOf) (recording : Recording) : Type 0 where
   pub is_at : interface_in recording ≡ interface
   pub noticed : IsNoticed w [] recording
   pub kept : recording.kept.items ≡ []
@@ -61,14 +61,14 @@ BeginsWith true recordings place newest rows =
 BeginsWith false recordings place newest rows = rows ≡ newest ∷ []
 
 -- what is known of an interface, of these rows of a capture; all is kept while these are few
-pub record IsRecording (w : Wanted) (rows : List InterfaceRow) (recording : Recording) : Type 0 where
+pub record IsRecording (w : WantedPorts) (rows : List InterfaceRow) (recording : Recording) : Type 0 where
   pub noticed : IsNoticed w (datagrams (rows_at (interface_in recording) rows)) recording
   pub kept : length rows ≤ kept_most
       → AreKeptRows [] recording.kept.items (rows_at (interface_in recording) rows)
   pub early : IsCounts (early_at w (rows_at (interface_in recording) rows)) recording.early.counts
 
 -- what is known of all interfaces that are looked at
-pub record AreRecordings (w : Wanted) (rows : List InterfaceRow) (recordings : List Recording) : Type 0 where
+pub record AreRecordings (w : WantedPorts) (rows : List InterfaceRow) (recordings : List Recording) : Type 0 where
   pub interfaces : map interface_in recordings ≡ interfaces_in rows
   pub each : All (IsRecording w rows) recordings
 
@@ -80,7 +80,7 @@ IsFoundAt interface known (Some place) recordings =
     × ((d : Recording) → interface_in (get_or recordings place d) ≡ interface)
 
 -- an interface was found, or added where there was room
-pub record HasAdded (w : Wanted) (interface : InterfaceOf) (found : Option ℕ) (old new : List Recording) : Type 0 where
+pub record HasAdded (w : WantedPorts) (interface : InterfaceOf) (found : Option ℕ) (old new : List Recording) : Type 0 where
   pub interfaces : map interface_in new ≡ with_interface interface (map interface_in old)
   pub found_at : IsFoundAt interface (map interface_in new) found new
   pub recordings : (new ≡ old) ⊎ ((fresh : Recording) × IsFresh w interface fresh × (new ≡ old ++ fresh ∷ [])

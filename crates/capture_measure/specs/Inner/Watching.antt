@@ -5,7 +5,7 @@ use Rattle.event_codec.specs.declared.port.PortIdentity.{PortIdentity}
 use Rattle.capture_model.specs.Recorded.{Recorded}
 use Rattle.capture_model.specs.Told.{is_sync}
 use Rattle.capture_measure.specs.declared.watch.Known.{Known}
-use Rattle.capture_measure.specs.declared.watch.Wanted.{Wanted}
+use Rattle.capture_measure.specs.declared.watch.WantedPorts.{WantedPorts}
 use Rattle.capture_measure.specs.declared.watch.Watch.{Watch}
 use Rattle.capture_measure.specs.declared.watch.Whom.{Whom}
 use Rattle.capture_measure.specs.Watch.{is_request, first_told, source_told, domain_told, domain_in, port_in}
@@ -28,7 +28,7 @@ abbrev pub whom_of : Watch → Whom
 whom_of watch = record { domain = watch.domain; master = watch.master; slave = watch.slave }
 
 -- the watch knows what these datagrams tell, and by which lines
-pub record KnowsWhom (w : Wanted) (ds : List Recorded) (watch : Watch) : Type 0 where
+pub record KnowsWhom (w : WantedPorts) (ds : List Recorded) (watch : Watch) : Type 0 where
   pub domain : watch.domain ≡ known_domain w ds
   pub master : watch.master ≡ known_port is_sync w.master (domain_in w ds) ds
   pub slave : watch.slave ≡ known_port is_request w.slave (domain_in w ds) ds
@@ -37,7 +37,7 @@ pub record KnowsWhom (w : Wanted) (ds : List Recorded) (watch : Watch) : Type 0 
 
 -- The watch knows what these datagrams tell. It keeps no Syncs: while the domain isn't known there was none, or none of
 -- the master that is asked for.
-pub record IsWatch (w : Wanted) (ds : List Recorded) (watch : Watch) : Type 0 where
+pub record IsWatch (w : WantedPorts) (ds : List Recorded) (watch : Watch) : Type 0 where
   pub domain : value_of watch.domain ≡ domain_in w ds
   pub master : value_of watch.master ≡ port_in is_sync w.master (domain_in w ds) ds
   pub slave : value_of watch.slave ≡ port_in is_request w.slave (domain_in w ds) ds

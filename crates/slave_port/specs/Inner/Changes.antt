@@ -5,7 +5,7 @@ use Rattle.std.specs.Prelude.{Ok, Err}
 use Rattle.ptp_units.specs.Sequence.{next}
 use Rattle.event_codec.specs.Packet.{Contents}
 use Rattle.pairing.specs.Marked.{Entry, entry, push, find, set, tick}
-use Rattle.slave_port.specs.declared.exchange.Exchange.{Exchange}
+use Rattle.slave_port.specs.declared.exchange.LastExchange.{LastExchange}
 use Rattle.slave_port.specs.declared.heard.Heard.{Heard}
 use Rattle.slave_port.specs.declared.heard.Heard.TheVariants as answers
 use Rattle.slave_port.specs.declared.reason.Reason.{Reason}
@@ -69,7 +69,7 @@ and_completed port = (
 )
 
 -- the exchange of the last completions, where both are there
-abbrev pub exchange_in : Port → Option Exchange
+abbrev pub exchange_in : Port → Option LastExchange
 exchange_in port = exchanged
     (option_map (λ last. last.completion) port.last_sync)
     (option_map (λ last. last.completion) port.last_delay)

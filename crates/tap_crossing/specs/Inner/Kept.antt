@@ -3,7 +3,7 @@ use Rattle.std.specs.Prelude.{ℕ, Option, Some, None, unwrap_or}
 use Rattle.pairing.specs.Marked.{Marked, entry, push, set}
 use Rattle.tap_crossing.specs.declared.sighting.Placed.{Placed}
 use Rattle.tap_crossing.specs.declared.places.Record.{Record}
-use Rattle.tap_crossing.specs.declared.crossing.Outcome.{Outcome}
+use Rattle.tap_crossing.specs.declared.crossing.MessageOutcome.{MessageOutcome}
 use Rattle.tap_crossing.specs.Records.{with, new_record}
 use Rattle.tap_crossing.specs.Told.{comes_to}
 
@@ -13,5 +13,5 @@ kept capacity p None table = push capacity (entry p.number.0 (with p new_record)
 kept capacity p (Some r) table = set p.number.0 (with p r) table
 
 -- what is told of it
-abbrev pub told_in : Placed → Option Record → Outcome
+abbrev pub told_in : Placed → Option Record → MessageOutcome
 told_in p found = comes_to p (unwrap_or found new_record)

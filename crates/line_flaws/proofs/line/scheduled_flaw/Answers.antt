@@ -1,6 +1,6 @@
 use Rattle.std.proofs.Common.{◌∙◌, sym, ap, inl, Some}
 use Rattle.serde_json.specs.View.{view}
-use Rattle.line_flaws.specs.declared.flaw.Form.TheVariants.{Schedule}
+use Rattle.line_flaws.specs.declared.flaw.FileForm.TheVariants.{Schedule}
 use Rattle.line_flaws.proofs.Searched.{no_scheduled}
 use Rattle.line_flaws.proofs.line.scheduled_flaw.Goals as goal
 

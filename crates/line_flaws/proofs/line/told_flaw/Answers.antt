@@ -1,6 +1,6 @@
 use Rattle.std.proofs.Common.{◌∙◌, sym, ap, inr, Some}
 use Rattle.serde_json.specs.View.{view}
-use Rattle.line_flaws.specs.declared.flaw.Form.TheVariants.{Transcript}
+use Rattle.line_flaws.specs.declared.flaw.FileForm.TheVariants.{Transcript}
 use Rattle.line_flaws.proofs.Searched.{no_told}
 use Rattle.line_flaws.proofs.line.told_flaw.Goals as goal
 

@@ -3,7 +3,7 @@ use Rattle.std.specs.Prelude.{option_to_list}
 use Rattle.std.proofs.lemmas.Result.{err_from_is_err_and}
 use Rattle.text_lines.specs.Counted.{device_of}
 use Rattle.capture_measure.specs.declared.measuring.Form.{Form}
-use Rattle.capture_measure.specs.declared.measuring.Stage.TheVariants.{Hearing}
+use Rattle.capture_measure.specs.declared.measuring.LineStage.TheVariants.{Hearing}
 use Rattle.capture_measure.specs.Row.{Row, IsRow, datagrams, heard}
 use Rattle.capture_measure.specs.Measure.{with_row, measured_so_far}
 use Rattle.capture_measure.specs.Measured.{texts_as, measured_at, measurements}

@@ -5,7 +5,7 @@ use Rattle.std.specs.Prelude.{if◌then◌else◌}
 use Rattle.text_lines.specs.Counted.{device_of}
 use Rattle.capture_measure.specs.declared.measuring.Form.{Form}
 use Rattle.capture_measure.specs.declared.recording.Recordings.{Recordings}
-use Rattle.capture_measure.specs.declared.watch.Wanted.{Wanted}
+use Rattle.capture_measure.specs.declared.watch.WantedPorts.{WantedPorts}
 use Rattle.capture_measure.specs.Row.{Row, datagrams}
 use Rattle.capture_measure.specs.Measured.{measurements}
 use Rattle.capture_measure.specs.Interfaces.{InterfaceRow, interfaces_in, rows_at}
@@ -36,13 +36,13 @@ returns-in_err-found-clause-taken g c = λ k at.
 pub returns-in_default-clause-taken : goal.returns-in_default-clause-taken
 returns-in_default-clause-taken g c = λ k at.
     let r : InterfaceRow = row_of_packet c.args.captured.now c.args.datagram.now in
-    let w : Wanted = c.args.self.now.wanted in
+    let w : WantedPorts = c.args.self.now.wanted in
     let (are, found) = c.in_ok-found.ensures.taken k.rows r refl refl at.kept
-    (subst (λ (w : Wanted). AreRecordings w k.rows c.args.self.now.recordings.recordings.items) (sym at.wanted) at.recordings) in
+    (subst (λ (w : WantedPorts). AreRecordings w k.rows c.args.self.now.recordings.recordings.items) (sym at.wanted) at.recordings) in
     let none : chosen k.wanted (r ∷ k.rows) ≡ None = unlooked_still k.wanted k.rows r at.unchosen
     (not_found r.interface (interfaces_in (r ∷ k.rows)) c.in_ok-found.found c.take.new.self.recordings.items found c.in_default.not-Some) in (
       still_looking _ k r at.counted.0 at.form at.wanted at.counted.1 at.counted.2 none
-          (subst (λ (w : Wanted). AreRecordings w (r ∷ k.rows) c.take.new.self.recordings.items) at.wanted are) at.nothing,
+          (subst (λ (w : WantedPorts). AreRecordings w (r ∷ k.rows) c.take.new.self.recordings.items) at.wanted are) at.nothing,
       [],
       measured-still k.wanted k.rows r at.unchosen none,
       Appends-nil _,
@@ -53,9 +53,9 @@ returns-in-Some-watched-clause-taken g c = λ k at.
     let r : InterfaceRow = row_of_packet c.args.captured.now c.args.datagram.now in
     let recordings = c.take.new.self.recordings.items in
     let taken = c.in_ok-found.ensures.taken k.rows r refl refl at.kept
-    (subst (λ (w : Wanted). AreRecordings w k.rows c.args.self.now.recordings.recordings.items) (sym at.wanted) at.recordings) in
+    (subst (λ (w : WantedPorts). AreRecordings w k.rows c.args.self.now.recordings.recordings.items) (sym at.wanted) at.recordings) in
     let are : AreRecordings k.wanted (r ∷ k.rows) recordings =
-    subst (λ (w : Wanted). AreRecordings w (r ∷ k.rows) recordings) at.wanted taken.0 in
+    subst (λ (w : WantedPorts). AreRecordings w (r ∷ k.rows) recordings) at.wanted taken.0 in
     let (among, within, there) =
     subst (λ (found : Option ℕ). IsFoundAt r.interface (interfaces_in (r ∷ k.rows)) found recordings) c.in-Some.is taken.1 in
     let known : watched_at k.wanted (datagrams (rows_at r.interface (r ∷ k.rows))) ≡ Some c.in-Some-watched.watched =
@@ -99,9 +99,9 @@ returns-in-None-clause-taken g c = λ k at.
     let r : InterfaceRow = row_of_packet c.args.captured.now c.args.datagram.now in
     let recordings = c.take.new.self.recordings.items in
     let taken = c.in_ok-found.ensures.taken k.rows r refl refl at.kept
-    (subst (λ (w : Wanted). AreRecordings w k.rows c.args.self.now.recordings.recordings.items) (sym at.wanted) at.recordings) in
+    (subst (λ (w : WantedPorts). AreRecordings w k.rows c.args.self.now.recordings.recordings.items) (sym at.wanted) at.recordings) in
     let are : AreRecordings k.wanted (r ∷ k.rows) recordings =
-    subst (λ (w : Wanted). AreRecordings w (r ∷ k.rows) recordings) at.wanted taken.0 in
+    subst (λ (w : WantedPorts). AreRecordings w (r ∷ k.rows) recordings) at.wanted taken.0 in
     let (among, within, there) =
     subst (λ (found : Option ℕ). IsFoundAt r.interface (interfaces_in (r ∷ k.rows)) found recordings) c.in-Some.is taken.1 in
     let not_known : watched_at k.wanted (datagrams (rows_at r.interface (r ∷ k.rows))) ≡ None =

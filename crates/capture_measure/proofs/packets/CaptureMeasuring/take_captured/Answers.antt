@@ -8,7 +8,7 @@ use Rattle.capture_file.specs.declared.name.InterfaceName.{InterfaceName}
 use Rattle.capture_file.specs.Name.{is_asked}
 use Rattle.capture_file.specs.Packet.{interface_of, packet_of}
 use Rattle.capture_extract.proofs.Taking.{carries_none}
-use Rattle.capture_measure.specs.declared.watch.Wanted.{Wanted}
+use Rattle.capture_measure.specs.declared.watch.WantedPorts.{WantedPorts}
 use Rattle.ptp_units.specs.Moment.{Stamp}
 use Rattle.capture_measure.specs.Row.{Row}
 use Rattle.capture_measure.specs.Capture.{IsDatagramRow}
@@ -19,12 +19,12 @@ use Rattle.capture_measure.proofs.packets.CaptureMeasuring.take_captured.Goals a
 use Rattle.capture_measure.proofs.packets.CaptureMeasuring.take_captured.Goals.{in-Datagram+in_ok-take_datagram, in_default}
 
 -- a packet is of the interface that is asked for
-is_taken : (interface : Interface) (own w : Wanted) (is : Bool) → own ≡ w → is ≡ is_asked own.interface (interface_of interface)
+is_taken : (interface : Interface) (own w : WantedPorts) (is : Bool) → own ≡ w → is ≡ is_asked own.interface (interface_of interface)
     → is ≡ true → is_asked w.interface (interface_of interface) ≡ true
-is_taken interface own w is same says taken = ap (λ (v : Wanted). is_asked v.interface (interface_of interface)) (sym same) ∙ sym says ∙ taken
+is_taken interface own w is same says taken = ap (λ (v : WantedPorts). is_asked v.interface (interface_of interface)) (sym same) ∙ sym says ∙ taken
 
 -- whether it is, by what is asked for
-says : (interface : Interface) (asked : Option InterfaceName) (own : Wanted) (is : Bool) → is ≡ is_asked asked (interface_of interface)
+says : (interface : Interface) (asked : Option InterfaceName) (own : WantedPorts) (is : Bool) → is ≡ is_asked asked (interface_of interface)
     → asked ≡ own.interface → is ≡ is_asked own.interface (interface_of interface)
 says interface asked own is told same = told ∙ ap (λ (a : Option InterfaceName). is_asked a (interface_of interface)) same
 
@@ -43,7 +43,7 @@ take_datagram-requires-clause-row g c =
 pub returns-then-not-is_asked-clause-taken : goal.returns-then-not-is_asked-clause-taken
 returns-then-not-is_asked-clause-taken g c = λ k at.
     let passed : is_asked k.wanted.interface (interface_of c.args.captured.now.interface) ≡ false =
-    ap (λ (v : Wanted). is_asked v.interface (interface_of c.args.captured.now.interface)) (sym at.wanted)
+    ap (λ (v : WantedPorts). is_asked v.interface (interface_of c.args.captured.now.interface)) (sym at.wanted)
     ∙ sym (says c.args.captured.now.interface _ c.args.self.now.wanted c.is_asked.result c.is_asked.ensures c.as_ref.ensures.value) ∙ c.if-not-is_asked.true in (
       k,
       [],

@@ -13,7 +13,7 @@ use Rattle.capture_measure.specs.Inner.Hearing.{Goes}
 use Rattle.capture_measure.specs.Told.{interface_in}
 use Rattle.capture_measure.proofs.Looking.{few_by, hears_more, hears_other, measures_more, measures_nothing, capture_whom_stays}
 use Rattle.capture_measure.proofs.KeptRows.{one_there}
-use Rattle.capture_measure.specs.declared.packets.Stage.{Stage}
+use Rattle.capture_measure.specs.declared.packets.PacketStage.{PacketStage}
 use Rattle.capture_measure.specs.Summary.{capture_whom}
 use Rattle.capture_measure.specs.Inner.Stages.{whom_at}
 use Rattle.capture_measure.specs.Counts.{Fate, capture_fates, IsCounts}
@@ -78,7 +78,7 @@ returns-then-is_at-clause-taken g c = λ k at.
         form = c.hear.ensures.form ∙ at.form;
         wanted = at.wanted;
         stage = hears_more k.wanted k.rows r recordings c.in-Hearing.place watched within is known c.hear.new.listener same listens;
-        whom = subst (λ (s : Stage). whom_at s recordings ≡ capture_whom k.wanted k.rows) c.in-Hearing.is at.whom
+        whom = subst (λ (s : PacketStage). whom_at s recordings ≡ capture_whom k.wanted k.rows) c.in-Hearing.is at.whom
             ∙ sym (one_there recordings c.in-Hearing.place within (λ d. capture_whom_stays k.wanted k.rows r
             (interface_in (get_or recordings c.in-Hearing.place d)) watched (is d) known));
         counts = so;
@@ -100,7 +100,7 @@ returns-else-is_at-clause-taken g c = λ k at.
         form = at.form;
         wanted = at.wanted;
         stage = hears_other k.wanted k.rows r recordings c.in-Hearing.place watched within is known c.in-Hearing.listener other listens;
-        whom = subst (λ (s : Stage). whom_at s recordings ≡ capture_whom k.wanted k.rows) c.in-Hearing.is at.whom
+        whom = subst (λ (s : PacketStage). whom_at s recordings ≡ capture_whom k.wanted k.rows) c.in-Hearing.is at.whom
             ∙ sym (one_there recordings c.in-Hearing.place within (λ d. capture_whom_stays k.wanted k.rows r
             (interface_in (get_or recordings c.in-Hearing.place d)) watched (is d) known));
         counts = one_there recordings c.in-Hearing.place within (λ d.

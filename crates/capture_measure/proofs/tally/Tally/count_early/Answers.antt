@@ -2,7 +2,7 @@ use Rattle.std.proofs.Common.{◌∙◌, ◌∷◌, refl, sym, ap, subst}
 use Rattle.event_codec.specs.Packet.{contents}
 use Rattle.capture_model.specs.Recorded.{Recorded}
 use Rattle.capture_measure.specs.declared.tally.Kind.{Kind}
-use Rattle.capture_measure.specs.declared.tally.Why.TheVariants.{TooEarly}
+use Rattle.capture_measure.specs.declared.tally.NoReport.TheVariants.{TooEarly}
 use Rattle.capture_measure.specs.Counts.{early_fate, IsCounts}
 use Rattle.capture_measure.specs.Inner.Counting.{with_unreported}
 use Rattle.capture_measure.specs.Inner.Hearing.{reading_of, recorded_of}

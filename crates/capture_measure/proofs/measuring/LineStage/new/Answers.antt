@@ -1,5 +1,5 @@
 use Rattle.std.proofs.Common.{◌∙◌, [], refl, sym, lit<, arith}
-use Rattle.capture_measure.proofs.measuring.Stage.new.Goals as goal
+use Rattle.capture_measure.proofs.measuring.LineStage.new.Goals as goal
 
 pub returns-in-Some : goal.returns-in-Some
 returns-in-Some c = λ w is. (c.in-Some.watched, sym (c.watched.ensures w [] is) ∙ c.in-Some.is, c.new.ensures)
