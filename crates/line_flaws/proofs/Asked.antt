@@ -16,8 +16,11 @@ use Rattle.network_model.specs.declared.node.NodeSpec.{NodeSpec}
 use Rattle.event_codec.specs.declared.port.PortConfig.{PortConfig}
 use Rattle.ptp_units.specs.declared.sequence.Seq.{Seq}
 use Rattle.schedule_lines.specs.Json.{field, has_keys, moment_in, whole_in, whole_below, name_in, clock_in, signed_octet_in, difference_in}
-use Rattle.schedule_lines.specs.Line.{kind_of, event_at, event_in, event_keys, scheduled_in, node_in, config_in, first_in}
+use Rattle.schedule_lines.specs.Line.{event_at, event_in, event_keys, scheduled_in, node_in, config_in, first_in}
+use Rattle.schedule_lines.specs.Words.{kind_of}
 use Rattle.schedule_lines.specs.Line.{port_in, node_kind, node_spec_in}
+use Rattle.schedule_lines.specs.declared.reading.kind.EventKind.{EventKind}
+use Rattle.schedule_lines.specs.declared.reading.kind.EventKind.TheVariants as happens
 use Rattle.schedule_lines.specs.declared.reading.schedule.Line.{Line}
 use Rattle.schedule_lines.specs.declared.reading.schedule.Line.TheVariants as schedules
 use Rattle.line_flaws.specs.declared.flaw.FileForm.TheVariants.{Schedule}
@@ -118,36 +121,25 @@ module _ (d : Data) where
       (then_read (λ x. option_map (f x) (field other l d)) (field one k d) W V (λ x. ⊤) (IsOf 4 timed)
       (λ x _. mapped (f x) (field other l d) V (λ y. ⊤) (IsOf 4 timed) (λ y _. is x y) (at_key other (get l d))) (at_key one (get k d)))
 
-  -- by the text of `ev`, what is read of an event's own keys
-  abbrev pub KindReads : List ℕ → Type 0
-  KindReads text = MatchOption (own_keys text) (kind_of text ≡ None) (λ own. IsSomeAnd (kind_of text) (λ kind. (node : List ℕ)
-      → Reads (event_at kind node d) (Each (HasWanted d) own) (IsOf (2 + length own) (is_timed text))))
-
-  pub kind_reads : (text : List ℕ) → KindReads text
-  kind_reads text =
-      case KindReads text (codes "sync") (λ node. one_read moment_in (codes "at") (events.Sync node) true (λ x. (refl, refl))) (λ n0.
-      case KindReads text (codes "syncone") (λ node. one_read moment_in (codes "at") (events.SyncOne node) true (λ x. (refl, refl))) (λ n1.
-      case KindReads text (codes "follow") (λ node. none_read (events.Follow node) false (refl, refl)) (λ n2.
-      case KindReads text (codes "enter") (λ node. two_read whole_in moment_in (codes "copy") (codes "at") (events.Enter node) true (λ x y. (refl, refl))) (λ n3.
-      case KindReads text (codes "leave") (λ node. two_read whole_in moment_in (codes "transit") (codes "at") (events.Leave node) true (λ x y. (refl, refl))) (λ n4.
-      case KindReads text (codes "arrive") (λ node. two_read whole_in moment_in (codes "copy") (codes "at") (events.Arrive node) true (λ x y. (refl, refl))) (λ n5.
-      case KindReads text (codes "hear") (λ node. one_read whole_in (codes "copy") (events.Hear node) false (λ x. (refl, refl))) (λ n6.
-      case KindReads text (codes "request") (λ node. one_read moment_in (codes "at") (events.Request node) true (λ x. (refl, refl))) (λ n7.
-      case KindReads text (codes "stamped") (λ node. none_read (events.Stamped node) false (refl, refl)) (λ n8.
-      case KindReads text (codes "tick") (λ node. none_read (events.Tick node) false (refl, refl)) (λ n9.
-      case KindReads text (codes "setmaster") (λ node. one_read name_in (codes "master") (events.SetMaster node) false (λ x. (refl, refl))) (λ n10.
-      case KindReads text (codes "stepclock") (λ node. one_read difference_in (codes "diff") (events.StepClock node) false (λ x. (refl, refl))) (λ n11.
-      rw (n0, n1, n2, n3, n4, n5, n6, n7, n8, n9, n10, n11) refl))))))))))))
+  -- what is read of an event's own keys
+  pub kind_reads : (kind : EventKind) (node : List ℕ)
+      → Reads (event_at kind node d) (Each (HasWanted d) (own_keys kind)) (IsOf (2 + length (own_keys kind)) (is_timed kind))
+  kind_reads happens.Sync node = one_read moment_in (codes "at") (events.Sync node) true (λ x. (refl, refl))
+  kind_reads happens.SyncOne node = one_read moment_in (codes "at") (events.SyncOne node) true (λ x. (refl, refl))
+  kind_reads happens.Follow node = none_read (events.Follow node) false (refl, refl)
+  kind_reads happens.Enter node = two_read whole_in moment_in (codes "copy") (codes "at") (events.Enter node) true (λ x y. (refl, refl))
+  kind_reads happens.Leave node = two_read whole_in moment_in (codes "transit") (codes "at") (events.Leave node) true (λ x y. (refl, refl))
+  kind_reads happens.Arrive node = two_read whole_in moment_in (codes "copy") (codes "at") (events.Arrive node) true (λ x y. (refl, refl))
+  kind_reads happens.Hear node = one_read whole_in (codes "copy") (events.Hear node) false (λ x. (refl, refl))
+  kind_reads happens.Request node = one_read moment_in (codes "at") (events.Request node) true (λ x. (refl, refl))
+  kind_reads happens.Stamped node = none_read (events.Stamped node) false (refl, refl)
+  kind_reads happens.Tick node = none_read (events.Tick node) false (refl, refl)
+  kind_reads happens.SetMaster node = one_read name_in (codes "master") (events.SetMaster node) false (λ x. (refl, refl))
+  kind_reads happens.StepClock node = one_read difference_in (codes "diff") (events.StepClock node) false (λ x. (refl, refl))
 
   joined : {X : Type 0} (f : List ℕ → Option X) (o : Option Data) → option_and_then f (option_and_then as_str o) ≡ option_and_then (λ v. option_and_then f (as_str v)) o
   joined f None = refl
   joined f (Some v) = refl
-
-  -- what names no keys of an event names no event
-  pub no_kind : (text : List ℕ) → own_keys text ≡ None → kind_of text ≡ None
-  no_kind text has =
-      subst (λ (o : Option (List Key)). MatchOption o (kind_of text ≡ None) (λ own. IsSomeAnd (kind_of text) (λ kind. (node : List ℕ)
-      → Reads (event_at kind node d) (Each (HasWanted d) own) (IsOf (2 + length own) (is_timed text))))) has (kind_reads text)
 
   -- the text of a key is one that names something, just where its value is wanted
   pub named_reads : {X : Type 0} (f : List ℕ → Option X) (key : List ℕ)
@@ -156,29 +148,27 @@ module _ (d : Data) where
       subst (λ (o : Option X). Reads o (option_map (λ v. is_some (option_and_then f (as_str v))) (get key d) ≡ Some true) (λ x. ⊤))
       (sym (joined f (get key d))) (at_key (λ v. option_and_then f (as_str v)) (get key d))
 
-  module _ (text : List ℕ) (own : List Key) (is : field as_str (codes "ev") d ≡ Some text) (has : own_keys text ≡ Some own) where
-    kinds_read : IsSomeAnd (option_and_then kind_of (field as_str (codes "ev") d)) (λ kind. (node : List ℕ)
-        → Reads (event_at kind node d) (Each (HasWanted d) own) (IsOf (2 + length own) (is_timed text)))
-    kinds_read =
-        subst (λ (o : Option (List ℕ)). IsSomeAnd (option_and_then kind_of o) (λ kind. (node : List ℕ)
-        → Reads (event_at kind node d) (Each (HasWanted d) own) (IsOf (2 + length own) (is_timed text)))) (sym is)
-        (subst (λ (o : Option (List Key)). MatchOption o (kind_of text ≡ None) (λ own. IsSomeAnd (kind_of text) (λ kind. (node : List ℕ)
-        → Reads (event_at kind node d) (Each (HasWanted d) own) (IsOf (2 + length own) (is_timed text))))) has (kind_reads text))
+  module _ (kind : EventKind) (is : option_and_then kind_of (field as_str (codes "ev") d) ≡ Some kind) where
+    abbrev own : List Key
+    own = own_keys kind
+
+    abbrev IsRead : EventKind → Type 0
+    IsRead kind' = (node : List ℕ) → Reads (event_at kind' node d) (Each (HasWanted d) own) (IsOf (2 + length own) (is_timed kind))
 
     -- an event is read just where its keys are wanted
-    pub event_reads : Reads (event_in d) (HasWanted d keys.Ev × (HasWanted d keys.Node × Each (HasWanted d) own)) (IsOf (2 + length own) (is_timed text))
+    pub event_reads : Reads (event_in d) (HasWanted d keys.Ev × (HasWanted d keys.Node × Each (HasWanted d) own)) (IsOf (2 + length own) (is_timed kind))
     event_reads =
         then_read _ (option_and_then kind_of (field as_str (codes "ev") d)) (HasWanted d keys.Ev) (HasWanted d keys.Node × Each (HasWanted d) own)
-        (λ kind. (node : List ℕ) → Reads (event_at kind node d) (Each (HasWanted d) own) (IsOf (2 + length own) (is_timed text))) (IsOf (2 + length own) (is_timed text))
-        (λ kind each. then_read (λ node. event_at kind node d) (node_in d) (HasWanted d keys.Node) (Each (HasWanted d) own) (λ node. ⊤) (IsOf (2 + length own) (is_timed text))
+        IsRead (IsOf (2 + length own) (is_timed kind))
+        (λ kind' each. then_read (λ node. event_at kind' node d) (node_in d) (HasWanted d keys.Node) (Each (HasWanted d) own) (λ node. ⊤) (IsOf (2 + length own) (is_timed kind))
         (λ node _. each node) (at_key name_in (get (codes "node") d)))
-        (known _ (HasWanted d keys.Ev) _ kinds_read (named_reads kind_of (codes "ev")))
+        (known _ (HasWanted d keys.Ev) IsRead (subst (λ (o : Option EventKind). IsSomeAnd o IsRead) (sym is) (kind_reads kind)) (named_reads kind_of (codes "ev")))
 
     -- with just as many keys
     scheduled_reads : Reads (scheduled_in d) ((HasWanted d keys.Ev × (HasWanted d keys.Node × Each (HasWanted d) own)) × (has_keys (2 + length own) d ≡ true)) (λ event. ⊤)
     scheduled_reads =
         then_read _ (event_in d) (HasWanted d keys.Ev × (HasWanted d keys.Node × Each (HasWanted d) own)) (has_keys (2 + length own) d ≡ true)
-        (IsOf (2 + length own) (is_timed text)) (λ event. ⊤)
+        (IsOf (2 + length own) (is_timed kind)) (λ event. ⊤)
         (λ event of. subst (λ n. Reads (if has_keys n d then Some event else None) (has_keys (2 + length own) d ≡ true) (λ event. ⊤)) (sym of.0)
         (tested (has_keys (2 + length own) d) event)) event_reads
 
@@ -199,21 +189,16 @@ module _ (d : Data) where
       let none : event_in d ≡ None = rw e refl in
       rw none refl
 
-  of_event : (text : List ℕ) (o : Option (List Key)) → field as_str (codes "ev") d ≡ Some text → own_keys text ≡ o
-      → IsSome (option_map schedules.Event (scheduled_in d)) ↔ IsSomeAnd (option_map (needs.event_keys Schedule d text) o) HasJust
-  of_event text None is has =
-      neither schedules.Event (scheduled_in d) (no_event (ap (λ (o : Option (List ℕ)). option_and_then kind_of o) is ∙ no_kind text has))
-  of_event text (Some own) is has =
-      let all = keys.Ev ∷ keys.Node ∷ own in
-      both schedules.Event (scheduled_in d) ((HasWanted d keys.Ev × (HasWanted d keys.Node × Each (HasWanted d) own)) × (has_keys (2 + length own) d ≡ true)) (HasJust all)
-      (scheduled_reads text own is has)
+  of_event : (o : Option EventKind) → option_and_then kind_of (field as_str (codes "ev") d) ≡ o
+      → IsSome (option_map schedules.Event (scheduled_in d)) ↔ IsSomeAnd (option_map (needs.event_keys Schedule d) o) HasJust
+  of_event None is = neither schedules.Event (scheduled_in d) (no_event is)
+  of_event (Some kind) is =
+      let all = keys.Ev ∷ keys.Node ∷ own_keys kind in
+      both schedules.Event (scheduled_in d)
+      ((HasWanted d keys.Ev × (HasWanted d keys.Node × Each (HasWanted d) (own_keys kind))) × (has_keys (2 + length (own_keys kind)) d ≡ true)) (HasJust all)
+      (scheduled_reads kind is)
       (λ h. (All-from_recursion (HasWanted d) all h.0, subst (λ n. has_keys n d ≡ true) (omega arith) h.1))
       (λ h. (recursion_from_All (HasWanted d) all h.0, subst (λ n. has_keys n d ≡ true) (omega arith) h.1))
-
-  of_text : (o : Option (List ℕ)) → field as_str (codes "ev") d ≡ o
-      → IsSome (option_map schedules.Event (scheduled_in d)) ↔ IsSomeAnd (option_and_then (λ text. option_map (needs.event_keys Schedule d text) (own_keys text)) o) HasJust
-  of_text None is = neither schedules.Event (scheduled_in d) (no_event (ap (λ (o : Option (List ℕ)). option_and_then kind_of o) is))
-  of_text (Some text) is = of_event text (own_keys text) is refl
 
   -- ---- nodes
 
@@ -303,4 +288,4 @@ pick P false x x' y y' p q = q
 pub schedule_needed : LinesHaveJustNeeded
 schedule_needed d =
     pick (λ (o : Option Line) (needed : Option (List Key)). IsSome o ↔ IsSomeAnd needed (HasJust d)) (is_some (get (codes "ev") d)) _ _ _ _
-    (of_text d (field as_str (codes "ev") d) refl) (of_kind d schedules.Node (field as_str (codes "kind") d) refl)
+    (of_event d (option_and_then kind_of (field as_str (codes "ev") d)) refl) (of_kind d schedules.Node (field as_str (codes "kind") d) refl)

@@ -13,11 +13,13 @@ use Rattle.trace_model.specs.declared.line.TraceLine.{TraceLine}
 use Rattle.trace_model.specs.declared.line.TraceOut.{TraceOut}
 use Rattle.trace_model.specs.declared.line.TraceOut.TheVariants as outs
 use Rattle.schedule_lines.specs.Json.{field, has_items, has_keys, item_at, moment_in, whole_in, whole_below, octets_in, difference_in}
-use Rattle.schedule_lines.specs.Line.{kind_of, event_in, one_if}
+use Rattle.schedule_lines.specs.Line.{event_in, one_if}
+use Rattle.schedule_lines.specs.Words.{kind_of}
 use Rattle.schedule_lines.specs.TranscriptLine.{report_of, report_in, out_of, out_keys, reading_in, line_keys, follow_in, trace_line_in}
 use Rattle.schedule_lines.specs.TranscriptLine.{traced_in}
 use Rattle.schedule_lines.specs.declared.reading.transcript.TranscriptLine.{TranscriptLine}
 use Rattle.schedule_lines.specs.declared.reading.transcript.TranscriptLine.TheVariants as lines
+use Rattle.schedule_lines.specs.declared.reading.kind.EventKind.{EventKind}
 use Rattle.line_flaws.specs.declared.flaw.FileForm.TheVariants.{Transcript}
 use Rattle.line_object.specs.declared.key.Key.{Key}
 use Rattle.line_object.specs.declared.key.Key.TheVariants as keys
@@ -26,7 +28,7 @@ use Rattle.line_flaws.specs.Keys as needs
 use Rattle.line_flaws.specs.Read.{ToldLinesHaveJustNeeded}
 use Rattle.line_flaws.specs.Wanted.{HasWanted}
 use Rattle.line_flaws.proofs.Asked.{Reads, wanted_too, mapped, then_read, tested, at_key, case, named, of_kind, event_reads, pick}
-use Rattle.line_flaws.proofs.Asked.{never, no_kind, named_reads, IsOf, HasJust}
+use Rattle.line_flaws.proofs.Asked.{never, named_reads, IsOf, HasJust}
 
 -- ---- a report's tags, whatever its offset and delay are
 
@@ -139,10 +141,13 @@ module _ (d : Data) where
       (at_key moment_in (get (codes "reading") d)))
   reading_reads (Some at) false e = absurd (cc)
 
-  module _ (text : List ℕ) (own : List Key) (is : field as_str (codes "ev") d ≡ Some text) (has : own_keys text ≡ Some own)
+  module _ (kind : EventKind) (is : option_and_then kind_of (field as_str (codes "ev") d) ≡ Some kind)
       (out : List ℕ) (outcome : List Key) (said : field as_str (codes "out") d ≡ Some out) (tells : outcome_keys out ≡ Some outcome) where
+    abbrev own : List Key
+    own = own_keys kind
+
     abbrev timed : Bool
-    timed = is_timed text
+    timed = is_timed kind
 
     abbrev OfEvent : Type 0
     OfEvent = HasWanted d keys.Ev × (HasWanted d keys.Node × Each (HasWanted d) own)
@@ -171,7 +176,7 @@ module _ (d : Data) where
         (then_read (λ o. Some (line_made event reading o)) (out_of t d) E ⊤ (λ o. out_keys o ≡ 1 + length outcome) R
         (λ o k. record { only = (tt, rw (of.0, r, k) refl); whole = λ w. refl }) reads))
         (sure (field as_str (codes "out") d) out (HasWanted d keys.Out) (λ t. Reads (out_of t d) E (λ o. out_keys o ≡ 1 + length outcome)) said out_wanted out_read))
-        (reading_reads (true_moment event) timed of.1)) (event_reads d text own is has)
+        (reading_reads (true_moment event) timed of.1)) (event_reads d kind is)
 
     traced : Reads (traced_in d) ((OfEvent × OfRecord) × (HasWanted d keys.Number × (has_keys count d ≡ true))) (λ line. ⊤)
     traced =
@@ -228,40 +233,32 @@ module _ (d : Data) where
       let there : IsSome (option_and_then outcome_keys (field as_str (codes "out") d)) = (named_reads d outcome_keys (codes "out")).whole told.1.1 in
       absurd (cc (ap (λ (o : Option (List Key)). is_some o) e))
 
-  abbrev Same : List ℕ → List Key → Type 0
-  Same text own = IsSome (traced_in d) ↔ HasJust d (needs.event_keys Transcript d text own)
-
-  of_out : (text : List ℕ) (own : List Key) → field as_str (codes "ev") d ≡ Some text → own_keys text ≡ Some own
-      → (o : Option (List ℕ)) (p : Option (List Key)) → field as_str (codes "out") d ≡ o → option_and_then outcome_keys o ≡ p → Same text own
-  of_out text own is has None p said tells =
+  of_out : (kind : EventKind) → option_and_then kind_of (field as_str (codes "ev") d) ≡ Some kind
+      → (o : Option (List ℕ)) (p : Option (List Key)) → field as_str (codes "out") d ≡ o → option_and_then outcome_keys o ≡ p
+      → IsSome (traced_in d) ↔ HasJust d (needs.event_keys Transcript d kind)
+  of_out kind is None p said tells =
       let none : option_and_then outcome_keys (field as_str (codes "out") d) ≡ None = ap (λ (o : Option (List ℕ)). option_and_then outcome_keys o) said in
-      unread (traced_in d) _ (untold none) (needs_out own (outcome_keys_in d) (is_timed text) none)
-  of_out text own is has (Some out) None said tells =
+      unread (traced_in d) _ (untold none) (needs_out (own_keys kind) (outcome_keys_in d) (is_timed kind) none)
+  of_out kind is (Some out) None said tells =
       let none : option_and_then outcome_keys (field as_str (codes "out") d) ≡ None = ap (λ (o : Option (List ℕ)). option_and_then outcome_keys o) said ∙ tells in
-      unread (traced_in d) _ (untold none) (needs_out own (outcome_keys_in d) (is_timed text) none)
-  of_out text own is has (Some out) (Some outcome) said tells =
+      unread (traced_in d) _ (untold none) (needs_out (own_keys kind) (outcome_keys_in d) (is_timed kind) none)
+  of_out kind is (Some out) (Some outcome) said tells =
       let some : option_and_then outcome_keys (field as_str (codes "out") d) ≡ Some outcome = ap (λ (o : Option (List ℕ)). option_and_then outcome_keys o) said ∙ tells in
       let same : outcome_keys_in d ≡ outcome = ap (λ (o : Option (List Key)). unwrap_or o []) some in
-      subst (λ (more : List Key). IsSome (traced_in d) ↔ HasJust d (keys.Ev ∷ keys.Node ∷ (own ++ (told_keys (is_timed text) ++ more)))) (sym same)
-      (line_traced text own is has out outcome said tells)
+      subst (λ (more : List Key). IsSome (traced_in d) ↔ HasJust d (keys.Ev ∷ keys.Node ∷ (own_keys kind ++ (told_keys (is_timed kind) ++ more)))) (sym same)
+      (line_traced kind is out outcome said tells)
 
   no_event : option_and_then kind_of (field as_str (codes "ev") d) ≡ None → traced_in d ≡ None
   no_event e =
       let none : event_in d ≡ None = rw e refl in
       rw none refl
 
-  of_event : (text : List ℕ) (o : Option (List Key)) → field as_str (codes "ev") d ≡ Some text → own_keys text ≡ o
-      → IsSome (traced_in d) ↔ IsSomeAnd (option_map (needs.event_keys Transcript d text) o) (HasJust d)
-  of_event text None is has =
-      unread (traced_in d) _ (no_event (ap (λ (o : Option (List ℕ)). option_and_then kind_of o) is ∙ no_kind d text has)) (λ v. v)
-  of_event text (Some own) is has = of_out text own is has (field as_str (codes "out") d) _ refl refl
-
-  of_text : (o : Option (List ℕ)) → field as_str (codes "ev") d ≡ o
-      → IsSome (traced_in d) ↔ IsSomeAnd (option_and_then (λ text. option_map (needs.event_keys Transcript d text) (own_keys text)) o) (HasJust d)
-  of_text None is = unread (traced_in d) _ (no_event (ap (λ (o : Option (List ℕ)). option_and_then kind_of o) is)) (λ v. v)
-  of_text (Some text) is = of_event text (own_keys text) is refl
+  of_event : (o : Option EventKind) → option_and_then kind_of (field as_str (codes "ev") d) ≡ o
+      → IsSome (traced_in d) ↔ IsSomeAnd (option_map (needs.event_keys Transcript d) o) (HasJust d)
+  of_event None is = unread (traced_in d) _ (no_event is) (λ v. v)
+  of_event (Some kind) is = of_out kind is (field as_str (codes "out") d) _ refl refl
 
 pub transcript_needed : ToldLinesHaveJustNeeded
 transcript_needed d =
     pick (λ (o : Option TranscriptLine) (needed : Option (List Key)). IsSome o ↔ IsSomeAnd needed (HasJust d)) (is_some (get (codes "ev") d)) _ _ _ _
-    (of_text d (field as_str (codes "ev") d) refl) (of_kind d lines.Node (field as_str (codes "kind") d) refl)
+    (of_event d (option_and_then kind_of (field as_str (codes "ev") d)) refl) (of_kind d lines.Node (field as_str (codes "kind") d) refl)

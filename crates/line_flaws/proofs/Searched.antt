@@ -3,11 +3,12 @@ use Rattle.std.proofs.Common.{◌≡◌, ◌++◌, ℕ, Bool, true, false, List,
 use Rattle.std.specs.Prelude.{All, Contains, IsSomeAnd, is_some}
 use Rattle.std.proofs.lemmas.List.Elements.{All-append, All-contains, All-weaker, All-contains_itself, Contains-append_left, Contains-append_right}
 use Rattle.serde_json.specs.Data.{Data}
+use Rattle.schedule_lines.specs.declared.reading.kind.EventKind.{EventKind}
 use Rattle.line_flaws.specs.declared.flaw.FileForm.{FileForm}
 use Rattle.line_flaws.specs.declared.flaw.FileForm.TheVariants.{Schedule, Transcript}
 use Rattle.line_object.specs.declared.key.Key.{Key}
 use Rattle.line_object.specs.declared.key.Key.TheVariants as keys
-use Rattle.line_flaws.specs.Keys.{is_timed, needed_keys, outcome_keys_in, told_keys}
+use Rattle.line_flaws.specs.Keys.{is_timed, needed_keys, outcome_keys_in, own_keys, told_keys}
 use Rattle.schedule_lines.specs.Json.{has_keys}
 use Rattle.schedule_lines.specs.Line.{line_of}
 use Rattle.schedule_lines.specs.TranscriptLine.{transcript_line_of}
@@ -56,12 +57,12 @@ among true = (2, omega arith, refl)
 among false = (1, omega arith, refl)
 
 -- `out` is one of those of a transcript's event
-pub out_needed : (d : Data) (text : List ℕ) (own : List Key)
-    → needed_keys Transcript d ≡ Some (keys.Ev ∷ keys.Node ∷ (own ++ (told_keys (is_timed text) ++ outcome_keys_in d))) → IsNeeded Transcript d keys.Out
-out_needed d text own is =
+pub out_needed : (d : Data) (kind : EventKind)
+    → needed_keys Transcript d ≡ Some (keys.Ev ∷ keys.Node ∷ (own_keys kind ++ (told_keys (is_timed kind) ++ outcome_keys_in d))) → IsNeeded Transcript d keys.Out
+out_needed d kind is =
     subst (λ o. IsSomeAnd o (λ needed. Contains needed keys.Out)) (sym is)
-    (Contains-append_right (keys.Ev ∷ keys.Node ∷ own) (told_keys (is_timed text) ++ outcome_keys_in d) keys.Out
-    (Contains-append_left (told_keys (is_timed text)) (outcome_keys_in d) keys.Out (among (is_timed text))))
+    (Contains-append_right (keys.Ev ∷ keys.Node ∷ own_keys kind) (told_keys (is_timed kind) ++ outcome_keys_in d) keys.Out
+    (Contains-append_left (told_keys (is_timed kind)) (outcome_keys_in d) keys.Out (among (is_timed kind))))
 
 -- ---- what has all that it needs and isn't read has other keys
 

@@ -5,6 +5,11 @@ use Rattle.std.specs.Str.{bytes_eq}
 use Rattle.serde_json.specs.Data.{Data}
 use Rattle.serde_json.specs.Find.{get, as_str}
 use Rattle.schedule_lines.specs.Json.{field}
+use Rattle.schedule_lines.specs.Words.{kind_of}
+use Rattle.schedule_lines.specs.declared.reading.kind.EventKind.{EventKind}
+use Rattle.schedule_lines.specs.declared.reading.kind.EventKind.TheVariants.{Sync, SyncOne, Follow, Enter, Leave}
+use Rattle.schedule_lines.specs.declared.reading.kind.EventKind.TheVariants.{Arrive, Hear, Request, Stamped, Tick}
+use Rattle.schedule_lines.specs.declared.reading.kind.EventKind.TheVariants.{SetMaster, StepClock}
 use Rattle.line_flaws.specs.declared.flaw.FileForm.{FileForm}
 use Rattle.line_flaws.specs.declared.flaw.FileForm.TheVariants.{Schedule, Transcript}
 use Rattle.line_object.specs.declared.key.Key.{Key}
@@ -22,33 +27,30 @@ node_keys text =
     else if bytes_eq text (codes "clock") then Some (keys.Kind ∷ keys.Node ∷ [])
     else None
 
--- the keys of an event in a schedule, beside `ev` and `node`, by the text of `ev`
-abbrev pub own_keys : List ℕ → Option (List Key)
-own_keys text =
-    if bytes_eq text (codes "sync") then Some (keys.At ∷ [])
-    else if bytes_eq text (codes "syncone") then Some (keys.At ∷ [])
-    else if bytes_eq text (codes "follow") then Some []
-    else if bytes_eq text (codes "enter") then Some (keys.CopyTag ∷ keys.At ∷ [])
-    else if bytes_eq text (codes "leave") then Some (keys.TransitTag ∷ keys.At ∷ [])
-    else if bytes_eq text (codes "arrive") then Some (keys.CopyTag ∷ keys.At ∷ [])
-    else if bytes_eq text (codes "hear") then Some (keys.CopyTag ∷ [])
-    else if bytes_eq text (codes "request") then Some (keys.At ∷ [])
-    else if bytes_eq text (codes "stamped") then Some []
-    else if bytes_eq text (codes "tick") then Some []
-    else if bytes_eq text (codes "setmaster") then Some (keys.Master ∷ [])
-    else if bytes_eq text (codes "stepclock") then Some (keys.Diff ∷ [])
-    else None
+-- the keys of an event in a schedule, beside `ev` and `node`
+abbrev pub own_keys : EventKind → List Key
+own_keys Sync = keys.At ∷ []
+own_keys SyncOne = keys.At ∷ []
+own_keys Follow = []
+own_keys Enter = keys.CopyTag ∷ keys.At ∷ []
+own_keys Leave = keys.TransitTag ∷ keys.At ∷ []
+own_keys Arrive = keys.CopyTag ∷ keys.At ∷ []
+own_keys Hear = keys.CopyTag ∷ []
+own_keys Request = keys.At ∷ []
+own_keys Stamped = []
+own_keys Tick = []
+own_keys SetMaster = keys.Master ∷ []
+own_keys StepClock = keys.Diff ∷ []
 
--- whether an event has a true moment, and so a reading, by the text of `ev`
-abbrev pub is_timed : List ℕ → Bool
-is_timed text =
-    if bytes_eq text (codes "sync") then true
-    else if bytes_eq text (codes "syncone") then true
-    else if bytes_eq text (codes "enter") then true
-    else if bytes_eq text (codes "leave") then true
-    else if bytes_eq text (codes "arrive") then true
-    else if bytes_eq text (codes "request") then true
-    else false
+-- whether an event has a true moment, and so a reading
+abbrev pub is_timed : EventKind → Bool
+is_timed Sync = true
+is_timed SyncOne = true
+is_timed Enter = true
+is_timed Leave = true
+is_timed Arrive = true
+is_timed Request = true
+is_timed _ = false
 
 -- the keys that an event of a transcript has besides, whatever came of it
 abbrev pub told_keys : Bool → List Key
@@ -72,15 +74,14 @@ outcome_keys text =
 abbrev pub outcome_keys_in : Data → List Key
 outcome_keys_in d = unwrap_or (option_and_then outcome_keys (field as_str (codes "out") d)) []
 
--- the keys of an event whose `ev` has this text, with these of its own
-abbrev pub event_keys : FileForm → Data → List ℕ → List Key → List Key
-event_keys Schedule d text own = keys.Ev ∷ keys.Node ∷ own
-event_keys Transcript d text own = keys.Ev ∷ keys.Node ∷ (own ++ (told_keys (is_timed text) ++ outcome_keys_in d))
+-- the keys of an event of this kind
+abbrev pub event_keys : FileForm → Data → EventKind → List Key
+event_keys Schedule d kind = keys.Ev ∷ keys.Node ∷ own_keys kind
+event_keys Transcript d kind = keys.Ev ∷ keys.Node ∷ (own_keys kind ++ (told_keys (is_timed kind) ++ outcome_keys_in d))
 
 -- the keys that an event needs, by its `ev`
 abbrev pub event_keys_in : FileForm → Data → Option (List Key)
-event_keys_in form d =
-    option_and_then (λ text. option_map (event_keys form d text) (own_keys text)) (field as_str (codes "ev") d)
+event_keys_in form d = option_map (event_keys form d) (option_and_then kind_of (field as_str (codes "ev") d))
 
 -- the keys that a line of the form needs, by its `ev` or else its `kind`; None where that names nothing
 abbrev pub needed_keys : FileForm → Data → Option (List Key)

@@ -1,9 +1,9 @@
 //! Which keys a line has.
-ghost use Rattle.std.specs.Prelude.{◌≡◌, is_some, option_map};
-ghost use Rattle.schedule_lines.specs.Line.{kind_of};
+ghost use Rattle.std.specs.Prelude.{◌≡◌, option_map};
 ghost use Rattle.line_flaws.specs.Keys.{is_timed, node_keys, outcome_keys, own_keys, told_keys};
 
 use line_object::Key;
+use schedule_lines::EventKind;
 
 /// The keys of a node that has a port.
 const OF_PORTS: &[Key] = &[
@@ -29,45 +29,30 @@ pub(crate) fn node_keys(kind: &str) -> Option<&'static [Key]>
 }
 
 /// The keys of a kind of event in a schedule, beside `ev` and `node`.
-pub(crate) fn own_keys(kind: &str) -> Option<&'static [Key]>
-    ensures keys { option_map (λ keys. keys.now) result ≡ own_keys kind.now }
-    ensures named { is_some result ≡ is_some (kind_of kind.now) }
+pub(crate) fn own_keys(kind: EventKind) -> &'static [Key]
+    ensures { result.now ≡ own_keys kind }
 {
     match kind {
-        "sync" => Some(&[Key::At]),
-        "syncone" => Some(&[Key::At]),
-        "follow" => Some(&[]),
-        "enter" => Some(&[Key::CopyTag, Key::At]),
-        "leave" => Some(&[Key::TransitTag, Key::At]),
-        "arrive" => Some(&[Key::CopyTag, Key::At]),
-        "hear" => Some(&[Key::CopyTag]),
-        "request" => Some(&[Key::At]),
-        "stamped" => Some(&[]),
-        "tick" => Some(&[]),
-        "setmaster" => Some(&[Key::Master]),
-        "stepclock" => Some(&[Key::Diff]),
-        _ => None,
+        EventKind::Sync | EventKind::SyncOne | EventKind::Request => &[Key::At],
+        EventKind::Follow | EventKind::Stamped | EventKind::Tick => &[],
+        EventKind::Enter | EventKind::Arrive => &[Key::CopyTag, Key::At],
+        EventKind::Leave => &[Key::TransitTag, Key::At],
+        EventKind::Hear => &[Key::CopyTag],
+        EventKind::SetMaster => &[Key::Master],
+        EventKind::StepClock => &[Key::Diff],
     }
 }
 
 /// Whether an event of a kind has a true moment, and so a reading.
-fn is_timed(kind: &str) -> bool
-    ensures { result ≡ is_timed kind.now }
+fn is_timed(kind: EventKind) -> bool
+    ensures { result ≡ is_timed kind }
 {
-    match kind {
-        "sync" => true,
-        "syncone" => true,
-        "enter" => true,
-        "leave" => true,
-        "arrive" => true,
-        "request" => true,
-        _ => false,
-    }
+    own_keys(kind).contains(&Key::At)
 }
 
 /// The keys that an event of a kind has in a transcript besides, whatever came of it.
-pub(crate) fn told_keys(kind: &str) -> &'static [Key]
-    ensures { result.now ≡ told_keys (is_timed kind.now) }
+pub(crate) fn told_keys(kind: EventKind) -> &'static [Key]
+    ensures { result.now ≡ told_keys (is_timed kind) }
 {
     if is_timed(kind) {
         &[Key::Number, Key::Reading, Key::Out]

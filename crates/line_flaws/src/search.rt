@@ -7,7 +7,7 @@ ghost use Rattle.schedule_lines.specs.Json.{field, has_items};
 ghost use Rattle.line_flaws.specs.declared.flaw.FileForm.TheVariants.{Schedule, Transcript};
 ghost use Rattle.line_object.specs.declared.key.Key.TheVariants.{At, Ev, Kind, Node, Out, Tags};
 ghost use Rattle.line_flaws.specs.declared.wanted.Wanted.TheVariants as wanteds;
-ghost use Rattle.line_flaws.specs.Keys.{is_timed, needed_keys, outcome_keys_in, told_keys};
+ghost use Rattle.line_flaws.specs.Keys.{is_timed, needed_keys, outcome_keys_in, own_keys, told_keys};
 ghost use Rattle.line_object.specs.Key.{key_text};
 ghost use Rattle.line_flaws.specs.Wanted.{HasWanted, HasWrongPart, IsPartOf, array_of, is_wanted, is_wanted_part};
 ghost use Rattle.line_flaws.specs.Wanted.{part_count, wanted_at, wanted_of};
@@ -20,6 +20,7 @@ use crate::keys::{node_keys, outcome_keys, own_keys, told_keys};
 use crate::pieces::{Members, item_text, plain_name, unquoted, value_text};
 use crate::wanted::Wanted;
 use line_object::Key;
+use schedule_lines::EventKind;
 use serde_json::Value;
 
 /// A line, the value that it is, and the form that it isn't a line of.
@@ -166,24 +167,24 @@ impl<'a, 'v> Search<'a, 'v> {
         requires event { is_some (get (key_text Ev) (view self.value.now)) ≡ true }
         ensures { (events : ℕ) → IsSoOfValue self.entry.form events (view self.entry.value.now) result }
     {
-        let Some(kind) = self.text_at(Key::Ev) else {
+        let Some(word) = self.text_at(Key::Ev) else {
             return self.wrong(Key::Ev);
         };
-        let Some(own) = own_keys(kind) else {
+        let Some(kind) = EventKind::named(word) else {
             return self.wrong(Key::Ev);
         };
         match self.form {
-            FileForm::Schedule => self.scheduled_flaw(own),
-            FileForm::Transcript => self.told_flaw(kind, own),
+            FileForm::Schedule => self.scheduled_flaw(kind),
+            FileForm::Transcript => self.told_flaw(kind),
         }
     }
 
-    /// The flaw of an event of a schedule, of a kind with these keys of its own.
-    fn scheduled_flaw(self, own: &'static [Key]) -> Flaw<'a>
+    /// The flaw of an event of a schedule.
+    fn scheduled_flaw(self, kind: EventKind) -> Flaw<'a>
         requires unread { ¬ HasJustNeeded self.form (view self.value.now) }
         requires form { self.form ≡ Schedule }
         requires event { HasWanted (view self.value.now) Ev }
-        requires keys { needed_keys Schedule (view self.value.now) ≡ Some (Ev ∷ Node ∷ own.now) }
+        requires keys { needed_keys Schedule (view self.value.now) ≡ Some (Ev ∷ Node ∷ own_keys kind) }
         ensures { (events : ℕ) → IsSoOfValue self.entry.form events (view self.entry.value.now) result }
     {
         if self.has(Key::Number) && self.has(Key::Out) {
@@ -193,20 +194,20 @@ impl<'a, 'v> Search<'a, 'v> {
             Key::Ev,
             Allowed {
                 common: &[Key::Ev, Key::Node],
-                own,
+                own: own_keys(kind),
                 told: &[],
                 outcome: &[],
             },
         )
     }
 
-    /// The flaw of an event of a transcript, of a kind with these keys of its own.
-    fn told_flaw(self, kind: &str, own: &'static [Key]) -> Flaw<'a>
+    /// The flaw of an event of a transcript.
+    fn told_flaw(self, kind: EventKind) -> Flaw<'a>
         requires unread { ¬ HasJustNeeded self.form (view self.value.now) }
         requires form { self.form ≡ Transcript }
         requires event { HasWanted (view self.value.now) Ev }
         requires keys { needed_keys Transcript (view self.value.now)
-            ≡ Some (Ev ∷ Node ∷ (own.now ++ (told_keys (is_timed kind.now) ++ outcome_keys_in (view self.value.now)))) }
+            ≡ Some (Ev ∷ Node ∷ (own_keys kind ++ (told_keys (is_timed kind) ++ outcome_keys_in (view self.value.now)))) }
         ensures { (events : ℕ) → IsSoOfValue self.entry.form events (view self.entry.value.now) result }
     {
         if !self.has(Key::Number) && !self.has(Key::Out) {
@@ -214,7 +215,7 @@ impl<'a, 'v> Search<'a, 'v> {
         }
         let allowed = Allowed {
             common: &[Key::Ev, Key::Node],
-            own,
+            own: own_keys(kind),
             told: told_keys(kind),
             outcome: &[],
         };

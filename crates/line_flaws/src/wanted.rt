@@ -2,13 +2,13 @@
 ghost use Rattle.std.specs.Prelude.{◌≡◌, is_some, option_and_then};
 ghost use Rattle.serde_json.specs.View.{view};
 ghost use Rattle.serde_json.specs.Find.{as_str};
-ghost use Rattle.schedule_lines.specs.Line.{kind_of};
+ghost use Rattle.schedule_lines.specs.Words.{kind_of};
 ghost use Rattle.schedule_lines.specs.TranscriptLine.{follow_in};
 ghost use Rattle.line_flaws.specs.Keys.{node_keys, outcome_keys};
 ghost use Rattle.line_flaws.specs.Wanted.{wanted_of};
 ghost use Rattle.line_flaws.specs.Inner.Met.{is_met};
 
-use crate::keys::{node_keys, outcome_keys, own_keys};
+use crate::keys::{node_keys, outcome_keys};
 use line_object::{Key, LineValue};
 use schedule_lines::{clock_in, difference_in, name_in, octets_in, signed_octet_in, whole_below};
 use serde_json::Value;
@@ -61,7 +61,7 @@ fn is_event_kind(value: &Value) -> bool
     ensures { result ≡ is_some (option_and_then kind_of (as_str (view value.now))) }
 {
     match value.as_str() {
-        Some(text) => own_keys(text).is_some(),
+        Some(word) => schedule_lines::EventKind::named(word).is_some(),
         None => false,
     }
 }

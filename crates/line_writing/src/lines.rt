@@ -9,10 +9,11 @@ ghost use Rattle.line_writing.specs.Inner.Pieces.{end_text, drawn_text, clock_te
 
 use crate::fields::{put_difference, put_moment, put_name, put_whole};
 use crate::values::{push_name, push_octets, push_signed, push_tags, push_whole};
-use crate::words::{event_text, out_code, out_text};
+use crate::words::{out_code, out_text};
 use event_codec::PortConfig;
 use network_model::{Event, Name, NodeKind, NodeSpec};
 use ptp_units::Seq;
+use schedule_lines::EventKind;
 use std::alloc::AllocError;
 use trace_model::{TraceLine, TraceOut};
 
@@ -124,7 +125,7 @@ fn push_front(text: &mut Vec<u8>, event: &Event, code: Option<u64>) -> Result<()
     put_whole(text, b"\"copy\":", event.named_copy(), b",")?;
     put_difference(text, b"\"diff\":", event.named_difference(), b",")?;
     text.extend_from_slice(b"\"ev\":\"")?;
-    text.extend_from_slice(event_text(event).as_bytes())?;
+    text.extend_from_slice(EventKind::of(event).word().as_bytes())?;
     text.extend_from_slice(b"\"")?;
     Ok(())
 }

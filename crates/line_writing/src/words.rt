@@ -1,8 +1,7 @@
-//! The words that lines have for what happened and for what came of it.
+//! The words that lines have for what came of an event.
 ghost use Rattle.std.specs.Prelude.{◌≡◌};
-ghost use Rattle.schedule_lines.specs.Written.{event_text, out_text, out_code};
+ghost use Rattle.schedule_lines.specs.Written.{out_text, out_code};
 
-use network_model::Event;
 use trace_model::TraceOut;
 
 /// The text of `out`.
@@ -28,25 +27,5 @@ pub(crate) fn out_code(out: &TraceOut) -> Option<u64>
     match out {
         TraceOut::Ignored(code) | TraceOut::Refused(code) => Some(u64::from(*code)),
         _ => None,
-    }
-}
-
-/// The text of `ev`.
-pub(crate) fn event_text(event: &Event) -> &'static str
-    ensures { result.now ≡ event_text event.now }
-{
-    match event {
-        Event::Sync { .. } => "sync",
-        Event::SyncOne { .. } => "syncone",
-        Event::Follow { .. } => "follow",
-        Event::Enter { .. } => "enter",
-        Event::Leave { .. } => "leave",
-        Event::Arrive { .. } => "arrive",
-        Event::Hear { .. } => "hear",
-        Event::Request { .. } => "request",
-        Event::Stamped { .. } => "stamped",
-        Event::Tick { .. } => "tick",
-        Event::SetMaster { .. } => "setmaster",
-        Event::StepClock { .. } => "stepclock",
     }
 }

@@ -15,7 +15,8 @@ use Rattle.trace_model.specs.declared.line.TraceLine.{TraceLine}
 use Rattle.trace_model.specs.declared.line.TraceOut.{TraceOut}
 use Rattle.schedule_lines.specs.Json.{has_keys, field, whole_in, whole_below, moment_in, name_in, clock_in}
 use Rattle.schedule_lines.specs.Json.{signed_octet_in, octets_in, difference_in}
-use Rattle.schedule_lines.specs.Line.{kind_of, event_at, event_in, event_keys, scheduled_in, at_in, config_in}
+use Rattle.schedule_lines.specs.Line.{event_at, event_in, event_keys, scheduled_in, at_in, config_in}
+use Rattle.schedule_lines.specs.Words.{kind_of}
 use Rattle.schedule_lines.specs.Line.{first_in, port_in, node_kind, node_spec_in}
 use Rattle.schedule_lines.specs.TranscriptLine.{trace_line_in}
 use Rattle.schedule_lines.specs.Keys.{HaveSameKeys, line_data, transcript_line_data, LinesHaveOwnKeys}

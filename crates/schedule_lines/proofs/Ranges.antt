@@ -26,7 +26,8 @@ use Rattle.std.proofs.lemmas.Int.{ints}
 use Rattle.schedule_lines.specs.Json.{signed_octet_in, has_keys, below, whole_in, whole_below, item_at, field}
 use Rattle.schedule_lines.specs.Json.{has_items, is_name, name_in, octets_in, clock_in, moment_in, positive_of}
 use Rattle.schedule_lines.specs.Json.{difference_of, difference_in}
-use Rattle.schedule_lines.specs.Line.{event_at, event_in, event_keys, scheduled_in, node_in, at_in, copy_in, kind_of}
+use Rattle.schedule_lines.specs.Line.{event_at, event_in, event_keys, scheduled_in, node_in, at_in, copy_in}
+use Rattle.schedule_lines.specs.Words.{kind_of}
 use Rattle.schedule_lines.specs.Line.{config_in, first_in, port_in, node_kind, node_spec_in, line_of}
 use Rattle.schedule_lines.specs.TranscriptLine.{trace_line_in}
 use Rattle.schedule_lines.proofs.Digits.{own}

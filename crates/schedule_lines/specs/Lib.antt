@@ -2,5 +2,6 @@ pub mod Json
 pub mod Line
 pub mod Ranges
 pub mod TranscriptLine
+pub mod Words
 pub mod Written
 pub mod Keys

@@ -18,27 +18,11 @@ use Rattle.schedule_lines.specs.declared.reading.kind.EventKind.{EventKind}
 use Rattle.schedule_lines.specs.declared.reading.kind.EventKind.TheVariants.{Sync, SyncOne, Follow, Enter, Leave}
 use Rattle.schedule_lines.specs.declared.reading.kind.EventKind.TheVariants.{Arrive, Hear, Request, Stamped, Tick}
 use Rattle.schedule_lines.specs.declared.reading.kind.EventKind.TheVariants.{SetMaster, StepClock}
+use Rattle.schedule_lines.specs.Words.{kind_of}
 use Rattle.schedule_lines.specs.declared.reading.schedule.Line.{Line}
 use Rattle.network_model.specs.declared.event.Event.TheVariants as events
 use Rattle.network_model.specs.declared.node.NodeKind.TheVariants as kinds
 use Rattle.schedule_lines.specs.declared.reading.schedule.Line.TheVariants as lines
-
--- the kind of event that the text of `ev` names
-abbrev pub kind_of : List ℕ → Option EventKind
-kind_of text =
-    if bytes_eq text (codes "sync") then Some Sync
-    else if bytes_eq text (codes "syncone") then Some SyncOne
-    else if bytes_eq text (codes "follow") then Some Follow
-    else if bytes_eq text (codes "enter") then Some Enter
-    else if bytes_eq text (codes "leave") then Some Leave
-    else if bytes_eq text (codes "arrive") then Some Arrive
-    else if bytes_eq text (codes "hear") then Some Hear
-    else if bytes_eq text (codes "request") then Some Request
-    else if bytes_eq text (codes "stamped") then Some Stamped
-    else if bytes_eq text (codes "tick") then Some Tick
-    else if bytes_eq text (codes "setmaster") then Some SetMaster
-    else if bytes_eq text (codes "stepclock") then Some StepClock
-    else None
 
 -- the keys of events
 abbrev pub node_in : Data → Option (List ℕ)

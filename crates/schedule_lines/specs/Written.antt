@@ -11,14 +11,13 @@ use Rattle.ptp_units.specs.declared.sequence.Seq.{Seq}
 use Rattle.ptp_units.specs.Moment.{stamp_of, fraction_of}
 use Rattle.slave_port.specs.declared.heard.Report.{Report}
 use Rattle.network_model.specs.declared.event.Event.{Event}
-use Rattle.network_model.specs.declared.event.Event.TheVariants.{Sync, SyncOne, Follow, Enter, Leave, Arrive, Hear}
-use Rattle.network_model.specs.declared.event.Event.TheVariants.{Request, Stamped, Tick, SetMaster, StepClock}
 use Rattle.network_model.specs.declared.node.NodeKind.{NodeKind}
 use Rattle.network_model.specs.declared.node.NodeSpec.{NodeSpec}
 use Rattle.network_model.specs.Run.{site_of, true_moment}
 use Rattle.network_model.specs.Kinds.{named_copy, named_master, named_difference, named_transit}
 use Rattle.trace_model.specs.declared.line.TraceLine.{TraceLine}
 use Rattle.trace_model.specs.declared.line.TraceOut.{TraceOut}
+use Rattle.schedule_lines.specs.Words.{event_word, kind_of_event}
 use Rattle.network_model.specs.declared.node.NodeKind.TheVariants as kinds
 use Rattle.trace_model.specs.declared.line.TraceOut.TheVariants as outs
 
@@ -65,18 +64,7 @@ node_data node = kind_data node.name node.kind
 
 -- the text of `ev`
 abbrev pub event_text : Event → List ℕ
-event_text (Sync node at) = codes "sync"
-event_text (SyncOne node at) = codes "syncone"
-event_text (Follow node) = codes "follow"
-event_text (Enter node copy at) = codes "enter"
-event_text (Leave node transit at) = codes "leave"
-event_text (Arrive node copy at) = codes "arrive"
-event_text (Hear node copy) = codes "hear"
-event_text (Request node at) = codes "request"
-event_text (Stamped node) = codes "stamped"
-event_text (Tick node) = codes "tick"
-event_text (SetMaster node master) = codes "setmaster"
-event_text (StepClock node diff) = codes "stepclock"
+event_text event = event_word (kind_of_event event)
 
 -- the keys that an event has in a schedule
 abbrev pub with_event : Event → Members → Members

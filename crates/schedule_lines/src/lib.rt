@@ -6,6 +6,6 @@ pub mod laws;
 mod reading;
 
 pub use reading::{
-    Line, TranscriptLine, clock_in, difference_in, line_value, name_in, octets_in, signed_octet_in,
-    whole_below,
+    EventKind, Line, TranscriptLine, clock_in, difference_in, line_value, name_in, octets_in,
+    signed_octet_in, whole_below,
 };

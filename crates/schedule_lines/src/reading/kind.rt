@@ -1,41 +1,99 @@
-//! Kinds of events, by the text of `ev`.
+//! Kinds of events, and the word that stands for each at `ev`.
 ghost use Rattle.std.specs.Prelude.{◌≡◌};
-ghost use Rattle.schedule_lines.specs.Line.{kind_of};
+ghost use Rattle.schedule_lines.specs.Words.{event_word, kind_of, kind_of_event};
 
-/// A kind of event.
+use network_model::Event;
+
+/// A kind of [`Event`].
 #[derive(Clone, Copy, Debug, PartialEq, Eq)]
-pub(crate) enum EventKind {
+pub enum EventKind {
+    /// A two-step Sync is sent.
     Sync,
+    /// A one-step Sync is sent.
     SyncOne,
+    /// A Follow_Up is sent.
     Follow,
+    /// A message enters a transparent clock.
     Enter,
+    /// A message leaves a transparent clock.
     Leave,
+    /// An event message arrives.
     Arrive,
+    /// A general message is handed over.
     Hear,
+    /// A Delay_Req is sent.
     Request,
+    /// A slave learns when its Delay_Req departed.
     Stamped,
+    /// A slave's interval ends.
     Tick,
+    /// A slave is told another master.
     SetMaster,
+    /// A node's clock is set.
     StepClock,
 }
 
-/// The kind that a text names.
-pub(crate) fn kind_of(text: &str) -> Option<EventKind>
-    ensures { result ≡ kind_of text.now }
-{
-    match text {
-        "sync" => Some(EventKind::Sync),
-        "syncone" => Some(EventKind::SyncOne),
-        "follow" => Some(EventKind::Follow),
-        "enter" => Some(EventKind::Enter),
-        "leave" => Some(EventKind::Leave),
-        "arrive" => Some(EventKind::Arrive),
-        "hear" => Some(EventKind::Hear),
-        "request" => Some(EventKind::Request),
-        "stamped" => Some(EventKind::Stamped),
-        "tick" => Some(EventKind::Tick),
-        "setmaster" => Some(EventKind::SetMaster),
-        "stepclock" => Some(EventKind::StepClock),
-        _ => None,
+/// All kinds.
+const KINDS: [EventKind; 12] = [
+    EventKind::Sync,
+    EventKind::SyncOne,
+    EventKind::Follow,
+    EventKind::Enter,
+    EventKind::Leave,
+    EventKind::Arrive,
+    EventKind::Hear,
+    EventKind::Request,
+    EventKind::Stamped,
+    EventKind::Tick,
+    EventKind::SetMaster,
+    EventKind::StepClock,
+];
+
+impl EventKind {
+    /// The kind that a word names; None where it names none.
+    pub fn named(word: &str) -> Option<EventKind>
+        ensures { result ≡ kind_of word.now }
+    {
+        KINDS.iter().copied().find(|kind| kind.word() == word)
+    }
+
+    /// The kind of an event.
+    pub fn of(event: &Event) -> EventKind
+        ensures { result ≡ kind_of_event event.now }
+    {
+        match event {
+            Event::Sync { .. } => EventKind::Sync,
+            Event::SyncOne { .. } => EventKind::SyncOne,
+            Event::Follow { .. } => EventKind::Follow,
+            Event::Enter { .. } => EventKind::Enter,
+            Event::Leave { .. } => EventKind::Leave,
+            Event::Arrive { .. } => EventKind::Arrive,
+            Event::Hear { .. } => EventKind::Hear,
+            Event::Request { .. } => EventKind::Request,
+            Event::Stamped { .. } => EventKind::Stamped,
+            Event::Tick { .. } => EventKind::Tick,
+            Event::SetMaster { .. } => EventKind::SetMaster,
+            Event::StepClock { .. } => EventKind::StepClock,
+        }
+    }
+
+    /// The word that stands for it at `ev`.
+    pub fn word(self) -> &'static str
+        ensures { result.now ≡ event_word self }
+    {
+        match self {
+            EventKind::Sync => "sync",
+            EventKind::SyncOne => "syncone",
+            EventKind::Follow => "follow",
+            EventKind::Enter => "enter",
+            EventKind::Leave => "leave",
+            EventKind::Arrive => "arrive",
+            EventKind::Hear => "hear",
+            EventKind::Request => "request",
+            EventKind::Stamped => "stamped",
+            EventKind::Tick => "tick",
+            EventKind::SetMaster => "setmaster",
+            EventKind::StepClock => "stepclock",
+        }
     }
 }

@@ -6,7 +6,7 @@ ghost use Rattle.schedule_lines.specs.Line.{at_in, copy_in, config_in, first_in,
 use crate::reading::fields::{
     clock_in, difference_in, moment_in, name_in, signed_octet_in, whole_below,
 };
-use crate::reading::kind::{EventKind, kind_of};
+use crate::reading::kind::EventKind;
 use event_codec::{PortConfig, PortIdentity};
 use line_object::{Key, LineMembers, LineValue};
 use network_model::{Event, Name, NodeKind, NodeSpec};
@@ -52,7 +52,7 @@ fn scheduled_in<M: LineMembers>(members: &M) -> Option<Event>
 pub(crate) fn event_in<M: LineMembers>(members: &M) -> Option<Event>
     ensures { result ≡ event_in (M.as_data members.now) }
 {
-    let kind = kind_of(members.get(Key::Ev)?.as_str()?)?;
+    let kind = EventKind::named(members.get(Key::Ev)?.as_str()?)?;
     event_at(kind, node_in(members)?, members)
 }
 

@@ -8,9 +8,9 @@ use Rattle.line_flaws.proofs.search.Search.told_flaw.Goals as goal
 pub out_flaw-requires-clause-needed : goal.out_flaw-requires-clause-needed
 out_flaw-requires-clause-needed c =
     subst (λ form. IsNeeded form (view c.args.self.value.now) Out) (sym c.requires.form)
-    (out_needed (view c.args.self.value.now) c.args.kind.now c.args.own.now c.requires.keys)
+    (out_needed (view c.args.self.value.now) c.args.kind c.requires.keys)
 
 pub wrong-requires-clause-asked : goal.wrong-requires-clause-asked
 wrong-requires-clause-asked c =
     inr (subst (λ form. IsNeeded form (view c.args.self.value.now) Out) (sym c.requires.form)
-    (out_needed (view c.args.self.value.now) c.args.kind.now c.args.own.now c.requires.keys))
+    (out_needed (view c.args.self.value.now) c.args.kind c.requires.keys))
