@@ -1,10 +1,7 @@
 -- What a line is, from what reading its JSON value answered.
-use Rattle.std.proofs.Common.{◌≡◌, ◌∙◌, ◌⊎◌, sym, ap, inl, inr, List, ℕ, Option, Some, None, Ok, Err, if◌then◌else◌}
-use Rattle.std.specs.Prelude.{IfSome, ok_or}
-use Rattle.std.specs.Str.{IsUtf8}
-use Rattle.std.proofs.lemmas.Str.{is_utf8-from_IsUtf8}
+use Rattle.std.proofs.Common.{◌≡◌, ◌∙◌, ◌⊎◌, sym, ap, inl, inr, List, ℕ, Option, Some, None, Err}
+use Rattle.std.specs.Prelude.{ok_or}
 use Rattle.serde_json.specs.Data.{Data}
-use Rattle.serde_json.specs.Read.{read}
 use Rattle.schedule_lines.specs.Json.{value_in}
 use Rattle.schedule_reading.specs.declared.fault.TaskFault.{TaskFault}
 use Rattle.schedule_reading.specs.declared.fault.TaskFault.TheVariants.{Json, Field, Memory}
@@ -16,17 +13,3 @@ pub unread : {E : Type 0} (reading : Data → Option E) (line : List ℕ) (fault
     → (fault ≡ Memory) ⊎ IsOwnFault (λ l. read_by reading (value_in l)) fault line
 unread reading line fault (inl memory) = inl memory
 unread reading line fault (inr (json, none)) = inr (inl json, ap (read_by reading) none ∙ ap Err (sym json))
-
--- what a line is where its value was read
-pub was_read : {E : Type 0} (reading : Data → Option E) (line : List ℕ) (value : Data) (entry : Option E)
-    → value_in line ≡ Some value
-    → entry ≡ reading value → read_by reading (value_in line) ≡ ok_or {E = TaskFault} entry Field
-was_read {E} reading line value entry is of =
-    ap (read_by reading) is ∙ ap (λ (o : Option E). ok_or {E = TaskFault} o Field) (sym of)
-
--- what was found of a text is what its line is
-pub found_in_place : {E : Type 0} (reading : Data → Option E) (line : List ℕ) (value : Data) (found : Option E) → IsUtf8 line → read line ≡ Some value
-    → found ≡ reading value → IfSome found (λ entry. read_by reading (value_in line) ≡ Ok entry)
-found_in_place {E} reading line value None utf8 is of = tt
-found_in_place {E} reading line value (Some entry) utf8 is of =
-    was_read reading line value (Some entry) (ap (λ b. if b then read line else None) (is_utf8-from_IsUtf8 line utf8) ∙ is) of

@@ -1,6 +1,8 @@
 //! Lines, read one by one. Almost all are objects whose values hold no others but a few in an array, which are read where they stand. Of what
 //! is left the value is read.
-ghost use Rattle.std.specs.Prelude.{◌≡◌, ◌⊎◌, MatchResult, IfOk, IfSome, Ok};
+ghost use Rattle.std.specs.Prelude.{◌≡◌, ◌⊎◌, MatchResult, IfOk, IfSome, Ok, Some};
+ghost use Rattle.line_object.specs.Object.{object_data};
+ghost use Rattle.schedule_lines.specs.Json.{value_in};
 ghost use Rattle.schedule_reading.specs.Entry.{entry_in, recorded_in, IsOwnFault};
 
 use crate::entry::{read_entry, read_recorded};
@@ -33,7 +35,11 @@ impl LineReader {
             (λ entry. entry_in line.now ≡ Ok entry)
             (λ fault. (fault ≡ TaskFault.Memory) ⊎ IsOwnFault entry_in fault line.now) }
     {
-        match self.entry_in_place(line)? {
+        let found = match self.members(line)? {
+            Some(members) => Line::of(&members),
+            None => None,
+        };
+        match found {
             Some(entry) => Ok(entry),
             None => read_entry(self.alloc, line),
         }
@@ -45,35 +51,23 @@ impl LineReader {
             (λ entry. recorded_in line.now ≡ Ok entry)
             (λ fault. (fault ≡ TaskFault.Memory) ⊎ IsOwnFault recorded_in fault line.now) }
     {
-        match self.recorded_in_place(line)? {
+        let found = match self.members(line)? {
+            Some(members) => TranscriptLine::of(&members),
+            None => None,
+        };
+        match found {
             Some(entry) => Ok(entry),
             None => read_recorded(self.alloc, line),
         }
     }
 
-    /// What a line of a schedule is, where it can be read where it stands.
-    fn entry_in_place(&mut self, line: &[u8]) -> Result<Option<Line>, AllocError>
-        ensures { IfOk result (λ found. IfSome found (λ entry. entry_in line.now ≡ Ok entry)) }
+    /// The members of a line, where they can be read where they stand.
+    fn members<'l>(&'l mut self, line: &'l [u8]) -> Result<Option<LineObject<'l>>, AllocError>
+        ensures { IfOk result (λ found. IfSome found (λ members. value_in line.now ≡ Some (object_data members))) }
     {
-        let Ok(text) = str::from_utf8(line) else {
-            return Ok(None);
-        };
-        match LineObject::parse(self.alloc, &mut self.scratch, text)? {
-            Some(members) => Ok(Line::of(&members)),
-            None => Ok(None),
-        }
-    }
-
-    /// What a line of a transcript is, where it can be read where it stands.
-    fn recorded_in_place(&mut self, line: &[u8]) -> Result<Option<TranscriptLine>, AllocError>
-        ensures { IfOk result (λ found. IfSome found (λ entry. recorded_in line.now ≡ Ok entry)) }
-    {
-        let Ok(text) = str::from_utf8(line) else {
-            return Ok(None);
-        };
-        match LineObject::parse(self.alloc, &mut self.scratch, text)? {
-            Some(members) => Ok(TranscriptLine::of(&members)),
-            None => Ok(None),
+        match str::from_utf8(line) {
+            Ok(text) => LineObject::parse(self.alloc, &mut self.scratch, text),
+            Err(_) => Ok(None),
         }
     }
 }
