@@ -295,11 +295,18 @@ def of_code(text, from_above=True):
     [('u8', 'Four'), ('once',)]
     >>> sorted(of_code('use one::Two as Three; pub fn four(it: Three) {}')[0].words & {'Two', 'one'})
     ['Two', 'one']
+    >>> sorted(it for part in of_code('pub struct Pair { one: Three }') for it in part.words if it.endswith('Three'))
+    ['!Three', '?Three', 'Three']
     >>> sorted(words_of('use one::Two as Three; fn four(it: Three) ensures { five it } { Three::new(it.six()) }') & {'five', '!five', 'Two::new', '.six', '!six'})
     ['!six', '.six', 'Two::new', 'five']
     """
     known = aliases(text)
-    return [Part(names, ' '.join(told), with_aliases(named_in(told), known)) for names, told in code_parts(pieces(text), from_above, ())]
+    return [Part(names, ' '.join(told), as_meant(names, with_aliases(named_in(told), known))) for names, told in code_parts(pieces(text), from_above, ())]
+
+
+def as_meant(names, words):
+    """The words of a part; where definitions and clauses alone speak of it, they speak of what stands in it, too."""
+    return words | {MEANT_MARK + it for it in words if it[0] not in CODE_MARK + MEANT_MARK} if any(it.startswith(MEANT_MARK) for it in names) else words
 
 
 def without_comments(text):
