@@ -1,6 +1,5 @@
 //! Answers rows of texts: what a line of a schedule or of a transcript is, whether it is read where it stands, what is said
-//! of it, and how it is written again. `stdin` has
-//! the rows, one a line, and `stdout` what is owed for each, in the same line.
+//! of it, and how it is written again. `stdin` has the rows, one a line, and `stdout` what is owed for each, in the same line.
 #![tactic(auto)]
 
 mod flaws;
