@@ -15,12 +15,12 @@ use Rattle.network_model.specs.declared.node.NodeKind.TheVariants as kinds
 use Rattle.network_model.specs.declared.node.NodeSpec.{NodeSpec}
 use Rattle.event_codec.specs.declared.port.PortConfig.{PortConfig}
 use Rattle.ptp_units.specs.declared.sequence.Seq.{Seq}
+use Rattle.schedule_lines.specs.EventKind.{kind_of}
 use Rattle.schedule_lines.specs.Json.{field, has_keys, moment_in, whole_in, whole_below, name_in, clock_in, signed_octet_in, difference_in}
 use Rattle.schedule_lines.specs.Line.{event_at, event_in, event_keys, scheduled_in, node_in, config_in, first_in}
-use Rattle.schedule_lines.specs.Words.{kind_of}
 use Rattle.schedule_lines.specs.Line.{port_in, node_kind, node_spec_in}
-use Rattle.schedule_lines.specs.declared.reading.kind.EventKind.{EventKind}
-use Rattle.schedule_lines.specs.declared.reading.kind.EventKind.TheVariants as happens
+use Rattle.schedule_lines.specs.declared.event_kind.EventKind.{EventKind}
+use Rattle.schedule_lines.specs.declared.event_kind.EventKind.TheVariants as happens
 use Rattle.schedule_lines.specs.declared.reading.schedule.Line.{Line}
 use Rattle.schedule_lines.specs.declared.reading.schedule.Line.TheVariants as schedules
 use Rattle.line_flaws.specs.declared.flaw.FileForm.TheVariants.{Schedule}

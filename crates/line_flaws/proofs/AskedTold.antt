@@ -14,12 +14,12 @@ use Rattle.trace_model.specs.declared.line.TraceOut.{TraceOut}
 use Rattle.trace_model.specs.declared.line.TraceOut.TheVariants as outs
 use Rattle.schedule_lines.specs.Json.{field, has_items, has_keys, item_at, moment_in, whole_in, whole_below, octets_in, difference_in}
 use Rattle.schedule_lines.specs.Line.{event_in, one_if}
-use Rattle.schedule_lines.specs.Words.{kind_of}
+use Rattle.schedule_lines.specs.EventKind.{kind_of}
 use Rattle.schedule_lines.specs.TranscriptLine.{report_of, report_in, out_of, out_keys, reading_in, line_keys, follow_in, trace_line_in}
 use Rattle.schedule_lines.specs.TranscriptLine.{traced_in}
 use Rattle.schedule_lines.specs.declared.reading.transcript.TranscriptLine.{TranscriptLine}
 use Rattle.schedule_lines.specs.declared.reading.transcript.TranscriptLine.TheVariants as lines
-use Rattle.schedule_lines.specs.declared.reading.kind.EventKind.{EventKind}
+use Rattle.schedule_lines.specs.declared.event_kind.EventKind.{EventKind}
 use Rattle.line_flaws.specs.declared.flaw.FileForm.TheVariants.{Transcript}
 use Rattle.line_object.specs.declared.key.Key.{Key}
 use Rattle.line_object.specs.declared.key.Key.TheVariants as keys

@@ -3,7 +3,7 @@ use Rattle.std.proofs.Common.{◌≡◌, ◌++◌, ℕ, Bool, true, false, List,
 use Rattle.std.specs.Prelude.{All, Contains, IsSomeAnd, is_some}
 use Rattle.std.proofs.lemmas.List.Elements.{All-append, All-contains, All-weaker, All-contains_itself, Contains-append_left, Contains-append_right}
 use Rattle.serde_json.specs.Data.{Data}
-use Rattle.schedule_lines.specs.declared.reading.kind.EventKind.{EventKind}
+use Rattle.schedule_lines.specs.declared.event_kind.EventKind.{EventKind}
 use Rattle.line_flaws.specs.declared.flaw.FileForm.{FileForm}
 use Rattle.line_flaws.specs.declared.flaw.FileForm.TheVariants.{Schedule, Transcript}
 use Rattle.line_object.specs.declared.key.Key.{Key}

@@ -5,11 +5,11 @@ use Rattle.std.specs.Str.{bytes_eq}
 use Rattle.serde_json.specs.Data.{Data}
 use Rattle.serde_json.specs.Find.{get, as_str}
 use Rattle.schedule_lines.specs.Json.{field}
-use Rattle.schedule_lines.specs.Words.{kind_of}
-use Rattle.schedule_lines.specs.declared.reading.kind.EventKind.{EventKind}
-use Rattle.schedule_lines.specs.declared.reading.kind.EventKind.TheVariants.{Sync, SyncOne, Follow, Enter, Leave}
-use Rattle.schedule_lines.specs.declared.reading.kind.EventKind.TheVariants.{Arrive, Hear, Request, Stamped, Tick}
-use Rattle.schedule_lines.specs.declared.reading.kind.EventKind.TheVariants.{SetMaster, StepClock}
+use Rattle.schedule_lines.specs.EventKind.{kind_of}
+use Rattle.schedule_lines.specs.declared.event_kind.EventKind.{EventKind}
+use Rattle.schedule_lines.specs.declared.event_kind.EventKind.TheVariants.{Sync, SyncOne, Follow, Enter, Leave}
+use Rattle.schedule_lines.specs.declared.event_kind.EventKind.TheVariants.{Arrive, Hear, Request, Stamped, Tick}
+use Rattle.schedule_lines.specs.declared.event_kind.EventKind.TheVariants.{SetMaster, StepClock}
 use Rattle.line_flaws.specs.declared.flaw.FileForm.{FileForm}
 use Rattle.line_flaws.specs.declared.flaw.FileForm.TheVariants.{Schedule, Transcript}
 use Rattle.line_object.specs.declared.key.Key.{Key}
@@ -27,7 +27,7 @@ node_keys text =
     else if bytes_eq text (codes "clock") then Some (keys.Kind ∷ keys.Node ∷ [])
     else None
 
--- the keys of an event in a schedule, beside `ev` and `node`
+-- the keys of a kind of event in a schedule, beside `ev` and `node`
 abbrev pub own_keys : EventKind → List Key
 own_keys Sync = keys.At ∷ []
 own_keys SyncOne = keys.At ∷ []
@@ -42,7 +42,7 @@ own_keys Tick = []
 own_keys SetMaster = keys.Master ∷ []
 own_keys StepClock = keys.Diff ∷ []
 
--- whether an event has a true moment, and so a reading
+-- whether an event of a kind has a true moment, and so a reading
 abbrev pub is_timed : EventKind → Bool
 is_timed Sync = true
 is_timed SyncOne = true
@@ -50,7 +50,12 @@ is_timed Enter = true
 is_timed Leave = true
 is_timed Arrive = true
 is_timed Request = true
-is_timed _ = false
+is_timed Follow = false
+is_timed Hear = false
+is_timed Stamped = false
+is_timed Tick = false
+is_timed SetMaster = false
+is_timed StepClock = false
 
 -- the keys that an event of a transcript has besides, whatever came of it
 abbrev pub told_keys : Bool → List Key

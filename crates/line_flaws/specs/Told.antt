@@ -4,7 +4,7 @@ use Rattle.serde_json.specs.Data.{Data}
 use Rattle.serde_json.specs.Find.{as_str, at}
 use Rattle.schedule_lines.specs.Json.{whole_in, whole_below, signed_octet_in, name_in, clock_in}
 use Rattle.schedule_lines.specs.Json.{octets_in, moment_in, difference_in}
-use Rattle.schedule_lines.specs.Words.{kind_of}
+use Rattle.schedule_lines.specs.EventKind.{kind_of}
 use Rattle.schedule_lines.specs.TranscriptLine.{follow_in, report_of}
 use Rattle.line_flaws.specs.Keys.{node_keys, outcome_keys}
 use Rattle.line_flaws.specs.Wanted.{is_wanted, is_wanted_part, part_wanted, place_of, wanted_of}

@@ -11,7 +11,7 @@ use serde_json::Value;
 use std::fmt;
 use std::fmt::{Display, Formatter};
 
-/// A form of lines.
+/// The form of a file's lines.
 #[derive(Clone, Copy, Debug, PartialEq, Eq)]
 pub enum FileForm {
     /// A schedule: nodes and events.

@@ -2,7 +2,7 @@
 ghost use Rattle.std.specs.Prelude.{◌≡◌, is_some, option_and_then};
 ghost use Rattle.serde_json.specs.View.{view};
 ghost use Rattle.serde_json.specs.Find.{as_str};
-ghost use Rattle.schedule_lines.specs.Words.{kind_of};
+ghost use Rattle.schedule_lines.specs.EventKind.{kind_of};
 ghost use Rattle.schedule_lines.specs.TranscriptLine.{follow_in};
 ghost use Rattle.line_flaws.specs.Keys.{node_keys, outcome_keys};
 ghost use Rattle.line_flaws.specs.Wanted.{wanted_of};
@@ -10,7 +10,9 @@ ghost use Rattle.line_flaws.specs.Inner.Met.{is_met};
 
 use crate::keys::{node_keys, outcome_keys};
 use line_object::{Key, LineValue};
-use schedule_lines::{clock_in, difference_in, name_in, octets_in, signed_octet_in, whole_below};
+use schedule_lines::{
+    EventKind, clock_in, difference_in, name_in, octets_in, signed_octet_in, whole_below,
+};
 use serde_json::Value;
 use std::fmt;
 use std::fmt::{Display, Formatter};
@@ -61,7 +63,7 @@ fn is_event_kind(value: &Value) -> bool
     ensures { result ≡ is_some (option_and_then kind_of (as_str (view value.now))) }
 {
     match value.as_str() {
-        Some(word) => schedule_lines::EventKind::named(word).is_some(),
+        Some(word) => EventKind::named(word).is_some(),
         None => false,
     }
 }
@@ -165,10 +167,7 @@ impl Display for Wanted {
     fn fmt<W: fmt::Write>(&self, f: &mut Formatter<W>) -> fmt::Result {
         match self {
             Wanted::NodeKind => f.write_str("wanted is \"master\", \"slave\" or \"clock\""),
-            Wanted::EventKind => f.write_str(
-                "wanted is one of sync, syncone, follow, enter, leave, arrive, hear, request, stamped, \
-                 tick, setmaster, stepclock",
-            ),
+            Wanted::EventKind => write_event_kinds(f),
             Wanted::Outcome => f.write_str(
                 "wanted is one of done, made, entered, held, completed, report, ignored, refused",
             ),
@@ -201,4 +200,16 @@ impl Display for Wanted {
 /// Whether a point or an exponent is there.
 fn has_point(number: &[u8]) -> bool {
     number.contains(&b'.') || number.contains(&b'e') || number.contains(&b'E')
+}
+
+/// That the word of a kind of event is wanted, with all such words.
+fn write_event_kinds<W: fmt::Write>(f: &mut Formatter<W>) -> fmt::Result {
+    f.write_str("wanted is one of ")?;
+    let mut between = "";
+    for kind in EventKind::ALL {
+        f.write_str(between)?;
+        f.write_str(kind.word())?;
+        between = ", ";
+    }
+    Ok(())
 }

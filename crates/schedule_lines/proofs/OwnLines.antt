@@ -13,10 +13,10 @@ use Rattle.network_model.specs.declared.node.NodeKind.{NodeKind}
 use Rattle.network_model.specs.declared.node.NodeSpec.{NodeSpec}
 use Rattle.trace_model.specs.declared.line.TraceLine.{TraceLine}
 use Rattle.trace_model.specs.declared.line.TraceOut.{TraceOut}
+use Rattle.schedule_lines.specs.EventKind.{kind_of}
 use Rattle.schedule_lines.specs.Json.{has_keys, field, whole_in, whole_below, moment_in, name_in, clock_in}
 use Rattle.schedule_lines.specs.Json.{signed_octet_in, octets_in, difference_in}
 use Rattle.schedule_lines.specs.Line.{event_at, event_in, event_keys, scheduled_in, at_in, config_in}
-use Rattle.schedule_lines.specs.Words.{kind_of}
 use Rattle.schedule_lines.specs.Line.{first_in, port_in, node_kind, node_spec_in}
 use Rattle.schedule_lines.specs.TranscriptLine.{trace_line_in}
 use Rattle.schedule_lines.specs.Keys.{HaveSameKeys, line_data, transcript_line_data, LinesHaveOwnKeys}
@@ -24,10 +24,10 @@ use Rattle.schedule_lines.specs.Keys.{TranscriptLinesHaveOwnKeys}
 use Rattle.schedule_lines.proofs.Keys.{Field, event_fields, answer_fields, line_fields}
 use Rattle.schedule_lines.proofs.OwnKeys.{HasFields, own_keys}
 use Rattle.schedule_lines.proofs.Printed.{port_fields, clock_fields}
-use Rattle.schedule_lines.specs.declared.reading.kind.EventKind.{EventKind}
-use Rattle.schedule_lines.specs.declared.reading.kind.EventKind.TheVariants.{Sync, SyncOne, Follow, Enter, Leave}
-use Rattle.schedule_lines.specs.declared.reading.kind.EventKind.TheVariants.{Arrive, Hear, Request, Stamped, Tick}
-use Rattle.schedule_lines.specs.declared.reading.kind.EventKind.TheVariants.{SetMaster, StepClock}
+use Rattle.schedule_lines.specs.declared.event_kind.EventKind.{EventKind}
+use Rattle.schedule_lines.specs.declared.event_kind.EventKind.TheVariants.{Sync, SyncOne, Follow, Enter, Leave}
+use Rattle.schedule_lines.specs.declared.event_kind.EventKind.TheVariants.{Arrive, Hear, Request, Stamped, Tick}
+use Rattle.schedule_lines.specs.declared.event_kind.EventKind.TheVariants.{SetMaster, StepClock}
 use Rattle.schedule_lines.specs.declared.reading.transcript.TranscriptLine.{TranscriptLine}
 use Rattle.schedule_lines.specs.TranscriptLine.{report_of, report_in, out_of, reading_in, trace_line_in, line_keys}
 use Rattle.schedule_lines.specs.Written.{node_data, kind_data, port_data, scheduled_data, made_octets}

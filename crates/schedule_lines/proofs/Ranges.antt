@@ -23,19 +23,19 @@ use Rattle.network_model.specs.declared.node.NodeKind.{NodeKind}
 use Rattle.event_codec.specs.declared.port.PortConfig.{PortConfig}
 use Rattle.ptp_units.specs.declared.sequence.Seq.{Seq}
 use Rattle.std.proofs.lemmas.Int.{ints}
+use Rattle.schedule_lines.specs.EventKind.{kind_of}
 use Rattle.schedule_lines.specs.Json.{signed_octet_in, has_keys, below, whole_in, whole_below, item_at, field}
 use Rattle.schedule_lines.specs.Json.{has_items, is_name, name_in, octets_in, clock_in, moment_in, positive_of}
 use Rattle.schedule_lines.specs.Json.{difference_of, difference_in}
 use Rattle.schedule_lines.specs.Line.{event_at, event_in, event_keys, scheduled_in, node_in, at_in, copy_in}
-use Rattle.schedule_lines.specs.Words.{kind_of}
 use Rattle.schedule_lines.specs.Line.{config_in, first_in, port_in, node_kind, node_spec_in, line_of}
 use Rattle.schedule_lines.specs.TranscriptLine.{trace_line_in}
 use Rattle.schedule_lines.proofs.Digits.{own}
 use Rattle.schedule_lines.proofs.Names.{IsName-from_test}
-use Rattle.schedule_lines.specs.declared.reading.kind.EventKind.{EventKind}
-use Rattle.schedule_lines.specs.declared.reading.kind.EventKind.TheVariants.{Sync, SyncOne, Follow, Enter, Leave}
-use Rattle.schedule_lines.specs.declared.reading.kind.EventKind.TheVariants.{Arrive, Hear, Request, Stamped, Tick}
-use Rattle.schedule_lines.specs.declared.reading.kind.EventKind.TheVariants.{SetMaster, StepClock}
+use Rattle.schedule_lines.specs.declared.event_kind.EventKind.{EventKind}
+use Rattle.schedule_lines.specs.declared.event_kind.EventKind.TheVariants.{Sync, SyncOne, Follow, Enter, Leave}
+use Rattle.schedule_lines.specs.declared.event_kind.EventKind.TheVariants.{Arrive, Hear, Request, Stamped, Tick}
+use Rattle.schedule_lines.specs.declared.event_kind.EventKind.TheVariants.{SetMaster, StepClock}
 use Rattle.schedule_lines.specs.TranscriptLine.{follow_in, report_of, report_in, code_in, out_of, reading_in}
 use Rattle.schedule_lines.specs.TranscriptLine.{trace_line_in, line_keys, traced_in, transcript_line_of}
 use Rattle.schedule_lines.specs.Ranges.{IsShort, IsEvent, IsOut, IsRecorded, IsConfig, IsKind, IsNode, IsLine}

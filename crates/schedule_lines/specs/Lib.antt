@@ -1,7 +1,7 @@
+pub mod EventKind
 pub mod Json
 pub mod Line
 pub mod Ranges
 pub mod TranscriptLine
-pub mod Words
 pub mod Written
 pub mod Keys

@@ -14,11 +14,11 @@ use Rattle.network_model.specs.declared.node.NodeKind.{NodeKind}
 use Rattle.network_model.specs.declared.node.NodeSpec.{NodeSpec}
 use Rattle.schedule_lines.specs.Json.{field, has_keys, name_in, moment_in, whole_in, whole_below, signed_octet_in}
 use Rattle.schedule_lines.specs.Json.{clock_in, difference_in}
-use Rattle.schedule_lines.specs.declared.reading.kind.EventKind.{EventKind}
-use Rattle.schedule_lines.specs.declared.reading.kind.EventKind.TheVariants.{Sync, SyncOne, Follow, Enter, Leave}
-use Rattle.schedule_lines.specs.declared.reading.kind.EventKind.TheVariants.{Arrive, Hear, Request, Stamped, Tick}
-use Rattle.schedule_lines.specs.declared.reading.kind.EventKind.TheVariants.{SetMaster, StepClock}
-use Rattle.schedule_lines.specs.Words.{kind_of}
+use Rattle.schedule_lines.specs.declared.event_kind.EventKind.{EventKind}
+use Rattle.schedule_lines.specs.declared.event_kind.EventKind.TheVariants.{Sync, SyncOne, Follow, Enter, Leave}
+use Rattle.schedule_lines.specs.declared.event_kind.EventKind.TheVariants.{Arrive, Hear, Request, Stamped, Tick}
+use Rattle.schedule_lines.specs.declared.event_kind.EventKind.TheVariants.{SetMaster, StepClock}
+use Rattle.schedule_lines.specs.EventKind.{kind_of}
 use Rattle.schedule_lines.specs.declared.reading.schedule.Line.{Line}
 use Rattle.network_model.specs.declared.event.Event.TheVariants as events
 use Rattle.network_model.specs.declared.node.NodeKind.TheVariants as kinds

@@ -17,7 +17,7 @@ use Rattle.network_model.specs.Run.{site_of, true_moment}
 use Rattle.network_model.specs.Kinds.{named_copy, named_master, named_difference, named_transit}
 use Rattle.trace_model.specs.declared.line.TraceLine.{TraceLine}
 use Rattle.trace_model.specs.declared.line.TraceOut.{TraceOut}
-use Rattle.schedule_lines.specs.Words.{event_word, kind_of_event}
+use Rattle.schedule_lines.specs.EventKind.{event_word, kind_of_event}
 use Rattle.network_model.specs.declared.node.NodeKind.TheVariants as kinds
 use Rattle.trace_model.specs.declared.line.TraceOut.TheVariants as outs
 

@@ -4,7 +4,7 @@ use Rattle.serde_json.specs.Data.{Data}
 use Rattle.serde_json.specs.Find.{as_str}
 use Rattle.schedule_lines.specs.Json.{has_items, whole_in, whole_below, signed_octet_in, name_in, clock_in}
 use Rattle.schedule_lines.specs.Json.{octets_in, difference_in}
-use Rattle.schedule_lines.specs.Words.{kind_of}
+use Rattle.schedule_lines.specs.EventKind.{kind_of}
 use Rattle.schedule_lines.specs.TranscriptLine.{follow_in}
 use Rattle.line_flaws.specs.Keys.{node_keys, outcome_keys}
 use Rattle.line_flaws.specs.declared.wanted.Wanted.{Wanted}

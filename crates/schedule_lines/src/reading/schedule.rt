@@ -3,10 +3,10 @@ ghost use Rattle.std.specs.Prelude.{◌≡◌};
 ghost use Rattle.schedule_lines.specs.Line.{line_of, scheduled_in, event_in, event_at, event_keys, node_in};
 ghost use Rattle.schedule_lines.specs.Line.{at_in, copy_in, config_in, first_in, node_kind, node_spec_in};
 
+use crate::event_kind::EventKind;
 use crate::reading::fields::{
     clock_in, difference_in, moment_in, name_in, signed_octet_in, whole_below,
 };
-use crate::reading::kind::EventKind;
 use event_codec::{PortConfig, PortIdentity};
 use line_object::{Key, LineMembers, LineValue};
 use network_model::{Event, Name, NodeKind, NodeSpec};

@@ -1,60 +1,63 @@
 //! Kinds of events, and the word that stands for each at `ev`.
 ghost use Rattle.std.specs.Prelude.{◌≡◌};
-ghost use Rattle.schedule_lines.specs.Words.{event_word, kind_of, kind_of_event};
+ghost use Rattle.schedule_lines.specs.EventKind.{event_word, kind_of, kind_of_event};
 
 use network_model::Event;
 
 /// A kind of [`Event`].
 #[derive(Clone, Copy, Debug, PartialEq, Eq)]
 pub enum EventKind {
-    /// A two-step Sync is sent.
+    /// A master sends a two-step Sync.
     Sync,
-    /// A one-step Sync is sent.
+    /// A master sends a one-step Sync.
     SyncOne,
-    /// A Follow_Up is sent.
+    /// A master sends a Follow_Up.
     Follow,
     /// A message enters a transparent clock.
     Enter,
     /// A message leaves a transparent clock.
     Leave,
-    /// An event message arrives.
+    /// An event message arrives at a master or at a slave.
     Arrive,
-    /// A general message is handed over.
+    /// A slave is handed a general message.
     Hear,
-    /// A Delay_Req is sent.
+    /// A slave sends a Delay_Req.
     Request,
-    /// A slave learns when its Delay_Req departed.
+    /// A slave learns when its last Delay_Req departed.
     Stamped,
-    /// A slave's interval ends.
+    /// A slave's hold timer runs out once.
     Tick,
-    /// A slave is told another master.
+    /// A slave is told its present master.
     SetMaster,
     /// A node's clock is set.
     StepClock,
 }
 
-/// All kinds.
-const KINDS: [EventKind; 12] = [
-    EventKind::Sync,
-    EventKind::SyncOne,
-    EventKind::Follow,
-    EventKind::Enter,
-    EventKind::Leave,
-    EventKind::Arrive,
-    EventKind::Hear,
-    EventKind::Request,
-    EventKind::Stamped,
-    EventKind::Tick,
-    EventKind::SetMaster,
-    EventKind::StepClock,
-];
-
 impl EventKind {
+    /// All kinds, in the order in which the help has them.
+    pub const ALL: [EventKind; 12] = [
+        EventKind::Sync,
+        EventKind::SyncOne,
+        EventKind::Follow,
+        EventKind::Enter,
+        EventKind::Leave,
+        EventKind::Arrive,
+        EventKind::Hear,
+        EventKind::Request,
+        EventKind::Stamped,
+        EventKind::Tick,
+        EventKind::SetMaster,
+        EventKind::StepClock,
+    ];
+
     /// The kind that a word names; None where it names none.
     pub fn named(word: &str) -> Option<EventKind>
         ensures { result ≡ kind_of word.now }
     {
-        KINDS.iter().copied().find(|kind| kind.word() == word)
+        EventKind::ALL
+            .iter()
+            .copied()
+            .find(|kind| kind.word() == word)
     }
 
     /// The kind of an event.

@@ -1,12 +1,12 @@
--- The words for kinds of events.
+-- Kinds of events, and the word that stands for each at `ev`.
 use Rattle.std.specs.Prelude.{ℕ, List, [], ◌∷◌, codes, Option}
 use Rattle.std.specs.List.{find}
 use Rattle.std.specs.Str.{bytes_eq}
 use Rattle.network_model.specs.declared.event.Event.{Event}
-use Rattle.schedule_lines.specs.declared.reading.kind.EventKind.{EventKind}
-use Rattle.schedule_lines.specs.declared.reading.kind.EventKind.TheVariants.{Sync, SyncOne, Follow, Enter, Leave}
-use Rattle.schedule_lines.specs.declared.reading.kind.EventKind.TheVariants.{Arrive, Hear, Request, Stamped, Tick}
-use Rattle.schedule_lines.specs.declared.reading.kind.EventKind.TheVariants.{SetMaster, StepClock}
+use Rattle.schedule_lines.specs.declared.event_kind.EventKind.{EventKind}
+use Rattle.schedule_lines.specs.declared.event_kind.EventKind.TheVariants.{Sync, SyncOne, Follow, Enter, Leave}
+use Rattle.schedule_lines.specs.declared.event_kind.EventKind.TheVariants.{Arrive, Hear, Request, Stamped, Tick}
+use Rattle.schedule_lines.specs.declared.event_kind.EventKind.TheVariants.{SetMaster, StepClock}
 use Rattle.network_model.specs.declared.event.Event.TheVariants as events
 
 -- the word of a kind, as it stands at `ev`
@@ -30,7 +30,7 @@ event_kinds =
     Sync ∷ SyncOne ∷ Follow ∷ Enter ∷ Leave ∷ Arrive ∷
     Hear ∷ Request ∷ Stamped ∷ Tick ∷ SetMaster ∷ StepClock ∷ []
 
--- the kind that a text names
+-- the kind whose word a text is; None where it is no kind's
 abbrev pub kind_of : List ℕ → Option EventKind
 kind_of text = find (λ kind. bytes_eq (event_word kind) text) event_kinds
 
