@@ -45,7 +45,7 @@ impl ScaledTime {
         self.units
     }
 
-    /// The number of units, as a signed number.
+    /// The number of units, from 0 to below [`BOUND`], as a signed number.
     pub fn signed_units(self) -> i128
         ensures value { result ≡ pos self }
         ensures within { self < bound }

@@ -50,7 +50,7 @@ pub enum NoCrossing {
     OtherTimestamp,
 }
 
-/// What a message brings.
+/// What comes of a message that is met at a tap.
 #[derive(Clone, Copy, Debug, PartialEq, Eq)]
 pub enum MessageOutcome {
     /// It took its place, and the record waits for others.
