@@ -110,7 +110,10 @@ fn line_of(nodes: u64, at: &ExchangeLine) -> u64 {
 
 /// How long a message was in a clock, by its readings.
 fn length_of(stay: &Stay) -> i128 {
-    stay.left.reading.signed_units().saturating_sub(stay.entered.reading.signed_units())
+    stay.left
+        .reading
+        .signed_units()
+        .saturating_sub(stay.entered.reading.signed_units())
 }
 
 /// Appends the stays of a message in clocks, the first one first.
@@ -139,7 +142,9 @@ fn push_stays(text: &mut String, nodes: u64, leg: &Leg) -> Result<(), AllocError
 
 /// What a clock read at the arrival, less what another read at the departure, less the residence.
 fn elapsed(leg: &Leg) -> i128 {
-    leg.arrived.reading.signed_units()
+    leg.arrived
+        .reading
+        .signed_units()
         .saturating_sub(leg.departed.reading.signed_units())
         .saturating_sub(signed(leg.residence))
 }
