@@ -1,5 +1,5 @@
 -- What reading a line answers, over what was consumed on the way.
-use Rattle.std.proofs.Common.{◌≡◌, ◌≢◌, ℕ, zero, suc, ◌+◌, ◌<◌, ◌≤◌, ◌==◌, List, [], ◌∷◌, ◌++◌, true, false, not, length, take, drop, get_or, Option, Some, None, refl, ap, sym, ◌∙◌, arith, append-nil, append_assoc, length-append}
+use Rattle.std.proofs.Common.{◌≡◌, ◌≢◌, ℕ, zero, suc, ◌+◌, ◌<◌, ◌≤◌, ◌==◌, List, [], ◌∷◌, ◌++◌, true, false, not, length, take, drop, get_or, Option, Some, None, refl, ap, sym, subst, ◌∙◌, arith, append-nil, append_assoc, length-append}
 use Rattle.std.proofs.lemmas.Bool.{le-ltb, lt-ltb, true≢false}
 use Rattle.std.proofs.lemmas.List.{take_at, drop_at}
 use Rattle.std.proofs.Math.Dec.{eqb-suc-zero}
@@ -7,9 +7,20 @@ use Rattle.std.specs.Io.KnownBytes.{Consumes, IsAtEnd}
 use Rattle.std.proofs.KnownBytes.{Consumes-trans}
 use Rattle.text_lines.specs.declared.fault.ReadingFault.TheVariants.{Read, LineTooLong, TooManyLines}
 use Rattle.text_lines.specs.Lines.{lines_of, lfs_in, line_limit, reading_fault}
-use Rattle.text_lines.specs.Inner.Reading.{IsUnended, ReadsLine, StopsReading}
+use Rattle.text_lines.specs.declared.counted.octets.Stop.{Stop}
+use Rattle.text_lines.specs.declared.counted.octets.Stop.TheVariants.{LineFeed, End, TooLong, Failed}
+use Rattle.text_lines.specs.Inner.Reading.{IsUnended, ReadsLine, StopsAt, StopsPartAt, StopsReading}
 use Rattle.text_lines.proofs.KnownOctets.{Consumes-known}
 use Rattle.text_lines.proofs.Cutting.{lines_of-ended, drop_through-ended, lfs_in-ended, lines_of-last, drop_through-last, first_line, longer_line}
+
+-- a part behind what was read of a line
+pub part_stops : (left : ℕ) (stop : Stop) (a b c : Option (List ℕ)) (front part : List ℕ) → Consumes a b front → StopsPartAt left stop b c part
+    → length front + left ≡ line_limit → StopsAt stop a c (front ++ part)
+part_stops left LineFeed a b c front part before stops room = subst (Consumes a c) (sym (append_assoc front part (10 ∷ []))) (Consumes-trans a b c front _ before stops)
+part_stops left End a b c front part before stops room = (Consumes-trans a b c front part before stops.0, stops.1)
+part_stops left TooLong a b c front part before (x, other, full, stops) room =
+    (x, other, simp length-append (omega (arith, full, room)), subst (Consumes a c) (sym (append_assoc front part (x ∷ []))) (Consumes-trans a b c front _ before stops))
+part_stops left Failed a b c front part before stops room = Consumes-trans a b c front part before stops
 
 -- a read of one octet, after those of a line
 pub read_one : (a b c : Option (List ℕ)) (line buf : List ℕ) (n : ℕ) → Consumes a b line → Consumes b c (take n buf) → n ≢ 0 → n ≤ length buf → length buf ≡ 1

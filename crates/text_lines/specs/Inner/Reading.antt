@@ -1,8 +1,9 @@
 -- What reading a line answers.
-use Rattle.std.specs.Prelude.{◌≡◌, ◌≢◌, ℕ, ◌+◌, List, [], ◌∷◌, ◌++◌, All, length, Bool, true, false, Option, Some, None}
+use Rattle.std.specs.Prelude.{◌≡◌, ◌≢◌, ℕ, ◌+◌, List, [], ◌∷◌, ◌++◌, All, length, take, Bool, true, false, Option, Some, None}
 use Rattle.std.specs.Io.KnownBytes.{Consumes, IsAtEnd}
 use Rattle.text_lines.specs.declared.fault.ReadingFault.{ReadingFault}
 use Rattle.text_lines.specs.declared.fault.ReadingFault.TheVariants.{Read}
+use Rattle.text_lines.specs.declared.counted.octets.LinePart.{LinePart}
 use Rattle.text_lines.specs.declared.counted.octets.Stop.{Stop}
 use Rattle.text_lines.specs.declared.counted.octets.Stop.TheVariants.{LineFeed, End, TooLong, Failed}
 use Rattle.text_lines.specs.Lines.{LeavesUnread, after_lines, lfs_in, line_limit, lines_of, reading_fault}
@@ -18,6 +19,16 @@ StopsAt End before after line = Consumes before after line × IsAtEnd after
 StopsAt TooLong before after line =
     (x : ℕ) × (x ≢ 10) × (length line ≡ line_limit) × Consumes before after (line ++ x ∷ [])
 StopsAt Failed before after line = Consumes before after line
+
+-- the octets of a part of a line
+abbrev pub octets_of_part : LinePart → List ℕ
+octets_of_part part = take part.size part.octets
+
+-- the octets of a part of a line were read, of which there may be so many more, and what stopped that
+abbrev pub StopsPartAt : ℕ → Stop → (before after : Option (List ℕ)) → List ℕ → Type 0
+StopsPartAt left TooLong before after part =
+    (x : ℕ) × (x ≢ 10) × (length part ≡ left) × Consumes before after (part ++ x ∷ [])
+StopsPartAt left stop before after part = StopsAt stop before after part
 
 -- how many octets were read
 abbrev pub count_read : Stop → List ℕ → ℕ

@@ -1,9 +1,10 @@
 //! The octets of a line, which are counted once the line was read.
-ghost use Rattle.std.specs.Prelude.{◌≡◌, ◌≤◌, ◌-◌, length, take};
-ghost use Rattle.std.specs.Io.KnownBytes.{prepend_known};
+ghost use Rattle.std.specs.Prelude.{◌≡◌, ◌≤◌, ◌-◌, length, take, None, MatchOption, false};
+ghost use Rattle.std.specs.Option.{option_map_or};
+ghost use Rattle.std.specs.Io.KnownBytes.{Consumes, prepend_known};
 ghost use Rattle.text_lines.specs.Counted.{device_of, given_of, HasFailedIf, HasGiven};
 ghost use Rattle.text_lines.specs.Lines.{line_limit};
-ghost use Rattle.text_lines.specs.Inner.Reading.{StopsAt, IsUnended, count_read, is_failure};
+ghost use Rattle.text_lines.specs.Inner.Reading.{StopsAt, StopsPartAt, IsUnended, count_read, is_failure, octets_of_part};
 
 use crate::counted::Counted;
 use crate::lines::LINE_LIMIT;
@@ -20,6 +21,19 @@ pub(crate) enum Stop {
     TooLong,
     /// Where the reader failed.
     Failed,
+}
+
+/// How many octets a part of a line has at the most.
+const LINE_PART: usize = 64;
+
+/// Octets of a line in a place of their own, from which they go into its room together. Put there one by one, they would
+/// have the reader's own place read from memory for each: a compiler can't know that the room isn't there.
+#[derive(Drop)]
+struct LinePart {
+    octets: [u8; LINE_PART],
+    size: usize,
+    /// What stopped it, where it isn't full.
+    stop: Option<Stop>,
 }
 
 impl<R: Read> Counted<R> {
@@ -57,19 +71,55 @@ impl<R: Read> Counted<R> {
         ensures given { given_of self.new ≡ given_of self.old }
         ensures failures { HasFailedIf (is_failure result.1) self.old self.new }
     {
-        let mut octet = [0];
         let mut count = begun;
         loop {
-            match self.ask(&mut octet) {
-                Ok(0) => return (count, Stop::End),
-                Ok(_) if octet[0] == b'\n' => return (count, Stop::LineFeed),
-                Ok(_) if count == LINE_LIMIT => return (count, Stop::TooLong),
-                Ok(_) => {
-                    room[count] = octet[0];
-                    count += 1;
-                }
-                Err(_) => return (count, Stop::Failed),
+            let part = self.read_line_part(LINE_LIMIT - count);
+            let end = count + part.size;
+            room[count..end].copy_from_slice(&part.octets[..part.size]);
+            count = end;
+            if let Some(stop) = part.stop {
+                return (count, stop);
             }
+        }
+    }
+
+    /// Reads up to a part of a line, of which there may be so many octets more, one after the other.
+    fn read_line_part(&mut self, left: usize) -> LinePart
+        ensures stop { MatchOption result.stop
+            (Consumes (R.remaining (device_of self.old)) (R.remaining (device_of self.new)) (octets_of_part result))
+            (λ stop. StopsPartAt left stop (R.remaining (device_of self.old)) (R.remaining (device_of self.new)) (octets_of_part result)) }
+        ensures unended { IsUnended (octets_of_part result) }
+        ensures fits { result.size ≤ 64 }
+        ensures full { result.stop ≡ None → result.size ≡ 64 }
+        ensures within { result.size ≤ left }
+        ensures given { given_of self.new ≡ given_of self.old }
+        ensures failures { HasFailedIf (option_map_or is_failure result.stop false) self.old self.new }
+    {
+        let mut octet = [0];
+        let mut octets = [0; LINE_PART];
+        let mut size = 0;
+        while size < LINE_PART {
+            let stop = match self.ask(&mut octet) {
+                Ok(0) => Stop::End,
+                Ok(_) if octet[0] == b'\n' => Stop::LineFeed,
+                Ok(_) if size == left => Stop::TooLong,
+                Ok(_) => {
+                    octets[size] = octet[0];
+                    size += 1;
+                    continue;
+                }
+                Err(_) => Stop::Failed,
+            };
+            return LinePart {
+                octets,
+                size,
+                stop: Some(stop),
+            };
+        }
+        LinePart {
+            octets,
+            size,
+            stop: None,
         }
     }
 }
