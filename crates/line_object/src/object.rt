@@ -1,5 +1,6 @@
 //! A line that is an object.
-ghost use Rattle.std.specs.Prelude.{◌≡◌, IfSome, true};
+ghost use Rattle.std.specs.Prelude.{◌≡◌, OnSome, true};
+ghost use Rattle.serde_json.specs.Data.{object, no_members};
 ghost use Rattle.json.specs.Json.{Json};
 ghost use Rattle.json.specs.Find.{BeginsWith};
 ghost use Rattle.line_object.specs.Inner.Reads.{Reads};
@@ -40,21 +41,31 @@ fn is_free(members: &[Member<'_>], key: Key) -> bool
 impl<'a> LineObject<'a> {
     ghost use Rattle.line_object.specs.Object.{object_data};
 
-    /// The object that begins at an element, where its members are these.
-    pub(crate) fn read(element: &Element<'_, 'a>) -> Option<LineObject<'a>>
-        ensures { (j : Json) → BeginsWith element.now j → IfSome result (λ o. Reads j (object_data o) 2) }
+    /// An object without members.
+    pub fn new() -> LineObject<'a>
+        ensures { object_data result ≡ object no_members }
     {
+        LineObject {
+            members: ArrayVec::new(),
+        }
+    }
+
+    /// Takes the members of the object that begins at an element, in place of those before; None where it isn't one of
+    /// these.
+    pub(crate) fn fill(&mut self, element: &Element<'_, 'a>) -> Option<()>
+        ensures { (j : Json) → BeginsWith element.now j → OnSome result (Reads j (object_data self.new) 2) }
+    {
+        self.members.clear();
         let mut left = element.members()?;
-        let mut members = ArrayVec::new();
         while let Some((text, value)) = left.next() {
             let key = Key::of(text)?;
-            if members.is_full() || !is_free(members.as_slice(), key) {
+            if self.members.is_full() || !is_free(self.members.as_slice(), key) {
                 return None;
             }
             let value = PlainValue::read(&value)?;
-            members.push(Member { key, value });
+            self.members.push(Member { key, value });
         }
-        Some(LineObject { members })
+        Some(())
     }
 }
 

@@ -1,5 +1,5 @@
 //! A line, read.
-ghost use Rattle.std.specs.Prelude.{◌≡◌, IfSome, IfOk, Some};
+ghost use Rattle.std.specs.Prelude.{◌≡◌, IfOk, IsTrue, Some};
 ghost use Rattle.serde_json.specs.Read.{read};
 
 use crate::object::LineObject;
@@ -9,19 +9,20 @@ use std::alloc::{AllocError, Global};
 impl<'a> LineObject<'a> {
     ghost use Rattle.line_object.specs.Object.{object_data};
 
-    /// The object that a line is, where it is read in place; None where its value is to be read, and which lines these
-    /// are no clause says. Memory fails by `AllocError`.
+    /// Reads a line as an object, in place of what it was. Answers whether it did: else the line's value is to be read,
+    /// and which lines these are no clause says. Memory fails by `AllocError`.
     pub fn parse(
+        &mut self,
         alloc: Global,
         scratch: &'a mut Scratch,
         text: &'a str,
-    ) -> Result<Option<LineObject<'a>>, AllocError>
-        ensures { IfOk result (λ found. IfSome found (λ o. read text.now ≡ Some (object_data o))) }
+    ) -> Result<bool, AllocError>
+        ensures { IfOk result (λ is_read. IsTrue is_read → read text.now ≡ Some (object_data self.new)) }
     {
         match Tape::parse(text, scratch, Vec::new(alloc)) {
-            Ok(tape) => Ok(LineObject::read(&tape.root())),
+            Ok(tape) => Ok(self.fill(&tape.root()).is_some()),
             Err(Error::OutOfMemory) => Err(AllocError),
-            Err(_) => Ok(None),
+            Err(_) => Ok(false),
         }
     }
 }

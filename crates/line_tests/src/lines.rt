@@ -41,9 +41,11 @@ pub(crate) fn of_transcript(alloc: Global, line: &[u8]) -> anyhow::Result<String
 /// Whether a line is read where it stands, or has its value read.
 pub(crate) fn way_of_reading(alloc: Global, line: &[u8]) -> anyhow::Result<String> {
     let mut scratch = Scratch::new(alloc);
-    let way = match LineObject::parse(alloc, &mut scratch, str::from_utf8(line)?)? {
-        Some(_) => "in place",
-        None => "by its value",
+    let mut members = LineObject::new();
+    let way = if members.parse(alloc, &mut scratch, str::from_utf8(line)?)? {
+        "in place"
+    } else {
+        "by its value"
     };
     Ok(String::from_str(alloc, way)?)
 }

@@ -1,6 +1,6 @@
 //! Lines, read one by one. Almost all are objects whose values hold no others but a few in an array, which are read where they stand. Of what
 //! is left the value is read.
-ghost use Rattle.std.specs.Prelude.{◌≡◌, ◌⊎◌, MatchResult, IfOk, IfSome, Ok, Some};
+ghost use Rattle.std.specs.Prelude.{◌≡◌, ◌⊎◌, MatchResult, IfOk, IsTrue, Ok, Some};
 ghost use Rattle.line_object.specs.Object.{object_data};
 ghost use Rattle.schedule_lines.specs.Json.{value_in};
 ghost use Rattle.schedule_reading.specs.Entry.{entry_in, recorded_in, IsOwnFault};
@@ -35,14 +35,14 @@ impl LineReader {
             (λ entry. entry_in line.now ≡ Ok entry)
             (λ fault. (fault ≡ TaskFault.Memory) ⊎ IsOwnFault entry_in fault line.now) }
     {
-        let found = match self.members(line)? {
-            Some(members) => Line::of(&members),
-            None => None,
-        };
-        match found {
-            Some(entry) => Ok(entry),
-            None => read_entry(self.alloc, line),
+        let alloc = self.alloc;
+        let mut members = LineObject::new();
+        if self.parse(line, &mut members)? {
+            if let Some(entry) = Line::of(&members) {
+                return Ok(entry);
+            }
         }
+        read_entry(alloc, line)
     }
 
     /// The node, or the event with what was recorded of it, that a line of a transcript is, as [`read_recorded`] says.
@@ -51,23 +51,27 @@ impl LineReader {
             (λ entry. recorded_in line.now ≡ Ok entry)
             (λ fault. (fault ≡ TaskFault.Memory) ⊎ IsOwnFault recorded_in fault line.now) }
     {
-        let found = match self.members(line)? {
-            Some(members) => TranscriptLine::of(&members),
-            None => None,
-        };
-        match found {
-            Some(entry) => Ok(entry),
-            None => read_recorded(self.alloc, line),
+        let alloc = self.alloc;
+        let mut members = LineObject::new();
+        if self.parse(line, &mut members)? {
+            if let Some(entry) = TranscriptLine::of(&members) {
+                return Ok(entry);
+            }
         }
+        read_recorded(alloc, line)
     }
 
-    /// The members of a line, where they can be read where they stand.
-    fn members<'l>(&'l mut self, line: &'l [u8]) -> Result<Option<LineObject<'l>>, AllocError>
-        ensures { IfOk result (λ found. IfSome found (λ members. value_in line.now ≡ Some (object_data members))) }
+    /// Reads the members of a line, and answers whether they can be read where they stand.
+    fn parse<'l>(
+        &'l mut self,
+        line: &'l [u8],
+        members: &mut LineObject<'l>,
+    ) -> Result<bool, AllocError>
+        ensures { IfOk result (λ is_read. IsTrue is_read → value_in line.now ≡ Some (object_data members.new)) }
     {
         match str::from_utf8(line) {
-            Ok(text) => LineObject::parse(self.alloc, &mut self.scratch, text),
-            Err(_) => Ok(None),
+            Ok(text) => members.parse(self.alloc, &mut self.scratch, text),
+            Err(_) => Ok(false),
         }
     }
 }
