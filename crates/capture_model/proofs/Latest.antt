@@ -108,10 +108,6 @@ entry-near kind number time (suc c) other (e ∷ es) (d ∷ ds) are near found =
         subst (λ (t : ℕ). is_apart time t ≡ false) one (near_it (eqb-true e.number number same))
     by false same found rest = rest found
 
-beq-same : (b : Bool) → beq b b ≡ true
-beq-same true = refl
-beq-same false = refl
-
 module _ (w : Watched) where
   -- the lists that a port knows
   pub record AreLatest (ds : List Recorded) (heard : List Told) (responses : List (Entry ℕ)) : Type 0 where

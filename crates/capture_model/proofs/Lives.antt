@@ -25,7 +25,7 @@ use Rattle.capture_model.specs.Recorded.{Recorded}
 use Rattle.capture_model.specs.Listening.{Listening, start, setup_in, table_capacity, is_of, is_stale, ticks_every}
 use Rattle.capture_model.specs.Listening.{with_count, told, answer_in, arrival_of, with_master_anew, ready_refused}
 use Rattle.capture_model.specs.Listening.{ready_newer, ready_judged, ready_sync, ready_followed, ready_follow_up}
-use Rattle.capture_model.specs.Listening.{ready_response, ready, hears_ready, draws, asks, anew, hears_request, hears}
+use Rattle.capture_model.specs.Listening.{ready_response, hears_ready, draws, asks, anew, hears_request, hears}
 use Rattle.capture_model.specs.Listening.{hear, after_all, answered, report_in}
 use Rattle.capture_model.specs.Told.{AreNumbered}
 use Rattle.capture_model.specs.Lives.{lines_of, NoReportMixesLives}
@@ -165,13 +165,6 @@ module _ (w : Watched) (line : ℕ) where
         by false false same =
             let one : record l { responses = entry m.header.sequence.0 time ∷ l.responses } ≡ r = cc in
             subst (IsOfLife w line) one (heard_is l l.heard (entry m.header.sequence.0 time ∷ l.responses) is)
-
-    ready_is : (time : ℕ) (m : Contents) (body : Body) (r : Listening) → ready w line time m body l ≡ Some r
-        → IsOfLife w line r
-    ready_is time m (bodies.Sync origin) r same = sync_is time m r same
-    ready_is time m (bodies.DelayReq origin) r same = cc
-    ready_is time m (bodies.FollowUp precise) r same = follow_up_is time m r same
-    ready_is time m (bodies.DelayResp receive requesting) r same = response_is time m requesting r same
 
   -- a port that heard a message
   heard_event : (counts : Bool) (said : Reading) (t2 : ℕ) (r : Option Listening) (l : Listening) → IsOfLife w line l

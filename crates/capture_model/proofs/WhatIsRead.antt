@@ -26,11 +26,6 @@ use Rattle.slave_port.specs.Answer.{request_reason, ignored, completed, used, un
 use Rattle.capture_model.specs.WhatIsRead.{sync_header_read, event_read, general_read, call_read}
 use Rattle.capture_model.specs.WhatIsRead.{EachAnswerRestsOnWhatIsRead}
 
--- the flag is read
-flag-read : (two_step : Bool) (header : Header) → is_two_step (sync_header_read two_step header) ≡ two_step
-flag-read true header = refl
-flag-read false header = refl
-
 -- so a Sync is used as it was
 picked : {A : Type 0} (b : Bool) (x y : A) → b ≡ true → x ≡ (if b then x else y)
 picked b x y e = sym (ap (λ (c : Bool). if c then x else y) e)

@@ -1,6 +1,6 @@
 -- A worked recording: of the exchange through a clock of a slave that leads by 1,000 ns. It tells a run that meets the
 -- premises, and the port that listens to it reports once.
-use Rattle.std.proofs.Common.{true, false, ◌≡◌, ℕ, zero, suc, ◌+◌, pos, refl, arith, List, [], ◌∷◌, Some, Ok, Err}
+use Rattle.std.proofs.Common.{true, false, ◌≡◌, ℕ, zero, suc, ◌+◌, pos, refl, arith, rules, List, [], ◌∷◌, Some, Ok, Err}
 use Rattle.ptp_units.specs.Interval.{too_big}
 use Rattle.ptp_units.specs.Moment.{stamp}
 use Rattle.event_codec.specs.declared.message.Body.TheVariants.{DelayResp}
@@ -15,16 +15,19 @@ use Rattle.slave_port.specs.Written.{delay_req}
 use Rattle.slave_port.specs.History as calls
 use Rattle.slave_port.specs.History.{requests_drawn}
 use Rattle.sync_watch.specs.Judged.{is_apart}
+use Rattle.network_model.specs.declared.event.Event.{Event}
 use Rattle.network_model.specs.declared.event.Event.TheVariants.{Sync, Follow, Enter, Leave, Arrive, Hear, Request}
 use Rattle.network_model.specs.declared.event.Event.TheVariants.{Stamped, SetMaster, StepClock}
+use Rattle.network_model.specs.Network.{Network, NodeName}
 use Rattle.network_model.specs.Premises.{exact_limits}
+use Rattle.network_model.specs.Run.{Run, place}
 use Rattle.network_model.proofs.Worked.{small_network, m_config, b_config, s_config, m, s, t, at}
 use Rattle.network_model.proofs.WorkedExchange.{after, whole}
 use Rattle.capture_model.specs.declared.watched.Watched.{Watched}
 use Rattle.capture_model.specs.Recorded.{Recorded}
 use Rattle.capture_model.specs.Listening.{after_all, reports}
-use Rattle.capture_model.specs.Agreement.{Moved}
-use Rattle.capture_model.specs.Told.{Tells, Nothing, Untold, Told, Other}
+use Rattle.capture_model.specs.Agreement.{Moved, moved_at, Agrees}
+use Rattle.capture_model.specs.Told.{Tells, Nothing, Untold, Told, Other, IsToldBy, IsTimed, told_at}
 use Rattle.capture_model.specs.Premises.{IsFreshAndTicked, ticks_in}
 use Rattle.capture_model.specs.Exact.{Watches}
 use Rattle.capture_model.specs.Pairs.{heard_between}
@@ -103,21 +106,27 @@ one_report = refl
 abbrev pub unmoved : Moved
 unmoved origin = pos 0
 
+-- a datagram says what an event tells
+abbrev pub it_tells : {network : Network} {slave : NodeName} {moved : Moved} {event : Event} {earlier : Run} {d : Recorded} {m : Contents}
+    (said : Contents) → told_at network slave event earlier ≡ Some m → d.said ≡ Ok said
+    → Agrees (moved_at moved (place event earlier)) m said → IsTimed event earlier d.time → IsToldBy network slave moved event earlier d
+it_tells said made says agrees timed = record { m = _; made = made; said = said; says = says; agrees = agrees; timed = timed }
+
 -- event by event
 abbrev tells : Tells small_network s watched unmoved whole recording
 tells =
-    Told (Hear s 11) (after 13) _ _ (record { m = response_said; made = refl; said = response_said; says = refl; agrees = record { domain = refl; source = refl; number = refl; body = (refl, refl, refl) }; timed = tt })
+    Told (Hear s 11) (after 13) _ _ (it_tells response_said refl refl (record { domain = refl; source = refl; number = refl; body = (refl, refl, refl) }) tt)
     (Other (after 13) _ _ refl
     (Untold (Stamped s) (after 12) _
     (Untold (Arrive m 10 (at 2 4500 16384)) (after 11) _
     (Untold (Leave t 9 (at 2 4000 16384)) (after 10) _
     (Untold (Enter t 8 (at 2 500 0)) (after 9) _
     (Other (after 9) _ _ refl
-    (Told (Request s (at 2 0 0)) (after 8) _ _ (record { m = request_said; made = refl; said = request_said; says = refl; agrees = record { domain = refl; source = refl; number = refl; body = tt }; timed = refl })
-    (Told (Hear s 6) (after 7) _ _ (record { m = follow_said; made = refl; said = follow_said; says = refl; agrees = record { domain = refl; source = refl; number = refl; body = (refl, refl) }; timed = tt })
+    (Told (Request s (at 2 0 0)) (after 8) _ _ (it_tells request_said refl refl (record { domain = refl; source = refl; number = refl; body = tt }) refl)
+    (Told (Hear s 6) (after 7) _ _ (it_tells follow_said refl refl (record { domain = refl; source = refl; number = refl; body = (refl, refl) }) tt)
     (Untold (Follow m) (after 6) _
     (Other (after 6) _ _ refl
-    (Told (Arrive s 4 (at 1 3000 0)) (after 5) _ _ (record { m = sync_said; made = refl; said = sync_said; says = refl; agrees = record { domain = refl; source = refl; number = refl; body = (refl, (refl, λ big. big)) }; timed = refl })
+    (Told (Arrive s 4 (at 1 3000 0)) (after 5) _ _ (it_tells sync_said refl refl (record { domain = refl; source = refl; number = refl; body = (refl, (refl, λ big. big)) }) refl)
     (Untold (Leave t 3 (at 1 2500 0)) (after 4) _
     (Untold (Enter t 2 (at 1 500 0)) (after 3) _
     (Untold (Sync m (at 1 0 0)) (after 2) _
@@ -127,7 +136,7 @@ tells =
 -- it meets the premises
 fresh_and_ticked : IsFreshAndTicked exact_limits m tells
 fresh_and_ticked = record {
-  numbered = (omega arith, (omega arith, (omega arith, (omega arith, (omega arith, (omega arith, tt))))));
+  numbered = search rules;
   fresh = IsFresh-short small_network s m watched 32768 tells (omega arith);
   missing = MissesFew-short small_network s m watched 32768 tells (omega arith);
   ticked = IsTicked-short small_network s m watched 16384 tells (omega arith);
@@ -155,46 +164,18 @@ recording_behind =
 
 tells_behind : Tells small_network s watched all_moved whole recording_behind
 tells_behind =
-    Told (Hear s 11) (after 13) _ _ (record {
-      m = response_said;
-      made = refl;
-      said = response_said;
-      says = refl;
-      agrees = record { domain = refl; source = refl; number = refl; body = (refl, refl, refl) };
-      timed = tt;
-    })
+    Told (Hear s 11) (after 13) _ _ (it_tells response_said refl refl (record { domain = refl; source = refl; number = refl; body = (refl, refl, refl) }) tt)
     (Other (after 13) _ _ refl
     (Untold (Stamped s) (after 12) _
     (Untold (Arrive m 10 (at 2 4500 16384)) (after 11) _
     (Untold (Leave t 9 (at 2 4000 16384)) (after 10) _
     (Untold (Enter t 8 (at 2 500 0)) (after 9) _
-    (Told (Request s (at 2 0 0)) (after 8) _ _ (record {
-      m = request_said;
-      made = refl;
-      said = request_said;
-      says = refl;
-      agrees = record { domain = refl; source = refl; number = refl; body = tt };
-      timed = refl;
-    })
+    (Told (Request s (at 2 0 0)) (after 8) _ _ (it_tells request_said refl refl (record { domain = refl; source = refl; number = refl; body = tt }) refl)
     (Other (after 8) _ _ refl
-    (Told (Hear s 6) (after 7) _ _ (record {
-      m = follow_said;
-      made = refl;
-      said = late_sync_follow;
-      says = refl;
-      agrees = record { domain = refl; source = refl; number = refl; body = (refl, refl) };
-      timed = tt;
-    })
+    (Told (Hear s 6) (after 7) _ _ (it_tells late_sync_follow refl refl (record { domain = refl; source = refl; number = refl; body = (refl, refl) }) tt)
     (Untold (Follow m) (after 6) _
     (Other (after 6) _ _ refl
-    (Told (Arrive s 4 (at 1 3000 0)) (after 5) _ _ (record {
-      m = sync_said;
-      made = refl;
-      said = bare_sync;
-      says = refl;
-      agrees = record { domain = refl; source = refl; number = refl; body = (refl, (refl, λ big. big)) };
-      timed = refl;
-    })
+    (Told (Arrive s 4 (at 1 3000 0)) (after 5) _ _ (it_tells bare_sync refl refl (record { domain = refl; source = refl; number = refl; body = (refl, (refl, λ big. big)) }) refl)
     (Untold (Leave t 3 (at 1 2500 0)) (after 4) _
     (Untold (Enter t 2 (at 1 500 0)) (after 3) _
     (Untold (Sync m (at 1 0 0)) (after 2) _

@@ -1,7 +1,7 @@
 -- An exchange of real equipment behind a two-step transparent clock: the residence of the Sync, 45,301 ns, stands in its
 -- Follow_Up, and that of the Delay_Req, 30,017 ns, in the Delay_Resp. The recording tells a run of a network with a clock, in
 -- which the residences stand in the Sync and in the Delay_Req, so its report is exact by the law.
-use Rattle.std.proofs.Common.{◌≡◌, ℕ, ◌*◌, pos, negsuc, refl, arith, List, [], ◌∷◌, reverse, take, Some, Ok}
+use Rattle.std.proofs.Common.{◌≡◌, ℕ, ◌*◌, pos, negsuc, refl, arith, rules, List, [], ◌∷◌, reverse, take, Some, Ok}
 use Rattle.std.specs.List.{All}
 use Rattle.ptp_units.specs.Moment.{stamp}
 use Rattle.event_codec.specs.declared.message.Body.TheVariants as bodies
@@ -24,6 +24,7 @@ use Rattle.capture_model.specs.Premises.{IsFreshAndTicked}
 use Rattle.capture_model.specs.Exact.{Watches, IsExact}
 use Rattle.capture_model.proofs.Listened.{each_report}
 use Rattle.capture_model.proofs.Short.{IsFresh-short, IsTicked-short, MissesFew-short}
+use Rattle.capture_model.proofs.Worked.{it_tells}
 use Rattle.capture_model.proofs.WorkedSlave.{m_config, s_config, watched, message, line, announce}
 
 -- what was recorded; logMessageInterval is -3 there, which isn't read
@@ -90,44 +91,16 @@ moved origin = pos (45301 * 65536)
 
 abbrev tells : Tells network s watched moved run recording
 tells =
-    Told (Hear s 10) (after 12) _ _ (record {
-      m = _;
-      made = refl;
-      said = response;
-      says = refl;
-      agrees = record { domain = refl; source = refl; number = refl; body = (refl, refl, refl) };
-      timed = tt;
-    })
+    Told (Hear s 10) (after 12) _ _ (it_tells response refl refl (record { domain = refl; source = refl; number = refl; body = (refl, refl, refl) }) tt)
     (Untold (Stamped s) (after 11) _
     (Untold (Arrive m 9 (at 1795329064 967377251 0)) (after 10) _
     (Untold (Leave t 8 (at 1795329064 967375932 0)) (after 9) _
     (Untold (Enter t 7 (at 1795329064 967345915 0)) (after 8) _
-    (Told (Request s (at 1795329064 967344615 0)) (after 7) _ _ (record {
-      m = _;
-      made = refl;
-      said = request;
-      says = refl;
-      agrees = record { domain = refl; source = refl; number = refl; body = tt };
-      timed = refl;
-    })
+    (Told (Request s (at 1795329064 967344615 0)) (after 7) _ _ (it_tells request refl refl (record { domain = refl; source = refl; number = refl; body = tt }) refl)
     (Other (after 7) _ _ refl
-    (Told (Hear s 5) (after 6) _ _ (record {
-      m = _;
-      made = refl;
-      said = follow_up;
-      says = refl;
-      agrees = record { domain = refl; source = refl; number = refl; body = (refl, refl) };
-      timed = tt;
-    })
+    (Told (Hear s 5) (after 6) _ _ (it_tells follow_up refl refl (record { domain = refl; source = refl; number = refl; body = (refl, refl) }) tt)
     (Untold (Follow m) (after 5) _
-    (Told (Arrive s 3 (at 1795329064 941800593 0)) (after 4) _ _ (record {
-      m = _;
-      made = refl;
-      said = sync;
-      says = refl;
-      agrees = record { domain = refl; source = refl; number = refl; body = (refl, (refl, λ big. big)) };
-      timed = refl;
-    })
+    (Told (Arrive s 3 (at 1795329064 941800593 0)) (after 4) _ _ (it_tells sync refl refl (record { domain = refl; source = refl; number = refl; body = (refl, (refl, λ big. big)) }) refl)
     (Untold (Leave t 2 (at 1795329064 941799893 0)) (after 3) _
     (Untold (Enter t 1 (at 1795329064 941754592 0)) (after 2) _
     (Untold (Sync m (at 1795329064 941753892 0)) (after 1) _
@@ -135,7 +108,7 @@ tells =
 
 fresh_and_ticked : IsFreshAndTicked exact_limits m tells
 fresh_and_ticked = record {
-  numbered = (omega arith, (omega arith, (omega arith, (omega arith, tt))));
+  numbered = search rules;
   fresh = IsFresh-short network s m watched 32768 tells (omega arith);
   missing = MissesFew-short network s m watched 32768 tells (omega arith);
   ticked = IsTicked-short network s m watched 16384 tells (omega arith);

@@ -1,29 +1,28 @@
 -- Worked recordings that meet the premises of the law on exchanges, and what comes of one that doesn't.
-use Rattle.std.proofs.Common.{◌≡◌, ℕ, pos, Bool, false, List, [], ◌∷◌, Some, Ok, refl}
-use Rattle.std.proofs.Common.{arith, inl, inr}
-use Rattle.std.specs.Prelude.{◌&&◌, ◌||◌, not, nat_lt, count_by}
+use Rattle.std.proofs.Common.{◌≡◌, ℕ, pos, Bool, false, List, [], ◌∷◌, ◌++◌, ◌<◌, ◌≤◌, Some, Ok, refl}
+use Rattle.std.proofs.Common.{arith, rules, inl, inr}
+use Rattle.std.specs.Prelude.{◌&&◌, ◌||◌, ◌==◌, ◌⊎◌, not, nat_lt, count_by, IfSome, IsTrue}
 use Rattle.std.proofs.lemmas.Bool.{or_parts}
 use Rattle.std.proofs.lemmas.List.Elements.{All-nil, All-cons}
-use Rattle.ptp_units.specs.Moment.{stamp}
-use Rattle.ptp_units.specs.Sequence.{ahead}
+use Rattle.ptp_units.specs.Moment.{Stamp, stamp}
+use Rattle.ptp_units.specs.Sequence.{ahead, of_count}
 use Rattle.event_codec.specs.declared.message.Body.TheVariants.{DelayResp}
 use Rattle.event_codec.specs.Packet.{Contents}
 use Rattle.event_codec.specs.Profile.{header_of}
 use Rattle.master_port.specs.Written.{sync, follow_up}
 use Rattle.slave_port.specs.declared.heard.Report.{Report}
 use Rattle.slave_port.specs.Written.{delay_req}
-use Rattle.slave_port.specs.Usable.{is_not_newer}
 use Rattle.slave_port.specs.Completion.{SyncCompletion, DelayCompletion}
 use Rattle.network_model.proofs.Worked.{m_config, s_config, at}
 use Rattle.capture_model.specs.declared.watched.Watched.{Watched}
 use Rattle.capture_model.specs.Recorded.{Recorded}
-use Rattle.capture_model.specs.Listening.{table_capacity, reports, report_at}
-use Rattle.capture_model.specs.Told.{AreNumbered}
-use Rattle.capture_model.specs.Finds.{is_master_sync, is_master_follow_up, tells_departure, is_own_response}
-use Rattle.capture_model.specs.Finds.{is_own_request, with_number, with_flag, last_heard, within_syncs, recent_syncs}
+use Rattle.capture_model.specs.Listening.{table_capacity, ticks_every, reports, report_at, is_used}
+use Rattle.capture_model.specs.Told.{AreNumbered, last_request}
+use Rattle.capture_model.specs.Finds.{is_master_sync, is_own_response}
+use Rattle.capture_model.specs.Finds.{is_own_request, with_number, last_heard}
 use Rattle.capture_model.specs.Finds.{says, NoneSays, AreOfOneSync, completion_of, ComesTwoStep, AreOfOneRequest}
-use Rattle.capture_model.specs.Finds.{answer_of, SyncFirst, FollowUpFirst}
-use Rattle.capture_model.specs.Finds.{ComesDelay, StandsSync, StandsDelay}
+use Rattle.capture_model.specs.Finds.{answer_of, AreInOrder, SyncFirst, FollowUpFirst, AreTaken, NoOtherIsHeard, EachAfter}
+use Rattle.capture_model.specs.Finds.{ComesDelay, Stands, StandsSync, StandsDelay}
 use Rattle.capture_model.proofs.Finds.{each_exchange}
 
 abbrev pub watched : Watched
@@ -42,6 +41,61 @@ none_says test [] none = All-nil (λ (d : Recorded). says test d ≡ false)
 none_says test (d ∷ ds) none =
     let parts = or_parts (says test d) (some_says test ds) none in
     All-cons (λ (d : Recorded). says test d ≡ false) d ds parts.0 (none_says test ds parts.1)
+
+-- the three that come, and what stands, from what their definitions ask
+pub two_step_comes : (w : Watched) (begun : ℕ) (sync follow : Recorded) (s f : Contents) (precise : Stamp) (first d : Recorded)
+    (between before : List Recorded) → AreOfOneSync w sync follow s f precise → AreInOrder w sync follow first d between
+    → AreTaken w s.header.sequence.0 between before first d → NoOtherIsHeard w s.header.sequence.0 between (first ∷ before)
+    → begun ≤ first.line
+    → ComesTwoStep w begun (between ++ first ∷ before) d (completion_of sync follow s f precise)
+two_step_comes w begun sync follow s f precise first d between before of_one order taken alone one_life = record {
+  sync = sync;
+  follow = follow;
+  s = s;
+  f = f;
+  precise = precise;
+  between = between;
+  first = first;
+  before = before;
+  of_one = of_one;
+  is = refl;
+  order = order;
+  there = refl;
+  taken = taken;
+  alone = alone;
+  one_life = one_life;
+}
+
+pub answer_comes : (w : Watched) (begun : ℕ) (request d : Recorded) (q r : Contents) (receive : Stamp) (between before : List Recorded)
+    → AreOfOneRequest w request d q r receive
+    → IfSome (last_request w before) (λ last. (of_count last == q.header.sequence.0) ≡ false)
+    → NoneSays (with_number (is_own_response w) q.header.sequence.0) (last_heard w (is_own_response w) (between ++ request ∷ before))
+    ⊎ IsTrue (is_used w (between ++ request ∷ before) d)
+    → NoneSays (λ m. is_own_request w m && not (nat_lt (ahead m.header.sequence.0 q.header.sequence.0) table_capacity)) between
+    → begun ≤ request.line
+    → ComesDelay w begun (between ++ request ∷ before) d (answer_of request d q r receive)
+answer_comes w begun request d q r receive between before of_one another taken few one_life = record {
+  request = request;
+  q = q;
+  r = r;
+  receive = receive;
+  between = between;
+  before = before;
+  of_one = of_one;
+  is = refl;
+  there = refl;
+  another = another;
+  taken = taken;
+  few = few;
+  one_life = one_life;
+}
+
+pub stands : {w : Watched} {Half : Type 0} {Comes : List Recorded → Recorded → Half → Type 0} {Other : List Recorded → Recorded → Type 0}
+    {c : Half} (later : List Recorded) (last : Recorded) (before : List Recorded) → Comes before last c → EachAfter Other later (last ∷ before)
+    → count_by (says (is_master_sync w)) later < ticks_every
+    → Stands w Half Comes Other (later ++ last ∷ before) c
+stands later last before comes quiet few =
+    record { later = later; last = last; before = before; there = refl; comes = comes; quiet = quiet; few = few }
 
 -- Sync 5, a Delay_Req, Sync 6, the Follow_Up of Sync 5, and the Delay_Resp
 abbrev pub response : (number : ℕ) → Contents
@@ -75,96 +129,32 @@ three_lines = later_line ∷ two_lines
 abbrev four_lines : List Recorded
 four_lines = follow_line ∷ three_lines
 
-of_one_sync : AreOfOneSync watched sync_line follow_line (sync m_config 5) (follow_up m_config 5 (at 1 0 0)) (stamp 1 0)
-of_one_sync = record {
-  sync_said = refl;
-  follow_said = refl;
-  sync_is = refl;
-  two_step = refl;
-  of_master = refl;
-  follow_is = refl;
-  number = refl;
-  near = refl;
-  small_sync = refl;
-  small_follow = refl;
-}
-
 abbrev pair : SyncCompletion
 pair = completion_of sync_line follow_line (sync m_config 5) (follow_up m_config 5 (at 1 0 0)) (stamp 1 0)
 
 abbrev until : List Recorded
 until = later_line ∷ request_line ∷ []
 
-abbrev not_newer : Contents → Bool
-not_newer m = tells_departure watched m && is_not_newer (Some m.header.sequence.0) 5
-
-abbrev far : Contents → Bool
-far m = is_own_request watched m && not (nat_lt (ahead m.header.sequence.0 9) table_capacity)
-
 comes_sync : ComesTwoStep watched 0 three_lines follow_line pair
-comes_sync = record {
-  sync = sync_line;
-  follow = follow_line;
-  s = sync m_config 5;
-  f = follow_up m_config 5 (at 1 0 0);
-  precise = stamp 1 0;
-  between = later_line ∷ request_line ∷ [];
-  first = sync_line;
-  before = [];
-  of_one = of_one_sync;
-  is = refl;
-  order =
-      let one : count_by (says (is_master_sync watched)) until ≡ 1 = refl in
-      SyncFirst refl refl (omega (arith, one));
-  there = refl;
-  taken = inl (
-    λ flag. (
-      All-nil (λ (d : Recorded). says (with_number (is_master_sync watched) 5) d ≡ false),
-      All-nil (λ (d : Recorded). says (with_number (is_master_follow_up watched) 5) d ≡ false),
-    ),
-    none_says not_newer (within_syncs watched three_lines recent_syncs) refl,
-  );
-  alone = (inl refl, (inl refl, tt));
-  one_life = omega arith;
-}
-
-of_one_request : AreOfOneRequest watched request_line response_line (delay_req s_config 9) (response 9) (stamp 2 4500)
-of_one_request = record {
-  request_said = refl;
-  response_said = refl;
-  request_is = refl;
-  of_master = refl;
-  requesting = s_config.identity;
-  response_is = refl;
-  to_slave = refl;
-  number = refl;
-  in_range = omega arith;
-  small = refl;
-}
+comes_sync =
+    two_step_comes watched 0 sync_line follow_line (sync m_config 5) (follow_up m_config 5 (at 1 0 0)) (stamp 1 0)
+    sync_line follow_line until [] (search rules) (search (rules, SyncFirst))
+    (inl (λ flag. search (rules, none_says), search (rules, none_says))) (search rules) (omega arith)
 
 abbrev answered : DelayCompletion
 answered = answer_of request_line response_line (delay_req s_config 9) (response 9) (stamp 2 4500)
 
 comes_delay : ComesDelay watched 0 four_lines response_line answered
-comes_delay = record {
-  request = request_line;
-  q = delay_req s_config 9;
-  r = response 9;
-  receive = stamp 2 4500;
-  between = follow_line ∷ later_line ∷ [];
-  before = sync_line ∷ [];
-  of_one = of_one_request;
-  is = refl;
-  there = refl;
-  another = tt;
-  taken = inl (none_says (with_number (is_own_response watched) 9)
-      (last_heard watched (is_own_response watched) four_lines) refl);
-  few = none_says far (follow_line ∷ later_line ∷ []) refl;
-  one_life = omega arith;
-}
+comes_delay =
+    search (
+      rules,
+      none_says,
+      answer_comes watched 0 request_line response_line (delay_req s_config 9) (response 9) (stamp 2 4500)
+          (follow_line ∷ later_line ∷ []) (sync_line ∷ []),
+    )
 
 numbered : AreNumbered (response_line ∷ four_lines)
-numbered = (omega arith, (omega arith, (omega arith, (omega arith, tt))))
+numbered = search rules
 
 -- so its report is that of these four
 abbrev report : Report
@@ -180,20 +170,7 @@ report = record {
 it_is_found : report_at watched four_lines response_line ≡ Some report
 it_is_found =
     each_exchange watched four_lines response_line pair answered numbered
-    (inr (
-      record {
-        later = [];
-        last = follow_line;
-        before = three_lines;
-        there = refl;
-        comes = inl comes_sync;
-        quiet = tt;
-        few =
-            let none : count_by (says (is_master_sync watched)) [] ≡ 0 = refl in
-            omega (arith, none);
-      },
-      comes_delay,
-    ))
+    (inr (stands [] follow_line three_lines (inl comes_sync) tt (search rules), comes_delay))
 
 -- the Delay_Resp first, and a Follow_Up before its Sync: then the Sync brings the report
 abbrev request_before : Recorded
@@ -221,90 +198,22 @@ abbrev other_answered : DelayCompletion
 other_answered = answer_of request_before response_before (delay_req s_config 9) (response 9) (stamp 2 4500)
 
 sync_comes_last : ComesTwoStep watched 0 three_before sync_behind other_pair
-sync_comes_last = record {
-  sync = sync_behind;
-  follow = follow_before;
-  s = sync m_config 5;
-  f = follow_up m_config 5 (at 1 0 0);
-  precise = stamp 1 0;
-  between = [];
-  first = follow_before;
-  before = two_before;
-  of_one = record {
-    sync_said = refl;
-    follow_said = refl;
-    sync_is = refl;
-    two_step = refl;
-    of_master = refl;
-    follow_is = refl;
-    number = refl;
-    near = refl;
-    small_sync = refl;
-    small_follow = refl;
-  };
-  is = refl;
-  order =
-      let none : count_by (says (is_master_follow_up watched)) [] ≡ 0 = refl in
-      let no_sync : count_by (says (is_master_sync watched)) [] ≡ 0 = refl in
-      FollowUpFirst refl refl (omega (arith, none)) (omega (arith, no_sync));
-  there = refl;
-  taken = inl (
-    λ flag. (
-      none_says (with_number (is_master_sync watched) 5)
-          (last_heard watched (with_flag (is_master_sync watched) flag) two_before) refl,
-      none_says (with_number (is_master_follow_up watched) 5)
-          (last_heard watched (with_flag (is_master_follow_up watched) flag) two_before) refl,
-    ),
-    none_says not_newer (within_syncs watched three_before recent_syncs) refl,
-  );
-  alone = tt;
-  one_life = omega arith;
-}
+sync_comes_last =
+    two_step_comes watched 0 sync_behind follow_before (sync m_config 5) (follow_up m_config 5 (at 1 0 0)) (stamp 1 0)
+    follow_before sync_behind [] two_before (search rules) (search (rules, FollowUpFirst))
+    (inl (λ flag. search (rules, none_says), search (rules, none_says))) (search rules) (omega arith)
 
 delay_stands : StandsDelay watched 0 three_before other_answered
-delay_stands = record {
-  later = follow_before ∷ [];
-  last = response_before;
-  before = request_before ∷ [];
-  there = refl;
-  comes = record {
-    request = request_before;
-    q = delay_req s_config 9;
-    r = response 9;
-    receive = stamp 2 4500;
-    between = [];
-    before = [];
-    of_one = record {
-      request_said = refl;
-      response_said = refl;
-      request_is = refl;
-      of_master = refl;
-      requesting = s_config.identity;
-      response_is = refl;
-      to_slave = refl;
-      number = refl;
-      in_range = omega arith;
-      small = refl;
-    };
-    is = refl;
-    there = refl;
-    another = tt;
-    taken = inl (none_says (with_number (is_own_response watched) 9)
-        (last_heard watched (is_own_response watched) (request_before ∷ [])) refl);
-    few = All-nil (λ (d : Recorded). says far d ≡ false);
-    one_life = omega arith;
-  };
-  quiet = (inl refl, tt);
-  few =
-      let none : count_by (says (is_master_sync watched)) (follow_before ∷ []) ≡ 0 = refl in
-      omega (arith, none);
-}
+delay_stands =
+    stands (follow_before ∷ []) response_before (request_before ∷ [])
+    (search (rules, none_says, answer_comes watched 0 request_before response_before (delay_req s_config 9) (response 9) (stamp 2 4500) [] []))
+    (inl refl, tt) (search rules)
 
 it_is_found_by_the_sync : report_at watched three_before sync_behind
     ≡ Some (record report { sync_tag = 4; follow_tag = Some 3; request_tag = 1; response_tag = 2 })
 it_is_found_by_the_sync =
     each_exchange watched three_before sync_behind other_pair other_answered
-    (omega arith, (omega arith, (omega arith, tt))) (inl (inl sync_comes_last, delay_stands))
+    (search rules) (inl (inl sync_comes_last, delay_stands))
 
 -- each twice, as where packets are captured twice: the copies aren't heard, and the report is of the first ones
 abbrev sync_first : Recorded
@@ -330,78 +239,26 @@ response_first = line 7 0 (response 9)
 
 copied_sync : StandsSync watched 0 request_twice
     (completion_of sync_first follow_first (sync m_config 5) (follow_up m_config 5 (at 1 0 0)) (stamp 1 0))
-copied_sync = record {
-  later = line 6 (at 2 1001 0) (delay_req s_config 9) ∷ request_first
-      ∷ line 4 (at 1 5001 0) (follow_up m_config 5 (at 1 0 0)) ∷ [];
-  last = follow_first;
-  before = copied_two;
-  there = refl;
-  comes = inl (record {
-    sync = sync_first;
-    follow = follow_first;
-    s = sync m_config 5;
-    f = follow_up m_config 5 (at 1 0 0);
-    precise = stamp 1 0;
-    between = line 2 (at 1 4001 0) (sync m_config 5) ∷ [];
-    first = sync_first;
-    before = [];
-    of_one = record {
-      sync_said = refl;
-      follow_said = refl;
-      sync_is = refl;
-      two_step = refl;
-      of_master = refl;
-      follow_is = refl;
-      number = refl;
-      near = refl;
-      small_sync = refl;
-      small_follow = refl;
-    };
-    is = refl;
-    order =
-        let one : count_by (says (is_master_sync watched)) (line 2 (at 1 4001 0) (sync m_config 5) ∷ []) ≡ 1 = refl in
-        SyncFirst refl refl (omega (arith, one));
-    there = refl;
-    taken = inr (refl, refl);
-    alone = (inr refl, tt);
-    one_life = omega arith;
-  });
-  quiet = (inr refl, (inr refl, (inr refl, tt)));
-  few =
-      let none : count_by (says (is_master_sync watched))
-      (line 6 (at 2 1001 0) (delay_req s_config 9) ∷ request_first
-      ∷ line 4 (at 1 5001 0) (follow_up m_config 5 (at 1 0 0)) ∷ []) ≡ 0 = refl in
-      omega (arith, none);
-}
+copied_sync =
+    stands (line 6 (at 2 1001 0) (delay_req s_config 9) ∷ request_first ∷ line 4 (at 1 5001 0) (follow_up m_config 5 (at 1 0 0)) ∷ [])
+    follow_first copied_two
+    (inl (search (
+      rules,
+      SyncFirst,
+      two_step_comes watched 0 sync_first follow_first (sync m_config 5) (follow_up m_config 5 (at 1 0 0)) (stamp 1 0)
+          sync_first follow_first (line 2 (at 1 4001 0) (sync m_config 5) ∷ []) [],
+    )))
+    (inr refl, (inr refl, (inr refl, tt))) (search rules)
 
 copied_delay : ComesDelay watched 0 request_twice response_first
     (answer_of request_first response_first (delay_req s_config 9) (response 9) (stamp 2 4500))
-copied_delay = record {
-  request = request_first;
-  q = delay_req s_config 9;
-  r = response 9;
-  receive = stamp 2 4500;
-  between = line 6 (at 2 1001 0) (delay_req s_config 9) ∷ [];
-  before = follow_twice;
-  of_one = record {
-    request_said = refl;
-    response_said = refl;
-    request_is = refl;
-    of_master = refl;
-    requesting = s_config.identity;
-    response_is = refl;
-    to_slave = refl;
-    number = refl;
-    in_range = omega arith;
-    small = refl;
-  };
-  is = refl;
-  there = refl;
-  another = tt;
-  taken = inr refl;
-  few = none_says far (line 6 (at 2 1001 0) (delay_req s_config 9) ∷ []) refl;
-  one_life = omega arith;
-}
+copied_delay =
+    search (
+      rules,
+      none_says,
+      answer_comes watched 0 request_first response_first (delay_req s_config 9) (response 9) (stamp 2 4500)
+          (line 6 (at 2 1001 0) (delay_req s_config 9) ∷ []) follow_twice,
+    )
 
 copies_are_passed_over : report_at watched request_twice response_first
     ≡ Some (record report { sync_tag = 1; follow_tag = Some 3; request_tag = 5; response_tag = 7 })
@@ -409,7 +266,7 @@ copies_are_passed_over =
     each_exchange watched request_twice response_first
     (completion_of sync_first follow_first (sync m_config 5) (follow_up m_config 5 (at 1 0 0)) (stamp 1 0))
     (answer_of request_first response_first (delay_req s_config 9) (response 9) (stamp 2 4500))
-    (omega arith, (omega arith, (omega arith, (omega arith, (omega arith, (omega arith, tt))))))
+    (search rules)
     (inr (copied_sync, copied_delay))
 
 -- a pair whose number is behind one that completed isn't found, though nothing else of it was recorded

@@ -1,32 +1,27 @@
 -- The first two exchanges of `tests/recorded_measurement/one-step.lines`, octet for octet: the datagrams at a slave of
 -- `ptp4l`, each Sync and its Follow_Up made one one-step Sync. They meet the premises of the law on exchanges, once with
 -- the Sync first and once with it last.
-use Rattle.std.proofs.Common.{◌≡◌, ◌∙◌, ℕ, sym, pos, negsuc, refl, arith, inl, inr, List, [], ◌∷◌, Bool, false, Some}
-use Rattle.std.proofs.Common.{None, Ok}
-use Rattle.std.specs.Prelude.{◌&&◌, not, nat_lt, count_by}
+use Rattle.std.proofs.Common.{◌≡◌, ◌∙◌, ℕ, sym, pos, negsuc, refl, arith, inl, inr, List, [], ◌∷◌, false, Some}
+use Rattle.std.proofs.Common.{None, Ok, rules}
 use Rattle.std.proofs.lemmas.Bool.{both_ways}
-use Rattle.std.proofs.lemmas.List.Elements.{All-nil}
 use Rattle.ptp_units.specs.Interval.{too_big}
-use Rattle.ptp_units.specs.Moment.{stamp}
-use Rattle.ptp_units.specs.Sequence.{ahead}
+use Rattle.ptp_units.specs.Moment.{Stamp, stamp}
 use Rattle.event_codec.specs.declared.message.Body.TheVariants as bodies
 use Rattle.event_codec.specs.Packet.{Contents}
 use Rattle.event_codec.specs.Reading.{IsReading}
 use Rattle.event_codec.proofs.Lengths.{all_octets}
 use Rattle.slave_port.specs.declared.heard.Report.{Report}
-use Rattle.slave_port.specs.Usable.{is_not_newer}
 use Rattle.slave_port.specs.Completion.{SyncCompletion, DelayCompletion}
 use Rattle.network_model.proofs.Worked.{at}
 use Rattle.capture_model.specs.Recorded.{Recorded}
-use Rattle.capture_model.specs.Listening.{table_capacity, reports, report_at}
+use Rattle.capture_model.specs.Listening.{reports, report_at}
 use Rattle.capture_model.specs.Told.{AreNumbered}
-use Rattle.capture_model.specs.Finds.{is_master_sync, is_master_follow_up, tells_departure, is_own_response}
-use Rattle.capture_model.specs.Finds.{is_own_request, with_number, with_flag, last_heard, within_syncs, recent_syncs}
-use Rattle.capture_model.specs.Finds.{says, completion_of_one_step, ComesOneStep, answer_of}
+use Rattle.capture_model.specs.Finds.{is_master_sync, tells_departure}
+use Rattle.capture_model.specs.Finds.{says, completion_of_one_step, IsOneStep, IsTaken, ComesOneStep, answer_of}
 use Rattle.capture_model.specs.Finds.{ComesDelay, CompletesNoSync, StandsSync, StandsDelay}
 use Rattle.capture_model.proofs.Said.{says-of}
 use Rattle.capture_model.proofs.Finds.{each_exchange}
-use Rattle.capture_model.proofs.WorkedFinds.{none_says}
+use Rattle.capture_model.proofs.WorkedFinds.{none_says, answer_comes, stands}
 use Rattle.capture_model.proofs.WorkedSlave.{m_config, s_config, message, line, announce, watched}
 
 -- what its datagrams say
@@ -39,30 +34,7 @@ sync_0_octets =
     34 ∷ 51 ∷ 0 ∷ 1 ∷ 0 ∷ 0 ∷ 0 ∷ 0 ∷ 0 ∷ 0 ∷ 107 ∷ 2 ∷ 139 ∷ 166 ∷ 54 ∷ 239 ∷ 21 ∷ 34 ∷ []
 
 sync_0-octets : IsReading sync_0_octets (Ok sync_0)
-sync_0-octets = (
-  omega arith,
-  record {
-    octets = all_octets sync_0_octets refl;
-    least = omega arith;
-    header = record {
-      major_sdo_and_type = refl;
-      minor_version_and_version = refl;
-      message_length = refl;
-      domain = refl;
-      minor_sdo = refl;
-      flags = refl;
-      correction = refl;
-      specific = refl;
-      source = record { clock = refl; port = refl };
-      sequence = refl;
-      control = refl;
-      log = refl;
-    };
-    timestamp = record { seconds = refl; nanoseconds = refl; within_second = omega arith };
-    requesting = tt;
-    suffix = refl;
-  },
-)
+sync_0-octets = search (rules, all_octets)
 
 abbrev sync_1 : Contents
 sync_1 = message m_config.identity 0 1 0 0 (bodies.Sync (stamp 1795328935 921718120))
@@ -73,30 +45,7 @@ sync_1_octets =
     34 ∷ 51 ∷ 0 ∷ 1 ∷ 0 ∷ 1 ∷ 0 ∷ 0 ∷ 0 ∷ 0 ∷ 107 ∷ 2 ∷ 139 ∷ 167 ∷ 54 ∷ 240 ∷ 77 ∷ 104 ∷ []
 
 sync_1-octets : IsReading sync_1_octets (Ok sync_1)
-sync_1-octets = (
-  omega arith,
-  record {
-    octets = all_octets sync_1_octets refl;
-    least = omega arith;
-    header = record {
-      major_sdo_and_type = refl;
-      minor_version_and_version = refl;
-      message_length = refl;
-      domain = refl;
-      minor_sdo = refl;
-      flags = refl;
-      correction = refl;
-      specific = refl;
-      source = record { clock = refl; port = refl };
-      sequence = refl;
-      control = refl;
-      log = refl;
-    };
-    timestamp = record { seconds = refl; nanoseconds = refl; within_second = omega arith };
-    requesting = tt;
-    suffix = refl;
-  },
-)
+sync_1-octets = search (rules, all_octets)
 
 abbrev request_0 : Contents
 request_0 = message s_config.identity 0 0 1 127 (bodies.DelayReq (stamp 0 0))
@@ -107,30 +56,7 @@ request_0_octets =
     170 ∷ 187 ∷ 204 ∷ 0 ∷ 1 ∷ 0 ∷ 0 ∷ 1 ∷ 127 ∷ 0 ∷ 0 ∷ 0 ∷ 0 ∷ 0 ∷ 0 ∷ 0 ∷ 0 ∷ 0 ∷ 0 ∷ []
 
 request_0-octets : IsReading request_0_octets (Ok request_0)
-request_0-octets = (
-  omega arith,
-  record {
-    octets = all_octets request_0_octets refl;
-    least = omega arith;
-    header = record {
-      major_sdo_and_type = refl;
-      minor_version_and_version = refl;
-      message_length = refl;
-      domain = refl;
-      minor_sdo = refl;
-      flags = refl;
-      correction = refl;
-      specific = refl;
-      source = record { clock = refl; port = refl };
-      sequence = refl;
-      control = refl;
-      log = refl;
-    };
-    timestamp = record { seconds = refl; nanoseconds = refl; within_second = omega arith };
-    requesting = tt;
-    suffix = refl;
-  },
-)
+request_0-octets = search (rules, all_octets)
 
 abbrev response_0 : Contents
 response_0 = message m_config.identity 0 0 3 0 (bodies.DelayResp (stamp 1795328936 126744134) s_config.identity)
@@ -142,30 +68,7 @@ response_0_octets =
     170 ∷ 187 ∷ 204 ∷ 0 ∷ 1 ∷ []
 
 response_0-octets : IsReading response_0_octets (Ok response_0)
-response_0-octets = (
-  omega arith,
-  record {
-    octets = all_octets response_0_octets refl;
-    least = omega arith;
-    header = record {
-      major_sdo_and_type = refl;
-      minor_version_and_version = refl;
-      message_length = refl;
-      domain = refl;
-      minor_sdo = refl;
-      flags = refl;
-      correction = refl;
-      specific = refl;
-      source = record { clock = refl; port = refl };
-      sequence = refl;
-      control = refl;
-      log = refl;
-    };
-    timestamp = record { seconds = refl; nanoseconds = refl; within_second = omega arith };
-    requesting = record { clock = refl; port = refl };
-    suffix = refl;
-  },
-)
+response_0-octets = search (rules, all_octets)
 
 abbrev request_1 : Contents
 request_1 = message s_config.identity 0 1 1 127 (bodies.DelayReq (stamp 0 0))
@@ -176,30 +79,7 @@ request_1_octets =
     170 ∷ 187 ∷ 204 ∷ 0 ∷ 1 ∷ 0 ∷ 1 ∷ 1 ∷ 127 ∷ 0 ∷ 0 ∷ 0 ∷ 0 ∷ 0 ∷ 0 ∷ 0 ∷ 0 ∷ 0 ∷ 0 ∷ []
 
 request_1-octets : IsReading request_1_octets (Ok request_1)
-request_1-octets = (
-  omega arith,
-  record {
-    octets = all_octets request_1_octets refl;
-    least = omega arith;
-    header = record {
-      major_sdo_and_type = refl;
-      minor_version_and_version = refl;
-      message_length = refl;
-      domain = refl;
-      minor_sdo = refl;
-      flags = refl;
-      correction = refl;
-      specific = refl;
-      source = record { clock = refl; port = refl };
-      sequence = refl;
-      control = refl;
-      log = refl;
-    };
-    timestamp = record { seconds = refl; nanoseconds = refl; within_second = omega arith };
-    requesting = tt;
-    suffix = refl;
-  },
-)
+request_1-octets = search (rules, all_octets)
 
 abbrev response_1 : Contents
 response_1 = message m_config.identity 0 1 3 0 (bodies.DelayResp (stamp 1795328936 557927843) s_config.identity)
@@ -211,30 +91,7 @@ response_1_octets =
     170 ∷ 187 ∷ 204 ∷ 0 ∷ 1 ∷ []
 
 response_1-octets : IsReading response_1_octets (Ok response_1)
-response_1-octets = (
-  omega arith,
-  record {
-    octets = all_octets response_1_octets refl;
-    least = omega arith;
-    header = record {
-      major_sdo_and_type = refl;
-      minor_version_and_version = refl;
-      message_length = refl;
-      domain = refl;
-      minor_sdo = refl;
-      flags = refl;
-      correction = refl;
-      specific = refl;
-      source = record { clock = refl; port = refl };
-      sequence = refl;
-      control = refl;
-      log = refl;
-    };
-    timestamp = record { seconds = refl; nanoseconds = refl; within_second = omega arith };
-    requesting = record { clock = refl; port = refl };
-    suffix = refl;
-  },
-)
+response_1-octets = search (rules, all_octets)
 
 abbrev sync_2 : Contents
 sync_2 = message m_config.identity 0 2 0 0 (bodies.Sync (stamp 1795328936 921794762))
@@ -245,30 +102,7 @@ sync_2_octets =
     34 ∷ 51 ∷ 0 ∷ 1 ∷ 0 ∷ 2 ∷ 0 ∷ 0 ∷ 0 ∷ 0 ∷ 107 ∷ 2 ∷ 139 ∷ 168 ∷ 54 ∷ 241 ∷ 120 ∷ 202 ∷ []
 
 sync_2-octets : IsReading sync_2_octets (Ok sync_2)
-sync_2-octets = (
-  omega arith,
-  record {
-    octets = all_octets sync_2_octets refl;
-    least = omega arith;
-    header = record {
-      major_sdo_and_type = refl;
-      minor_version_and_version = refl;
-      message_length = refl;
-      domain = refl;
-      minor_sdo = refl;
-      flags = refl;
-      correction = refl;
-      specific = refl;
-      source = record { clock = refl; port = refl };
-      sequence = refl;
-      control = refl;
-      log = refl;
-    };
-    timestamp = record { seconds = refl; nanoseconds = refl; within_second = omega arith };
-    requesting = tt;
-    suffix = refl;
-  },
-)
+sync_2-octets = search (rules, all_octets)
 
 -- line by line; the Announces, as those of `WorkedSlave`, are none of the four messages
 abbrev before_sync : List Recorded
@@ -302,26 +136,13 @@ response_line = line 9 (at 1795328936 126791805 0) (Ok response_0)
 abbrev sync_half : SyncCompletion
 sync_half = completion_of_one_step sync_line sync_1 (stamp 1795328935 921718120)
 
-abbrev not_newer : (number : ℕ) → Contents → Bool
-not_newer number m = tells_departure watched m && is_not_newer (Some m.header.sequence.0) number
+one_step_comes : (d : Recorded) (s : Contents) (origin : Stamp) (earlier : List Recorded) → IsOneStep watched d s origin
+    → IsTaken watched s.header earlier d → ComesOneStep watched 0 earlier d (completion_of_one_step d s origin)
+one_step_comes d s origin earlier one_step taken =
+    record { s = s; origin = origin; one_step = one_step; is = refl; taken = taken; one_life = omega arith }
 
 comes_sync : ComesOneStep watched 0 before_sync sync_line sync_half
-comes_sync = record {
-  s = sync_1;
-  origin = stamp 1795328935 921718120;
-  one_step = record { said = refl; of_master = refl; sync_is = refl; one_step = refl; small = refl };
-  is = refl;
-  taken = inl (
-    (
-      none_says (with_number (is_master_sync watched) 1)
-          (last_heard watched (with_flag (is_master_sync watched) false) before_sync) refl,
-      none_says (with_number (is_master_follow_up watched) 1)
-          (last_heard watched (with_flag (is_master_follow_up watched) false) before_sync) refl,
-    ),
-    none_says (not_newer 1) (within_syncs watched before_sync recent_syncs) refl,
-  );
-  one_life = omega arith;
-}
+comes_sync = one_step_comes sync_line sync_1 (stamp 1795328935 921718120) before_sync (search rules) (inl (search (rules, none_says), search (rules, none_says)))
 
 -- a datagram that says no Sync and no Follow_Up of the master
 quiet_at : (earlier : List Recorded) (d : Recorded) → says (tells_departure watched) d ≡ false
@@ -334,59 +155,23 @@ quiet_at earlier d none other =
     )
 
 stands_sync : StandsSync watched 0 before_response sync_half
-stands_sync = record {
-  later = request_line ∷ announce_line ∷ [];
-  last = sync_line;
-  before = before_sync;
-  there = refl;
-  comes = inr comes_sync;
-  quiet = (
-    quiet_at (announce_line ∷ sync_line ∷ before_sync) request_line refl refl,
-    (quiet_at (sync_line ∷ before_sync) announce_line refl refl, tt),
-  );
-  few =
-      let none : count_by (says (is_master_sync watched)) (request_line ∷ announce_line ∷ []) ≡ 0 = refl in
-      omega (arith, none);
-}
+stands_sync =
+    stands (request_line ∷ announce_line ∷ []) sync_line before_sync (inr comes_sync) (
+      quiet_at (announce_line ∷ sync_line ∷ before_sync) request_line refl refl,
+      (quiet_at (sync_line ∷ before_sync) announce_line refl refl, tt),
+    )
+    (search rules)
 
 -- and the Delay_Resp of line 9
 abbrev delay_half : DelayCompletion
 delay_half = answer_of request_line response_line request_0 response_0 (stamp 1795328936 126744134)
 
-abbrev far : (number : ℕ) → Contents → Bool
-far number m = is_own_request watched m && not (nat_lt (ahead m.header.sequence.0 number) table_capacity)
-
 comes_delay : ComesDelay watched 0 before_response response_line delay_half
-comes_delay = record {
-  request = request_line;
-  q = request_0;
-  r = response_0;
-  receive = stamp 1795328936 126744134;
-  between = [];
-  before = before_request;
-  of_one = record {
-    request_said = refl;
-    response_said = refl;
-    request_is = refl;
-    of_master = refl;
-    requesting = s_config.identity;
-    response_is = refl;
-    to_slave = refl;
-    number = refl;
-    in_range = omega arith;
-    small = refl;
-  };
-  is = refl;
-  there = refl;
-  another = tt;
-  taken = inl (none_says (with_number (is_own_response watched) 0)
-      (last_heard watched (is_own_response watched) before_response) refl);
-  few = All-nil (λ (d : Recorded). says (far 0) d ≡ false);
-  one_life = omega arith;
-}
+comes_delay =
+    search (rules, none_says, answer_comes watched 0 request_line response_line request_0 response_0 (stamp 1795328936 126744134) [] before_request)
 
 numbered : AreNumbered (response_line ∷ before_response)
-numbered = (omega arith, (omega arith, (omega arith, (omega arith, (omega arith, (omega arith, (omega arith, (omega arith, tt))))))))
+numbered = search rules
 
 -- -2858.5 ns and 12303.5 ns, twice and in units of 2^-16 ns, of the Sync of line 6 and the Delay_Req of line 8
 abbrev report : Report
@@ -425,67 +210,21 @@ abbrev next_sync_half : SyncCompletion
 next_sync_half = completion_of_one_step next_sync sync_2 (stamp 1795328936 921794762)
 
 comes_next_sync : ComesOneStep watched 0 before_next_sync next_sync next_sync_half
-comes_next_sync = record {
-  s = sync_2;
-  origin = stamp 1795328936 921794762;
-  one_step = record { said = refl; of_master = refl; sync_is = refl; one_step = refl; small = refl };
-  is = refl;
-  taken = inl (
-    (
-      none_says (with_number (is_master_sync watched) 2)
-          (last_heard watched (with_flag (is_master_sync watched) false) before_next_sync) refl,
-      none_says (with_number (is_master_follow_up watched) 2)
-          (last_heard watched (with_flag (is_master_follow_up watched) false) before_next_sync) refl,
-    ),
-    none_says (not_newer 2) (within_syncs watched before_next_sync recent_syncs) refl,
-  );
-  one_life = omega arith;
-}
+comes_next_sync =
+    one_step_comes next_sync sync_2 (stamp 1795328936 921794762) before_next_sync (search rules) (inl (search (rules, none_says), search (rules, none_says)))
 
 abbrev next_delay_half : DelayCompletion
 next_delay_half = answer_of next_request next_response request_1 response_1 (stamp 1795328936 557927843)
 
 stands_delay : StandsDelay watched 0 before_next_sync next_delay_half
-stands_delay = record {
-  later = [];
-  last = next_response;
-  before = next_request ∷ before_next;
-  there = refl;
-  comes = record {
-    request = next_request;
-    q = request_1;
-    r = response_1;
-    receive = stamp 1795328936 557927843;
-    between = [];
-    before = before_next;
-    of_one = record {
-      request_said = refl;
-      response_said = refl;
-      request_is = refl;
-      of_master = refl;
-      requesting = s_config.identity;
-      response_is = refl;
-      to_slave = refl;
-      number = refl;
-      in_range = omega arith;
-      small = refl;
-    };
-    is = refl;
-    there = refl;
-    another = refl;
-    taken = inl (none_says (with_number (is_own_response watched) 1)
-        (last_heard watched (is_own_response watched) (next_request ∷ before_next)) refl);
-    few = All-nil (λ (d : Recorded). says (far 1) d ≡ false);
-    one_life = omega arith;
-  };
-  quiet = tt;
-  few =
-      let none : count_by (says (is_master_sync watched)) [] ≡ 0 = refl in
-      omega (arith, none);
-}
+stands_delay =
+    stands [] next_response (next_request ∷ before_next)
+    (answer_comes watched 0 next_request next_response request_1 response_1 (stamp 1795328936 557927843) [] before_next (search rules) refl
+    (inl (search (rules, none_says))) (search rules) (omega arith))
+    tt (search rules)
 
 next_numbered : AreNumbered (next_sync ∷ before_next_sync)
-next_numbered = (omega arith, (omega arith, (omega arith, (omega arith, numbered))))
+next_numbered = search rules
 
 -- -1319.5 ns and 11260.5 ns
 it_is_found_by_the_sync : report_at watched before_next_sync next_sync

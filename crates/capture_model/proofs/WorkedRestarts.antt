@@ -1,20 +1,16 @@
 -- Worked exchanges right behind a line that tells that the slave or the master began anew: each is found.
-use Rattle.std.proofs.Common.{◌≡◌, ℕ, pos, List, [], ◌∷◌, Some, refl, arith, inl, inr}
-use Rattle.std.specs.Prelude.{◌&&◌, not, nat_lt, count_by}
+use Rattle.std.proofs.Common.{◌≡◌, ℕ, pos, List, [], ◌∷◌, Some, refl, arith, rules, inl, inr}
 use Rattle.ptp_units.specs.Moment.{stamp}
-use Rattle.ptp_units.specs.Sequence.{ahead}
 use Rattle.master_port.specs.Written.{sync, follow_up}
 use Rattle.slave_port.specs.Written.{delay_req}
-use Rattle.slave_port.specs.Usable.{is_not_newer}
 use Rattle.slave_port.specs.Completion.{SyncCompletion, DelayCompletion}
 use Rattle.network_model.proofs.Worked.{m_config, s_config, at}
 use Rattle.capture_model.specs.Recorded.{Recorded}
-use Rattle.capture_model.specs.Listening.{table_capacity, report_at}
-use Rattle.capture_model.specs.Finds.{is_master_sync, is_master_follow_up, tells_departure, is_own_request, is_own_response, says}
-use Rattle.capture_model.specs.Finds.{with_number, with_flag, last_heard, within_syncs, recent_syncs, completion_of, answer_of}
+use Rattle.capture_model.specs.Listening.{report_at}
+use Rattle.capture_model.specs.Finds.{completion_of, answer_of}
 use Rattle.capture_model.specs.Finds.{ComesTwoStep, ComesDelay, SyncFirst}
 use Rattle.capture_model.proofs.Finds.{each_exchange}
-use Rattle.capture_model.proofs.WorkedFinds.{watched, line, response, none_says}
+use Rattle.capture_model.proofs.WorkedFinds.{watched, line, response, none_says, two_step_comes, answer_comes, stands}
 
 -- a two-step Sync of the master with this number, its Follow_Up, a Delay_Req of the slave, and the Delay_Resp to it
 abbrev sync_at : (at_line seconds number : ℕ) → Recorded
@@ -40,71 +36,19 @@ abbrev slave_answered : DelayCompletion
 slave_answered = answer_of (request_at 2 2 1000) (response_at 5 1000) (delay_req s_config 1000) (response 1000) (stamp 2 4500)
 
 slave_sync : ComesTwoStep watched 2 (sync_at 3 2 5 ∷ request_at 2 2 1000 ∷ request_at 1 1 9 ∷ []) (follow_at 4 2 5) slave_pair
-slave_sync = record {
-  sync = sync_at 3 2 5;
-  follow = follow_at 4 2 5;
-  s = sync m_config 5;
-  f = follow_up m_config 5 (at 2 0 0);
-  precise = stamp 2 0;
-  between = [];
-  first = sync_at 3 2 5;
-  before = request_at 2 2 1000 ∷ request_at 1 1 9 ∷ [];
-  of_one = record {
-    sync_said = refl;
-    follow_said = refl;
-    sync_is = refl;
-    two_step = refl;
-    of_master = refl;
-    follow_is = refl;
-    number = refl;
-    near = refl;
-    small_sync = refl;
-    small_follow = refl;
-  };
-  is = refl;
-  order = let none : count_by (says (is_master_sync watched)) [] ≡ 0 = refl in SyncFirst refl refl (omega (arith, none));
-  there = refl;
-  taken = inl (
-    λ flag. (
-      none_says (with_number (is_master_sync watched) 5)
-          (last_heard watched (with_flag (is_master_sync watched) flag) (request_at 2 2 1000 ∷ request_at 1 1 9 ∷ [])) refl,
-      none_says (with_number (is_master_follow_up watched) 5)
-          (last_heard watched (with_flag (is_master_follow_up watched) flag) (request_at 2 2 1000 ∷ request_at 1 1 9 ∷ [])) refl,
-    ),
-    none_says (λ m. tells_departure watched m && is_not_newer (Some m.header.sequence.0) 5)
-        (within_syncs watched (sync_at 3 2 5 ∷ request_at 2 2 1000 ∷ request_at 1 1 9 ∷ []) recent_syncs) refl,
-  );
-  alone = tt;
-  one_life = omega arith;
-}
+slave_sync =
+    two_step_comes watched 2 (sync_at 3 2 5) (follow_at 4 2 5) (sync m_config 5) (follow_up m_config 5 (at 2 0 0)) (stamp 2 0)
+    (sync_at 3 2 5) (follow_at 4 2 5) [] (request_at 2 2 1000 ∷ request_at 1 1 9 ∷ []) (search rules) (search (rules, SyncFirst))
+    (inl (λ flag. search (rules, none_says), search (rules, none_says))) tt (omega arith)
 
 slave_delay : ComesDelay watched 2 slave_lines (response_at 5 1000) slave_answered
-slave_delay = record {
-  request = request_at 2 2 1000;
-  q = delay_req s_config 1000;
-  r = response 1000;
-  receive = stamp 2 4500;
-  between = follow_at 4 2 5 ∷ sync_at 3 2 5 ∷ [];
-  before = request_at 1 1 9 ∷ [];
-  of_one = record {
-    request_said = refl;
-    response_said = refl;
-    request_is = refl;
-    of_master = refl;
-    requesting = s_config.identity;
-    response_is = refl;
-    to_slave = refl;
-    number = refl;
-    in_range = omega arith;
-    small = refl;
-  };
-  is = refl;
-  there = refl;
-  another = refl;
-  taken = inl (none_says (with_number (is_own_response watched) 1000) (last_heard watched (is_own_response watched) slave_lines) refl);
-  few = none_says (λ m. is_own_request watched m && not (nat_lt (ahead m.header.sequence.0 1000) table_capacity)) (follow_at 4 2 5 ∷ sync_at 3 2 5 ∷ []) refl;
-  one_life = omega arith;
-}
+slave_delay =
+    search (
+      rules,
+      none_says,
+      answer_comes watched 2 (request_at 2 2 1000) (response_at 5 1000) (delay_req s_config 1000) (response 1000)
+          (stamp 2 4500) (follow_at 4 2 5 ∷ sync_at 3 2 5 ∷ []) (request_at 1 1 9 ∷ []),
+    )
 
 slave_is_found : report_at watched slave_lines (response_at 5 1000)
     ≡ Some (record {
@@ -116,19 +60,8 @@ slave_is_found : report_at watched slave_lines (response_at 5 1000)
       response_tag = 5;
     })
 slave_is_found =
-    each_exchange watched slave_lines (response_at 5 1000) slave_pair slave_answered (omega arith, (omega arith, (omega arith, (omega arith, tt))))
-    (inr (
-      record {
-        later = [];
-        last = follow_at 4 2 5;
-        before = sync_at 3 2 5 ∷ request_at 2 2 1000 ∷ request_at 1 1 9 ∷ [];
-        there = refl;
-        comes = inl slave_sync;
-        quiet = tt;
-        few = let none : count_by (says (is_master_sync watched)) ([]) ≡ 0 = refl in omega (arith, none);
-      },
-      slave_delay,
-    ))
+    each_exchange watched slave_lines (response_at 5 1000) slave_pair slave_answered (search rules)
+    (inr (stands [] (follow_at 4 2 5) (sync_at 3 2 5 ∷ request_at 2 2 1000 ∷ request_at 1 1 9 ∷ []) (inl slave_sync) tt (search rules), slave_delay))
 
 -- the master: its Sync 5 again in line 3, two seconds later; the port uses it
 abbrev again_lines : List Recorded
@@ -141,62 +74,19 @@ abbrev again_answered : DelayCompletion
 again_answered = answer_of (request_at 5 2 9) (response_at 6 9) (delay_req s_config 9) (response 9) (stamp 2 4500)
 
 again_sync : ComesTwoStep watched 3 (sync_at 3 3 5 ∷ follow_at 2 1 5 ∷ sync_at 1 1 5 ∷ []) (follow_at 4 3 5) again_pair
-again_sync = record {
-  sync = sync_at 3 3 5;
-  follow = follow_at 4 3 5;
-  s = sync m_config 5;
-  f = follow_up m_config 5 (at 3 0 0);
-  precise = stamp 3 0;
-  between = [];
-  first = sync_at 3 3 5;
-  before = follow_at 2 1 5 ∷ sync_at 1 1 5 ∷ [];
-  of_one = record {
-    sync_said = refl;
-    follow_said = refl;
-    sync_is = refl;
-    two_step = refl;
-    of_master = refl;
-    follow_is = refl;
-    number = refl;
-    near = refl;
-    small_sync = refl;
-    small_follow = refl;
-  };
-  is = refl;
-  order = let none : count_by (says (is_master_sync watched)) [] ≡ 0 = refl in SyncFirst refl refl (omega (arith, none));
-  there = refl;
-  taken = inr (refl, refl);
-  alone = tt;
-  one_life = omega arith;
-}
+again_sync =
+    two_step_comes watched 3 (sync_at 3 3 5) (follow_at 4 3 5) (sync m_config 5) (follow_up m_config 5 (at 3 0 0)) (stamp 3 0)
+    (sync_at 3 3 5) (follow_at 4 3 5) [] (follow_at 2 1 5 ∷ sync_at 1 1 5 ∷ []) (search rules) (search (rules, SyncFirst))
+    (inr (refl, refl)) tt (omega arith)
 
 again_delay : ComesDelay watched 3 again_lines (response_at 6 9) again_answered
-again_delay = record {
-  request = request_at 5 2 9;
-  q = delay_req s_config 9;
-  r = response 9;
-  receive = stamp 2 4500;
-  between = [];
-  before = follow_at 4 3 5 ∷ sync_at 3 3 5 ∷ follow_at 2 1 5 ∷ sync_at 1 1 5 ∷ [];
-  of_one = record {
-    request_said = refl;
-    response_said = refl;
-    request_is = refl;
-    of_master = refl;
-    requesting = s_config.identity;
-    response_is = refl;
-    to_slave = refl;
-    number = refl;
-    in_range = omega arith;
-    small = refl;
-  };
-  is = refl;
-  there = refl;
-  another = tt;
-  taken = inl (none_says (with_number (is_own_response watched) 9) (last_heard watched (is_own_response watched) again_lines) refl);
-  few = none_says (λ m. is_own_request watched m && not (nat_lt (ahead m.header.sequence.0 9) table_capacity)) ([]) refl;
-  one_life = omega arith;
-}
+again_delay =
+    search (
+      rules,
+      none_says,
+      answer_comes watched 3 (request_at 5 2 9) (response_at 6 9) (delay_req s_config 9) (response 9) (stamp 2 4500)
+          [] (follow_at 4 3 5 ∷ sync_at 3 3 5 ∷ follow_at 2 1 5 ∷ sync_at 1 1 5 ∷ []),
+    )
 
 again_is_found : report_at watched again_lines (response_at 6 9)
     ≡ Some (record {
@@ -208,17 +98,10 @@ again_is_found : report_at watched again_lines (response_at 6 9)
       response_tag = 6;
     })
 again_is_found =
-    each_exchange watched again_lines (response_at 6 9) again_pair again_answered (omega arith, (omega arith, (omega arith, (omega arith, (omega arith, tt)))))
+    each_exchange watched again_lines (response_at 6 9) again_pair again_answered (search rules)
     (inr (
-      record {
-        later = request_at 5 2 9 ∷ [];
-        last = follow_at 4 3 5;
-        before = sync_at 3 3 5 ∷ follow_at 2 1 5 ∷ sync_at 1 1 5 ∷ [];
-        there = refl;
-        comes = inl again_sync;
-        quiet = (inr refl, tt);
-        few = let none : count_by (says (is_master_sync watched)) (request_at 5 2 9 ∷ []) ≡ 0 = refl in omega (arith, none);
-      },
+      stands (request_at 5 2 9 ∷ []) (follow_at 4 3 5) (sync_at 3 3 5 ∷ follow_at 2 1 5 ∷ sync_at 1 1 5 ∷ []) (inl again_sync)
+          (inr refl, tt) (search rules),
       again_delay,
     ))
 
@@ -233,62 +116,19 @@ abbrev lower_answered : DelayCompletion
 lower_answered = answer_of (request_at 7 2 9) (response_at 8 9) (delay_req s_config 9) (response 9) (stamp 2 4500)
 
 lower_sync : ComesTwoStep watched 5 (sync_at 5 4 42 ∷ sync_at 4 3 41 ∷ sync_at 3 2 40 ∷ follow_at 2 1 100 ∷ sync_at 1 1 100 ∷ []) (follow_at 6 4 42) lower_pair
-lower_sync = record {
-  sync = sync_at 5 4 42;
-  follow = follow_at 6 4 42;
-  s = sync m_config 42;
-  f = follow_up m_config 42 (at 4 0 0);
-  precise = stamp 4 0;
-  between = [];
-  first = sync_at 5 4 42;
-  before = sync_at 4 3 41 ∷ sync_at 3 2 40 ∷ follow_at 2 1 100 ∷ sync_at 1 1 100 ∷ [];
-  of_one = record {
-    sync_said = refl;
-    follow_said = refl;
-    sync_is = refl;
-    two_step = refl;
-    of_master = refl;
-    follow_is = refl;
-    number = refl;
-    near = refl;
-    small_sync = refl;
-    small_follow = refl;
-  };
-  is = refl;
-  order = let none : count_by (says (is_master_sync watched)) [] ≡ 0 = refl in SyncFirst refl refl (omega (arith, none));
-  there = refl;
-  taken = inr (refl, refl);
-  alone = tt;
-  one_life = omega arith;
-}
+lower_sync =
+    two_step_comes watched 5 (sync_at 5 4 42) (follow_at 6 4 42) (sync m_config 42) (follow_up m_config 42 (at 4 0 0)) (stamp 4 0)
+    (sync_at 5 4 42) (follow_at 6 4 42) [] (sync_at 4 3 41 ∷ sync_at 3 2 40 ∷ follow_at 2 1 100 ∷ sync_at 1 1 100 ∷ []) (search rules)
+    (search (rules, SyncFirst)) (inr (refl, refl)) tt (omega arith)
 
 lower_delay : ComesDelay watched 5 lower_lines (response_at 8 9) lower_answered
-lower_delay = record {
-  request = request_at 7 2 9;
-  q = delay_req s_config 9;
-  r = response 9;
-  receive = stamp 2 4500;
-  between = [];
-  before = follow_at 6 4 42 ∷ sync_at 5 4 42 ∷ sync_at 4 3 41 ∷ sync_at 3 2 40 ∷ follow_at 2 1 100 ∷ sync_at 1 1 100 ∷ [];
-  of_one = record {
-    request_said = refl;
-    response_said = refl;
-    request_is = refl;
-    of_master = refl;
-    requesting = s_config.identity;
-    response_is = refl;
-    to_slave = refl;
-    number = refl;
-    in_range = omega arith;
-    small = refl;
-  };
-  is = refl;
-  there = refl;
-  another = tt;
-  taken = inl (none_says (with_number (is_own_response watched) 9) (last_heard watched (is_own_response watched) lower_lines) refl);
-  few = none_says (λ m. is_own_request watched m && not (nat_lt (ahead m.header.sequence.0 9) table_capacity)) ([]) refl;
-  one_life = omega arith;
-}
+lower_delay =
+    search (
+      rules,
+      none_says,
+      answer_comes watched 5 (request_at 7 2 9) (response_at 8 9) (delay_req s_config 9) (response 9) (stamp 2 4500)
+          [] (follow_at 6 4 42 ∷ sync_at 5 4 42 ∷ sync_at 4 3 41 ∷ sync_at 3 2 40 ∷ follow_at 2 1 100 ∷ sync_at 1 1 100 ∷ []),
+    )
 
 lower_is_found : report_at watched lower_lines (response_at 8 9)
     ≡ Some (record {
@@ -300,16 +140,10 @@ lower_is_found : report_at watched lower_lines (response_at 8 9)
       response_tag = 8;
     })
 lower_is_found =
-    each_exchange watched lower_lines (response_at 8 9) lower_pair lower_answered (omega arith, (omega arith, (omega arith, (omega arith, (omega arith, (omega arith, (omega arith, tt)))))))
+    each_exchange watched lower_lines (response_at 8 9) lower_pair lower_answered (search rules)
     (inr (
-      record {
-        later = request_at 7 2 9 ∷ [];
-        last = follow_at 6 4 42;
-        before = sync_at 5 4 42 ∷ sync_at 4 3 41 ∷ sync_at 3 2 40 ∷ follow_at 2 1 100 ∷ sync_at 1 1 100 ∷ [];
-        there = refl;
-        comes = inl lower_sync;
-        quiet = (inr refl, tt);
-        few = let none : count_by (says (is_master_sync watched)) (request_at 7 2 9 ∷ []) ≡ 0 = refl in omega (arith, none);
-      },
+      stands (request_at 7 2 9 ∷ []) (follow_at 6 4 42)
+          (sync_at 5 4 42 ∷ sync_at 4 3 41 ∷ sync_at 3 2 40 ∷ follow_at 2 1 100 ∷ sync_at 1 1 100 ∷ []) (inl lower_sync) (inr refl, tt)
+          (search rules),
       lower_delay,
     ))

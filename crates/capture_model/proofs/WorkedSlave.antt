@@ -1,6 +1,6 @@
 -- The first exchange of a recording of real equipment, octet for octet: the datagrams at a slave of `ptp4l`, up to its
 -- first Delay_Resp. They tell a run of a master and a slave, so the report of the last of them is exact by the law.
-use Rattle.std.proofs.Common.{◌≡◌, ℕ, pos, negsuc, refl, arith, List, [], ◌∷◌, reverse, take, Some, Ok, Err}
+use Rattle.std.proofs.Common.{◌≡◌, ℕ, pos, negsuc, refl, arith, List, [], ◌∷◌, reverse, take, Some, Ok, Err, rules}
 use Rattle.std.specs.List.{All}
 use Rattle.ptp_units.specs.Moment.{stamp}
 use Rattle.event_codec.specs.declared.message.Body.{Body}
@@ -27,7 +27,7 @@ use Rattle.capture_model.specs.Told.{Tells, Nothing, Untold, Told, Other}
 use Rattle.capture_model.specs.Premises.{IsFreshAndTicked}
 use Rattle.capture_model.specs.Exact.{Watches, IsExact}
 use Rattle.capture_model.proofs.Listened.{each_report}
-use Rattle.capture_model.proofs.Worked.{unmoved}
+use Rattle.capture_model.proofs.Worked.{unmoved, it_tells}
 use Rattle.capture_model.proofs.Short.{IsFresh-short, IsTicked-short, MissesFew-short}
 
 -- their ports, of domain 0
@@ -69,30 +69,7 @@ sync_0_octets =
     34 ∷ 51 ∷ 0 ∷ 1 ∷ 0 ∷ 0 ∷ 0 ∷ 0 ∷ 0 ∷ 0 ∷ 0 ∷ 0 ∷ 0 ∷ 0 ∷ 0 ∷ 0 ∷ 0 ∷ 0 ∷ []
 
 sync_0-octets : IsReading sync_0_octets (Ok sync_0)
-sync_0-octets = (
-  omega arith,
-  record {
-    octets = all_octets sync_0_octets refl;
-    least = omega arith;
-    header = record {
-      major_sdo_and_type = refl;
-      minor_version_and_version = refl;
-      message_length = refl;
-      domain = refl;
-      minor_sdo = refl;
-      flags = refl;
-      correction = refl;
-      specific = refl;
-      source = record { clock = refl; port = refl };
-      sequence = refl;
-      control = refl;
-      log = refl;
-    };
-    timestamp = record { seconds = refl; nanoseconds = refl; within_second = omega arith };
-    requesting = tt;
-    suffix = refl;
-  },
-)
+sync_0-octets = search (rules, all_octets)
 
 abbrev follow_up_0 : Contents
 follow_up_0 = message m_config.identity 0 0 2 0 (bodies.FollowUp (stamp 1795329142 833687078))
@@ -103,30 +80,7 @@ follow_up_0_octets =
     34 ∷ 51 ∷ 0 ∷ 1 ∷ 0 ∷ 0 ∷ 2 ∷ 0 ∷ 0 ∷ 0 ∷ 107 ∷ 2 ∷ 140 ∷ 118 ∷ 49 ∷ 177 ∷ 14 ∷ 38 ∷ []
 
 follow_up_0-octets : IsReading follow_up_0_octets (Ok follow_up_0)
-follow_up_0-octets = (
-  omega arith,
-  record {
-    octets = all_octets follow_up_0_octets refl;
-    least = omega arith;
-    header = record {
-      major_sdo_and_type = refl;
-      minor_version_and_version = refl;
-      message_length = refl;
-      domain = refl;
-      minor_sdo = refl;
-      flags = refl;
-      correction = refl;
-      specific = refl;
-      source = record { clock = refl; port = refl };
-      sequence = refl;
-      control = refl;
-      log = refl;
-    };
-    timestamp = record { seconds = refl; nanoseconds = refl; within_second = omega arith };
-    requesting = tt;
-    suffix = refl;
-  },
-)
+follow_up_0-octets = search (rules, all_octets)
 
 abbrev sync_1 : Contents
 sync_1 = message m_config.identity 2 1 0 0 (bodies.Sync (stamp 0 0))
@@ -137,30 +91,7 @@ sync_1_octets =
     34 ∷ 51 ∷ 0 ∷ 1 ∷ 0 ∷ 1 ∷ 0 ∷ 0 ∷ 0 ∷ 0 ∷ 0 ∷ 0 ∷ 0 ∷ 0 ∷ 0 ∷ 0 ∷ 0 ∷ 0 ∷ []
 
 sync_1-octets : IsReading sync_1_octets (Ok sync_1)
-sync_1-octets = (
-  omega arith,
-  record {
-    octets = all_octets sync_1_octets refl;
-    least = omega arith;
-    header = record {
-      major_sdo_and_type = refl;
-      minor_version_and_version = refl;
-      message_length = refl;
-      domain = refl;
-      minor_sdo = refl;
-      flags = refl;
-      correction = refl;
-      specific = refl;
-      source = record { clock = refl; port = refl };
-      sequence = refl;
-      control = refl;
-      log = refl;
-    };
-    timestamp = record { seconds = refl; nanoseconds = refl; within_second = omega arith };
-    requesting = tt;
-    suffix = refl;
-  },
-)
+sync_1-octets = search (rules, all_octets)
 
 abbrev follow_up_1 : Contents
 follow_up_1 = message m_config.identity 0 1 2 0 (bodies.FollowUp (stamp 1795329143 833778296))
@@ -171,30 +102,7 @@ follow_up_1_octets =
     34 ∷ 51 ∷ 0 ∷ 1 ∷ 0 ∷ 1 ∷ 2 ∷ 0 ∷ 0 ∷ 0 ∷ 107 ∷ 2 ∷ 140 ∷ 119 ∷ 49 ∷ 178 ∷ 114 ∷ 120 ∷ []
 
 follow_up_1-octets : IsReading follow_up_1_octets (Ok follow_up_1)
-follow_up_1-octets = (
-  omega arith,
-  record {
-    octets = all_octets follow_up_1_octets refl;
-    least = omega arith;
-    header = record {
-      major_sdo_and_type = refl;
-      minor_version_and_version = refl;
-      message_length = refl;
-      domain = refl;
-      minor_sdo = refl;
-      flags = refl;
-      correction = refl;
-      specific = refl;
-      source = record { clock = refl; port = refl };
-      sequence = refl;
-      control = refl;
-      log = refl;
-    };
-    timestamp = record { seconds = refl; nanoseconds = refl; within_second = omega arith };
-    requesting = tt;
-    suffix = refl;
-  },
-)
+follow_up_1-octets = search (rules, all_octets)
 
 abbrev request : Contents
 request = message s_config.identity 0 0 1 127 (bodies.DelayReq (stamp 0 0))
@@ -205,30 +113,7 @@ request_octets =
     187 ∷ 204 ∷ 0 ∷ 1 ∷ 0 ∷ 0 ∷ 1 ∷ 127 ∷ 0 ∷ 0 ∷ 0 ∷ 0 ∷ 0 ∷ 0 ∷ 0 ∷ 0 ∷ 0 ∷ 0 ∷ []
 
 request-octets : IsReading request_octets (Ok request)
-request-octets = (
-  omega arith,
-  record {
-    octets = all_octets request_octets refl;
-    least = omega arith;
-    header = record {
-      major_sdo_and_type = refl;
-      minor_version_and_version = refl;
-      message_length = refl;
-      domain = refl;
-      minor_sdo = refl;
-      flags = refl;
-      correction = refl;
-      specific = refl;
-      source = record { clock = refl; port = refl };
-      sequence = refl;
-      control = refl;
-      log = refl;
-    };
-    timestamp = record { seconds = refl; nanoseconds = refl; within_second = omega arith };
-    requesting = tt;
-    suffix = refl;
-  },
-)
+request-octets = search (rules, all_octets)
 
 abbrev response : Contents
 response = message m_config.identity 0 0 3 0 (bodies.DelayResp (stamp 1795329143 968142440) s_config.identity)
@@ -240,30 +125,7 @@ response_octets =
     170 ∷ 187 ∷ 204 ∷ 0 ∷ 1 ∷ []
 
 response-octets : IsReading response_octets (Ok response)
-response-octets = (
-  omega arith,
-  record {
-    octets = all_octets response_octets refl;
-    least = omega arith;
-    header = record {
-      major_sdo_and_type = refl;
-      minor_version_and_version = refl;
-      message_length = refl;
-      domain = refl;
-      minor_sdo = refl;
-      flags = refl;
-      correction = refl;
-      specific = refl;
-      source = record { clock = refl; port = refl };
-      sequence = refl;
-      control = refl;
-      log = refl;
-    };
-    timestamp = record { seconds = refl; nanoseconds = refl; within_second = omega arith };
-    requesting = record { clock = refl; port = refl };
-    suffix = refl;
-  },
-)
+response-octets = search (rules, all_octets)
 
 -- its Announces, which differ in the last octet of their numbers, are none of the four messages
 announce-octets : (number : ℕ) → IsReading
@@ -334,62 +196,20 @@ accepted = record { apart = IsNetwork-test network refl refl; accepted = IsRun-t
 -- event by event: the messages of the network are of version 2.1, and are told all the same
 abbrev tells : Tells network s watched unmoved run recording
 tells =
-    Told (Hear s 11) (after 12) _ _ (record {
-      m = _;
-      made = refl;
-      said = response;
-      says = refl;
-      agrees = record { domain = refl; source = refl; number = refl; body = (refl, refl, refl) };
-      timed = tt;
-    })
+    Told (Hear s 11) (after 12) _ _ (it_tells response refl refl (record { domain = refl; source = refl; number = refl; body = (refl, refl, refl) }) tt)
     (Untold (Arrive m 9 (at 1795329143 968142440 0)) (after 11) _
     (Untold (Stamped s) (after 10) _
-    (Told (Request s (at 1795329143 968120405 0)) (after 9) _ _ (record {
-      m = _;
-      made = refl;
-      said = request;
-      says = refl;
-      agrees = record { domain = refl; source = refl; number = refl; body = tt };
-      timed = refl;
-    })
+    (Told (Request s (at 1795329143 968120405 0)) (after 9) _ _ (it_tells request refl refl (record { domain = refl; source = refl; number = refl; body = tt }) refl)
     (Other (after 9) _ _ refl
-    (Told (Hear s 7) (after 8) _ _ (record {
-      m = _;
-      made = refl;
-      said = follow_up_1;
-      says = refl;
-      agrees = record { domain = refl; source = refl; number = refl; body = (refl, refl) };
-      timed = tt;
-    })
+    (Told (Hear s 7) (after 8) _ _ (it_tells follow_up_1 refl refl (record { domain = refl; source = refl; number = refl; body = (refl, refl) }) tt)
     (Untold (Follow m) (after 7) _
-    (Told (Arrive s 5 (at 1795329143 833793306 0)) (after 6) _ _ (record {
-      m = _;
-      made = refl;
-      said = sync_1;
-      says = refl;
-      agrees = record { domain = refl; source = refl; number = refl; body = (refl, (refl, λ big. big)) };
-      timed = refl;
-    })
+    (Told (Arrive s 5 (at 1795329143 833793306 0)) (after 6) _ _ (it_tells sync_1 refl refl (record { domain = refl; source = refl; number = refl; body = (refl, (refl, λ big. big)) }) refl)
     (Untold (Sync m (at 1795329143 833778296 0)) (after 5) _
     (Other (after 5) _ _ refl
     (Other (after 5) _ _ refl
-    (Told (Hear s 3) (after 4) _ _ (record {
-      m = _;
-      made = refl;
-      said = follow_up_0;
-      says = refl;
-      agrees = record { domain = refl; source = refl; number = refl; body = (refl, refl) };
-      timed = tt;
-    })
+    (Told (Hear s 3) (after 4) _ _ (it_tells follow_up_0 refl refl (record { domain = refl; source = refl; number = refl; body = (refl, refl) }) tt)
     (Untold (Follow m) (after 3) _
-    (Told (Arrive s 1 (at 1795329142 833701606 0)) (after 2) _ _ (record {
-      m = _;
-      made = refl;
-      said = sync_0;
-      says = refl;
-      agrees = record { domain = refl; source = refl; number = refl; body = (refl, (refl, λ big. big)) };
-      timed = refl;
-    })
+    (Told (Arrive s 1 (at 1795329142 833701606 0)) (after 2) _ _ (it_tells sync_0 refl refl (record { domain = refl; source = refl; number = refl; body = (refl, (refl, λ big. big)) }) refl)
     (Untold (Sync m (at 1795329142 833687078 0)) (after 1) _
     (Other (after 1) _ _ refl
     (Other (after 1) _ _ refl
@@ -397,7 +217,7 @@ tells =
 
 fresh_and_ticked : IsFreshAndTicked exact_limits m tells
 fresh_and_ticked = record {
-  numbered = (omega arith, (omega arith, (omega arith, (omega arith, (omega arith, (omega arith, (omega arith, (omega arith, (omega arith, (omega arith, tt))))))))));
+  numbered = search rules;
   fresh = IsFresh-short network s m watched 32768 tells (omega arith);
   missing = MissesFew-short network s m watched 32768 tells (omega arith);
   ticked = IsTicked-short network s m watched 16384 tells (omega arith);
