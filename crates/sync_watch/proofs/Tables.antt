@@ -1,16 +1,12 @@
 -- Tables that hold the latest entries, and what a watch stands for once they have one more.
-use Rattle.std.proofs.Common.{◌≡◌, ◌∙◌, ℕ, Bool, true, false, List, [], ◌∷◌, take, sym, ap, refl, subst}
+use Rattle.std.proofs.Common.{◌≡◌, ◌∙◌, ℕ, Bool, true, false, List, ◌∷◌, take, sym, ap, refl, subst}
 use Rattle.std.proofs.Common.{Option, None, if◌then◌else◌}
-use Rattle.pairing.specs.Marked.{Entry, Marked, entry, empty, push, newest_first}
+use Rattle.pairing.specs.Marked.{Entry, Marked, entry, push, newest_first}
 use Rattle.sync_watch.specs.Told.{Arrival, Told, Sync, FollowUp, of_flag, syncs, follow_ups, known}
 use Rattle.sync_watch.specs.Judged.{judged_sync, sync_judgement, is_repeat, is_repeated}
 use Rattle.sync_watch.specs.StandsFor.{KnownTimes, Watch, HoldsKnown, StandsFor, Responses, StandsForResponses}
-use Rattle.pairing.proofs.Lists.{take-more, take-nil}
+use Rattle.pairing.proofs.Lists.{take-more}
 use Rattle.pairing.proofs.Laws.{newest_first-push}
-
--- one that is empty
-pub latest-empty : (capacity : ℕ) (table : Marked ℕ) → table ≡ empty → newest_first table ≡ take capacity []
-latest-empty capacity table is = ap newest_first is ∙ sym (take-nil capacity)
 
 -- one more
 pub latest-push : (capacity : ℕ) (e : Entry ℕ) (table new : Marked ℕ) (entries : List (Entry ℕ))

@@ -1,7 +1,6 @@
-use Rattle.std.proofs.Common.{◌≡◌, ◌∙◌, Bool, true, false, ◌∷◌, sym, ap, subst, if◌then◌else◌}
+use Rattle.std.proofs.Common.{◌∙◌, Bool, ◌∷◌, sym, ap, subst, if◌then◌else◌}
 use Rattle.sync_watch.specs.declared.judgement.Judgement.TheVariants.{Newer, Repeated}
 use Rattle.sync_watch.specs.Told.{arrival, FollowUp}
-use Rattle.sync_watch.specs.Judged.{is_repeated}
 use Rattle.sync_watch.specs.StandsFor.{Watch, StandsFor}
 use Rattle.sync_watch.proofs.Tables.{stands-follow_up, repeated}
 use Rattle.sync_watch.proofs.sync_watch.SyncWatch.follow_up.Goals as goal
