@@ -154,12 +154,6 @@ not_before {S} {A} {F} rules start Device one octets (Err what) place count stat
         (subst (λ (s : S). rules.Takes (without_cr line) s here.later here.written) same.0 here.takes) stops
     go (Task fault) sure (inr (at_end, stops, none)) = absurd (omega (arith, at_end, within, less))
 
--- two ends at one place are one
-record AreOne {A F : Type 0} (end end' : Result A (Cause F)) (last last' : List ℕ) (left left' : Option (List ℕ)) : Type 0 where
-  end_is : end' ≡ end
-  last_is : last' ≡ last
-  left_is : left' ≡ left
-
 there_is : (fault : ReadingFault) (limit number : ℕ) (line : Option (List ℕ)) {F : Type 0} (Device : F → Type 0) → (IsOfDevice Device (Reading fault) → ⊥) → FaultsInReading fault limit number line
     → (l : List ℕ) × (line ≡ Some l) × (reading_fault limit number l ≡ Some fault)
 there_is Read limit number line Device sure faults = absurd (sure tt)
