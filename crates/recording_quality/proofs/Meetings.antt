@@ -15,13 +15,6 @@ use Rattle.recording_quality.specs.Wide.{at_most}
 use Rattle.recording_quality.proofs.Noting.{count_none, count_more}
 
 module _ (m : Meeting) (earlier : List Meeting) (there : List ℕ) (so : AreDomains earlier there) where
-  pub no_domain : None ≡ other_domain m → AreDomains (m ∷ earlier) there
-  no_domain none = record {
-    places = so.places;
-    each = λ domain few. so.each domain few ∙ ap at_most (sym (count_none (is_of_domain domain) m earlier
-        (sym (ap (λ (o : Option ℕ). option_map_or (λ other. other == domain) o false) none))));
-  }
-
   pub one_domain : (own : ℕ) → own < 256 → Some own ≡ other_domain m
       → AreDomains (m ∷ earlier) (slice_set there own (min (get_or there own 0 + 1) (2 ^ 64 - 1)))
   one_domain own few is = record {
