@@ -1,11 +1,11 @@
 -- The header that a link type puts in front.
-use Rattle.std.proofs.Common.{◌≡◌, ◌∙◌, ℕ, ◌≤◌, List, length, sym, subst, arith}
+use Rattle.std.proofs.Common.{◌≡◌, ◌∙◌, ℕ, List, sym, subst}
 use Rattle.capture_frame.specs.Link.{IsFrame}
 use Rattle.capture_frame.specs.Octets.{two_octets}
 use Rattle.capture_frame.specs.Payload.{Payload}
 use Rattle.capture_frame.specs.Tags.{IsTagged}
 use Rattle.capture_frame.specs.Inner.Walk.{IsCut}
-use Rattle.capture_frame.proofs.Cuts.{one_cut, front_within}
+use Rattle.capture_frame.proofs.Cuts.{one_cut}
 use Rattle.capture_frame.proofs.Only.{IsSame}
 
 pub frame_at : (count place : ℕ) (octets header behind : List ℕ) (payload : Payload) → IsCut octets count header behind
@@ -14,9 +14,6 @@ frame_at count place octets header behind payload cut frame =
     let same = one_cut frame.header frame.behind header behind (sym frame.parts ∙ cut.parts) (frame.size ∙ sym cut.size) in
     subst (λ (b : List ℕ). IsTagged (two_octets header place) b payload) same.1
     (subst (λ (h : List ℕ). IsTagged (two_octets h place) frame.behind payload) same.0 frame.carries)
-
-pub frame_needs : (count place : ℕ) (octets : List ℕ) (payload : Payload) → IsFrame count place octets payload → count ≤ length octets
-frame_needs count place octets payload frame = omega (arith, frame.size, front_within octets frame.header frame.behind frame.parts)
 
 -- a packet carries what its tags do
 pub frame_same : (count place kind : ℕ) (octets header behind : List ℕ) → IsCut octets count header behind → kind ≡ two_octets header place

@@ -5,7 +5,7 @@ use Rattle.capture_frame.specs.Ipv4.{IsIpv4, IsIpv4Header, CarriesOverIpv4, ipv4
 use Rattle.capture_frame.specs.Payload.{Payload, Whole, Part}
 use Rattle.capture_frame.specs.Udp.{IsUdp}
 use Rattle.capture_frame.specs.Inner.Walk.{IsCut}
-use Rattle.capture_frame.proofs.Cuts.{one_cut, front_within}
+use Rattle.capture_frame.proofs.Cuts.{one_cut}
 
 -- what a packet says of a header that was cut off at its length
 pub record Ipv4At (header behind : List ℕ) (payload : Payload) : Type 0 where
@@ -29,12 +29,6 @@ ipv4_at octets header behind n payload cut at ip =
       carries = subst (λ (b : List ℕ). CarriesOverIpv4 header b payload) same.1
           (subst (λ (h : List ℕ). CarriesOverIpv4 h ip.behind payload) same.0 ip.carries);
     }
-
-pub ipv4_fits : (octets : List ℕ) (payload : Payload) → IsIpv4 octets payload → 4 * (get_or octets 0 0 % 16) ≤ length octets
-ipv4_fits octets payload ip =
-    let first = first_octet octets ip.header ip.behind ip.parts ip.is_header.least in
-    let long : 4 * (get_or octets 0 0 % 16) ≡ length ip.header = ap (λ (n : ℕ). 4 * (n % 16)) first ∙ sym ip.is_header.size in
-    omega (arith, front_within octets ip.header ip.behind ip.parts)
 
 -- the version stands there, too
 pub ipv4_version : (octets : List ℕ) (payload : Payload) → IsIpv4 octets payload → get_or octets 0 0 / 16 ≡ 4

@@ -11,7 +11,7 @@ use Rattle.capture_frame.specs.Payload.{Payload, Whole, Part}
 use Rattle.capture_frame.specs.Inner.Walk.{IsCut}
 use Rattle.capture_frame.proofs.Chains.{IsWalkable}
 use Rattle.capture_frame.proofs.Only.{IsSame}
-use Rattle.capture_frame.proofs.Cuts.{one_cut, front_within}
+use Rattle.capture_frame.proofs.Cuts.{one_cut}
 
 -- what a packet says of a header that was cut off
 pub record Ipv6At (header behind : List ℕ) (payload : Payload) : Type 0 where
@@ -47,9 +47,6 @@ ipv6_version octets payload ip =
     let first : get_or octets 0 0 ≡ get_or ip.header 0 0 =
     ap (λ (o : List ℕ). get_or o 0 0) ip.parts ∙ get_or_append_left ip.header ip.behind 0 0 (omega (arith, ip.size)) in
     ap (λ (n : ℕ). n / 16) first ∙ ip.version
-
-pub ipv6_needs : (octets : List ℕ) (payload : Payload) → IsIpv6 octets payload → 40 ≤ length octets
-ipv6_needs octets payload ip = omega (arith, ip.size, front_within octets ip.header ip.behind ip.parts)
 
 -- an extension header has eight octets or more
 extension_least : (kind : ℕ) (octets : List ℕ) (n : ℕ) → extension_size kind octets ≡ Some n → 8 ≤ n

@@ -1,9 +1,9 @@
 -- A header of UDP.
-use Rattle.std.proofs.Common.{◌≡◌, ◌∙◌, ℕ, ◌-◌, ◌≤◌, List, length, take, sym, subst, arith}
+use Rattle.std.proofs.Common.{◌≡◌, ◌∙◌, ℕ, ◌-◌, ◌≤◌, List, take, sym, subst}
 use Rattle.capture_frame.specs.Octets.{two_octets}
 use Rattle.capture_frame.specs.Udp.{IsPtpPort, IsUdp}
 use Rattle.capture_frame.specs.Inner.Walk.{IsCut}
-use Rattle.capture_frame.proofs.Cuts.{one_cut, front_within}
+use Rattle.capture_frame.proofs.Cuts.{one_cut}
 
 -- what a datagram says of a header that was cut off
 pub record UdpAt (header behind datagram : List ℕ) : Type 0 where
@@ -20,10 +20,6 @@ udp_at octets header behind datagram cut udp =
       captured = udp.captured;
     } in
     subst (λ (b : List ℕ). UdpAt header b datagram) same.1 (subst (λ (h : List ℕ). UdpAt h udp.behind datagram) same.0 here)
-
--- a header of UDP has eight octets
-pub udp_needs : (octets datagram : List ℕ) → IsUdp octets datagram → 8 ≤ length octets
-udp_needs octets datagram udp = omega (arith, udp.size, front_within octets udp.header udp.behind udp.parts)
 
 pub udp_only : (octets header behind datagram : List ℕ) → IsCut octets 8 header behind → UdpAt header behind datagram
     → IsUdp octets datagram × ((other : List ℕ) → IsUdp octets other → other ≡ datagram)
