@@ -17,7 +17,7 @@ use Rattle.network_model.specs.Numbering.{waiting_sync}
 use Rattle.network_model.specs.Truth.{copy_of}
 use Rattle.network_model.specs.Outcome.{◌>>=◌, node_as, clock_of, reads, outcome_of}
 use Rattle.network_model.proofs.Options.{ok_step}
-use Rattle.network_model.specs.Kinds.{is_sync, is_one_step_sync, draws_sync, is_follow}
+use Rattle.network_model.specs.Kinds.{is_sync, draws_sync}
 use Rattle.network_model.specs.Kinds.{is_request, is_set_master, is_step}
 use Rattle.trace_model.specs.Faithful.{is_effective}
 
@@ -103,18 +103,10 @@ pub sync_certain : (event : Event) → is_sync event ≡ true → is_certain eve
 sync_certain (Sync node at) is = refl
 sync_certain _ is = cc
 
-pub one_step_certain : (event : Event) → is_one_step_sync event ≡ true → is_certain event ≡ true
-one_step_certain (SyncOne node at) is = refl
-one_step_certain _ is = cc
-
 pub draws_certain : (event : Event) → draws_sync event ≡ true → is_certain event ≡ true
 draws_certain (Sync node at) is = refl
 draws_certain (SyncOne node at) is = refl
 draws_certain _ is = cc
-
-pub follow_certain : (event : Event) → is_follow event ≡ true → is_certain event ≡ true
-follow_certain (Follow node) is = refl
-follow_certain _ is = cc
 
 pub request_certain : (event : Event) → is_request event ≡ true → is_certain event ≡ true
 request_certain (Request node at) is = refl

@@ -411,9 +411,7 @@ module _ (premise : Premise)
 -- the reports of a run are those of its lines
 heard_reports : (answer : Heard) → is_some (report_in (heard_out answer)) ≡ is_report answer
 heard_reports answers.Held = refl
-heard_reports answers.Completed = refl
-heard_reports (answers.Report report) = refl
-heard_reports (answers.Ignored reason) = refl
+heard_reports _ = refl
 
 reports_alike : (copy : Option Contents) (outcome : Outcome) (out : TraceOut) → TellsOutcome copy outcome out
     → is_some (report_in out) ≡ answers_report (Ok outcome)

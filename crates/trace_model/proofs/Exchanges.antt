@@ -80,18 +80,14 @@ completing_took (Ok (outcomes.Refused code)) is = cc
 completing_took (Err refusal) is = cc
 
 completes_heard : (answer : Heard) → is_complete answer ≡ true → completes (heard_out answer) ≡ true
-completes_heard answers.Held is = cc
 completes_heard answers.Completed is = refl
 completes_heard (answers.Report report) is = refl
-completes_heard (answers.Ignored reason) is = cc
+completes_heard _ is = cc
 
 completes_out : (copy : Option Contents) (outcome : Outcome) (out : TraceOut) → is_completing (Ok outcome) ≡ true
     → TellsOutcome copy outcome out → completes out ≡ true
-completes_out copy outcomes.Done out is told = cc
-completes_out copy outcomes.Made out is told = cc
-completes_out copy outcomes.Entered out is told = cc
 completes_out copy (outcomes.Heard answer) out is told = ap completes told ∙ completes_heard answer is
-completes_out copy (outcomes.Refused code) out is told = cc
+completes_out copy _ out is told = cc
 
 -- a line whose event completed says so
 pub completes_told : (network : Network) (event : Event) (earlier : Run) (line : TraceLine)

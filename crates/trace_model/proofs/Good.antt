@@ -85,20 +85,12 @@ port_is network node own is = by (kind_of network node) (node_is port_of network
 
 -- what lines have of outcomes
 pub made_told : (copy : Option Contents) (out : TraceOut) → TellsMade copy out → is_made out ≡ true
-made_told copy outs.Done told = absurd told
 made_told copy (outs.Made octets) told = refl
-made_told copy outs.Entered told = absurd told
-made_told copy outs.Held told = absurd told
-made_told copy outs.Completed told = absurd told
-made_told copy (outs.Report report) told = absurd told
-made_told copy (outs.Ignored code) told = absurd told
-made_told copy (outs.Refused code) told = absurd told
+made_told copy _ told = absurd told
 
 heard_told : (answer : Heard) → is_heard (heard_out answer) ≡ true
 heard_told answers.Held = refl
-heard_told answers.Completed = refl
-heard_told (answers.Report report) = refl
-heard_told (answers.Ignored reason) = refl
+heard_told _ = refl
 
 pub the_value : (one other : Outcome) → ◌≡◌ {A = Result Outcome WorldRefusal} (Ok one) (Ok other) → one ≡ other
 the_value one other is = cc
@@ -310,30 +302,20 @@ module _ (network : Network) (earlier : Run) (copy : Option Contents) (outcome :
 -- what a line of such an outcome says
 made_effective : (copy : Option Contents) (out : TraceOut) → TellsMade copy out
     → not (is_refused out || is_ignored out) ≡ true
-made_effective copy outs.Done told = absurd told
 made_effective copy (outs.Made octets) told = refl
-made_effective copy outs.Entered told = absurd told
-made_effective copy outs.Held told = absurd told
-made_effective copy outs.Completed told = absurd told
-made_effective copy (outs.Report report) told = absurd told
-made_effective copy (outs.Ignored code) told = absurd told
-made_effective copy (outs.Refused code) told = absurd told
+made_effective copy _ told = absurd told
 
 heard_effective : (answer : Heard)
     → not (is_refused (heard_out answer) || is_ignored (heard_out answer)) ≡ is_of_use answer
 heard_effective answers.Held = refl
-heard_effective answers.Completed = refl
-heard_effective (answers.Report report) = refl
-heard_effective (answers.Ignored reason) = refl
+heard_effective _ = refl
 
 effective : (copy : Option Contents) (outcome : Outcome) (out : TraceOut) → TellsOutcome copy outcome out
     → not (is_refused out || is_ignored out) ≡ is_effective outcome
-effective copy outcomes.Done out told = ap (λ (o : TraceOut). not (is_refused o || is_ignored o)) told
 effective copy outcomes.Made out told = made_effective copy out told
-effective copy outcomes.Entered out told = ap (λ (o : TraceOut). not (is_refused o || is_ignored o)) told
 effective copy (outcomes.Heard answer) out told =
     ap (λ (o : TraceOut). not (is_refused o || is_ignored o)) told ∙ heard_effective answer
-effective copy (outcomes.Refused code) out told = ap (λ (o : TraceOut). not (is_refused o || is_ignored o)) told
+effective copy _ out told = ap (λ (o : TraceOut). not (is_refused o || is_ignored o)) told
 
 -- each line
 pub each_line_is_good : EachLineIsGood

@@ -157,10 +157,6 @@ bracket_told network run kind e arrival arrived journey a accepted there timed o
     ∙ ap (λ (n : ℕ). (pos (clocks.reading arrival) -ℤ pos n) -ℤ pos (lined.line_residence f.by_lines)) f.origin_read
     ∙ ap (λ (n : ℕ). (pos (clocks.reading arrival) -ℤ pos (clocks.reading journey.origin)) -ℤ pos n) f.residence)
 
--- the correction that a message is drawn with
-drawn_fraction : Event → Run → ℕ
-drawn_fraction event earlier = if is_one_step_sync event then fraction_of (clocks.reading (place event earlier)) else 0
-
 drawn_correction : (network : Network) (event : Event) (earlier : Run) (d : Contents)
     → drawn network event earlier ≡ Some d
     → d.header.correction.0 ≡ pos

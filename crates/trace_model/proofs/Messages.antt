@@ -7,8 +7,8 @@ use Rattle.event_codec.specs.Packet.{Contents}
 use Rattle.master_port.specs.declared.refusal.MasterRefusal.{MasterRefusal}
 use Rattle.master_port.specs.Written.{answer}
 use Rattle.network_model.specs.declared.event.Event.{Event}
-use Rattle.network_model.specs.declared.event.Event.TheVariants.{Sync, SyncOne, Follow, Enter, Leave, Arrive, Hear}
-use Rattle.network_model.specs.declared.event.Event.TheVariants.{Request, Stamped, Tick, SetMaster, StepClock}
+use Rattle.network_model.specs.declared.event.Event.TheVariants.{Follow, Enter, Leave, Arrive, Hear}
+use Rattle.network_model.specs.declared.event.Event.TheVariants.{Stamped, Tick, SetMaster, StepClock}
 use Rattle.network_model.specs.declared.node.NodeKind.{NodeKind}
 use Rattle.network_model.specs.declared.node.NodeKind.TheVariants as kinds
 use Rattle.network_model.specs.declared.refusal.WorldRefusal.TheVariants.{NoCopy, NothingWaiting, ReadingOutOfRange}
@@ -131,13 +131,7 @@ record IsMessageAlone (out : TraceOut) : Type 0 where
 
 alone : (out : TraceOut) → is_made out ≡ true → IsMessageAlone out
 alone (outs.Made octets) is = record { entered = refl; done = refl; heard = refl; refused = refl }
-alone outs.Done is = cc
-alone outs.Entered is = cc
-alone outs.Held is = cc
-alone outs.Completed is = cc
-alone (outs.Report report) is = cc
-alone (outs.Ignored code) is = cc
-alone (outs.Refused code) is = cc
+alone _ is = cc
 
 never : (x y : Bool) → y ≡ false → (x && y) ≡ true → ⊥
 never true y other is = cc
@@ -167,12 +161,6 @@ each_message_is_written network p e tells is = by p.event refl
     outcome_as v same = subst (λ (v : Event). outcome_of network p.earlier v ≡ Ok outcomes.Made) same is
 
     by : (v : Event) → p.event ≡ v → writes_right network e ≡ true
-    by (Sync node at) same =
-        drawn_written network p e accepted tells (ap (λ (v : Event). draws_sync v || is_request v) same)
-    by (SyncOne node at) same =
-        drawn_written network p e accepted tells (ap (λ (v : Event). draws_sync v || is_request v) same)
-    by (Request node at) same =
-        drawn_written network p e accepted tells (ap (λ (v : Event). draws_sync v || is_request v) same)
     by (Leave node transit at) same =
         left_written network node transit at p.earlier e
         (subst (λ (v : Event). TellsPlace network (place v p.earlier) e) same tells)
@@ -203,3 +191,5 @@ each_message_is_written network p e tells is = by p.event refl
     by (StepClock node diff) same =
         absurd (never (is_some (kind_of network node)) (is_done e.line.out) (alone e.line.out made).done
         (good_as (StepClock node diff) same))
+    by _ same =
+        drawn_written network p e accepted tells (ap (λ (v : Event). draws_sync v || is_request v) same)

@@ -41,10 +41,8 @@ identity_decided identity b i = Decides-like (is_identity_at identity b i)
     (bytes_eq-Decides _ _) (Decides-eqb _ _))
 
 pub requesting_decided : (body : Body) (b : List ℕ) → Decides (is_requesting body b) (IsRequesting body b)
-requesting_decided (bodies.Sync origin) b = (λ _. tt, λ _. refl)
-requesting_decided (bodies.DelayReq origin) b = (λ _. tt, λ _. refl)
-requesting_decided (bodies.FollowUp precise) b = (λ _. tt, λ _. refl)
 requesting_decided (bodies.DelayResp receive requesting) b = identity_decided requesting b 44
+requesting_decided _ b = (λ _. tt, λ _. refl)
 
 abbrev Both : Type 0 → Type 0 → Type 0
 Both P Q = P × Q

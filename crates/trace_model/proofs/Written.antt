@@ -41,14 +41,8 @@ use Rattle.trace_model.specs.Journey as lined
 
 -- the octets that tell a message are its octets
 told_written : (m : Contents) (out : TraceOut) → TellsMade (Some m) out → is_written (Some m) out ≡ true
-told_written m outs.Done told = absurd told
 told_written m (outs.Made octets) told = (is_packet-Decides m octets.items).1 told
-told_written m outs.Entered told = absurd told
-told_written m outs.Held told = absurd told
-told_written m outs.Completed told = absurd told
-told_written m (outs.Report report) told = absurd told
-told_written m (outs.Ignored code) told = absurd told
-told_written m (outs.Refused code) told = absurd told
+told_written m _ told = absurd told
 
 -- where the lines before a line ask for the copy that its event made
 pub written : (network : Network) (p : Place) (e : LinePlace) (m : Contents) → TellsPlace network p e
