@@ -1,15 +1,10 @@
 -- Quotients: what a dividend and its divisor are by the quotient and the remainder.
-use Rattle.std.proofs.Common.{◌≡◌, ◌∙◌, ℕ, zero, suc, ◌+◌, ◌-◌, ◌*◌, ◌/◌, ◌%◌, ◌^◌, ◌<◌, ◌≤◌, refl, sym, ap, subst, arith}
+use Rattle.std.proofs.Common.{◌≡◌, ◌∙◌, ℕ, zero, suc, ◌+◌, ◌-◌, ◌*◌, ◌/◌, ◌%◌, ◌^◌, ◌<◌, ◌≤◌, sym, ap, subst, arith}
 use Rattle.std.specs.Prelude.{ℤ, pos, negsuc, ◌+ℤ◌, ◌-ℤ◌, ◌*ℤ◌}
 use Rattle.std.proofs.Math.Nat.{add-mul, mul_assoc, mul_comm, mul-le-mul_right, le_of_mul-le-mul_right, div-mul-le_self}
 use Rattle.std.proofs.lemmas.Nat.{div-mul-add, mod-mul-add}
 use Rattle.std.proofs.lemmas.Int.{ints}
 use Rattle.tap_sums.specs.Rounded.{floor, remainder, next_to, rounded}
-
--- the floor and the remainder of a quotient of which these are, raised by so many divisors
-record Divides (n : ℤ) (raised whole rest divisor : ℕ) : Type 0 where
-  below : rest < divisor
-  is : n +ℤ pos (raised * divisor) ≡ pos (whole * divisor + rest)
 
 floor_up : (m k rest divisor : ℕ) → rest < divisor → m ≡ k * divisor + rest
     → (floor (pos m) divisor ≡ pos k) × (remainder (pos m) divisor ≡ rest)

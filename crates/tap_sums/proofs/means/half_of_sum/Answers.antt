@@ -1,6 +1,6 @@
 use mir.Val.{to_z, of_z}
-use Rattle.std.proofs.Common.{◌≡◌, ◌∙◌, sym, ap, arith, rules, FitsSigned, ℕ}
-use Rattle.std.specs.Prelude.{◌+◌, ◌-◌, ◌*◌, ℤ, pos, ◌-ℤ◌, ◌+ℤ◌}
+use Rattle.std.proofs.Common.{◌∙◌, sym, arith, rules, FitsSigned}
+use Rattle.std.specs.Prelude.{◌+◌, ◌-◌, ◌*◌, pos, ◌-ℤ◌, ◌+ℤ◌}
 use Rattle.std.specs.Int.{w128}
 use Rattle.std.proofs.lemmas.Int.{to_z-of_z, ints}
 use Rattle.std.specs.Prelude.{◌/◌, ◌%◌}
