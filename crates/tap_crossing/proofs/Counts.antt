@@ -22,8 +22,7 @@ open_number-below (standings.Open met) =
     let f = filled met in
     let below : number_of f < 16 =
     omega (arith, bit-below f.first, bit-below f.second, bit-below f.at_from, bit-below f.at_to) in below
-open_number-below standings.Spoiled = search
-open_number-below standings.Closed = search
+open_number-below _ = search
 
 length-more : (o : Option ℕ) (xs : List ℕ) → length (one_more o xs) ≡ length xs
 length-more None xs = refl

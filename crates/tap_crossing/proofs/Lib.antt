@@ -1,4 +1,4 @@
-mod Captured
 mod Counts
 mod Tables
-mod Worked
+pub mod Worked
+mod Captured

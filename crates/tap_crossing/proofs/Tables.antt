@@ -1,23 +1,18 @@
 -- Tables that hold the last records, and what they hold after a message.
-use Rattle.std.proofs.Common.{subst, ◌≡◌, ◌∙◌, ℕ, List, ◌∷◌, [], take, sym, ap, Option, Some, None, if◌then◌else◌, unwrap_or}
-use Rattle.pairing.specs.Marked.{Entry, Marked, entry, empty, newest_first, first_value, replace_first, find}
-use Rattle.pairing.proofs.Lists.{take-more, take-nil}
+use Rattle.std.proofs.Common.{subst, ◌≡◌, ◌∙◌, ℕ, List, ◌∷◌, take, sym, ap, Option, Some, None, if◌then◌else◌, unwrap_or}
+use Rattle.pairing.specs.Marked.{Entry, Marked, entry, newest_first, first_value, replace_first, find}
+use Rattle.pairing.proofs.Lists.{take-more}
 use Rattle.pairing.proofs.Laws.{newest_first-push, newest_first-set, take-replace_first}
 use Rattle.tap_crossing.specs.declared.sighting.Kind.{Kind}
 use Rattle.tap_crossing.specs.declared.sighting.Kind.TheVariants as kinds
 use Rattle.tap_crossing.specs.declared.sighting.Placed.{Placed}
 use Rattle.tap_crossing.specs.declared.places.Record.{Record}
 use Rattle.tap_crossing.specs.Records.{unclosed, with, new_record, joined, open_record, records, is_same_kind}
-use Rattle.tap_crossing.specs.Told.{comes_to}
 use Rattle.tap_crossing.specs.StandsFor.{Tables, StandsFor}
 use Rattle.tap_crossing.specs.Open.{HoldsOpen}
 use Rattle.tap_crossing.specs.Inner.Counted.{recounted}
-use Rattle.tap_crossing.specs.Inner.Kept.{kept, told_in}
+use Rattle.tap_crossing.specs.Inner.Kept.{kept}
 use Rattle.tap_crossing.proofs.Counts.{holds-recounted}
-
--- one that is empty
-pub held-empty : (capacity : ℕ) (table : Marked Record) → table ≡ empty → newest_first table ≡ take capacity []
-held-empty capacity table is = ap newest_first is ∙ sym (take-nil capacity)
 
 module _ (capacity : ℕ) (p : Placed) (table : Marked Record) (all : List (Entry Record))
     (held : newest_first table ≡ take capacity all) where
@@ -39,11 +34,6 @@ module _ (capacity : ℕ) (p : Placed) (table : Marked Record) (all : List (Entr
       ≡ take capacity (joined p (open_record capacity p.number.0 all) all)
   held-kept =
       joins (unclosed (find p.number.0 table)) ∙ ap (λ (r : Option Record). take capacity (joined p r all)) found
-
-  -- and this is told
-  pub told-held : told_in p (unclosed (find p.number.0 table))
-      ≡ comes_to p (unwrap_or (open_record capacity p.number.0 all) new_record)
-  told-held = ap (told_in p) found
 
 -- what is kept stands for one more Sync or Follow_Up
 pub stands-sync : {capacity : ℕ} {met : List Placed} {old : Tables} (p : Placed) (new : Marked Record) (counts : List ℕ) → p.kind ≡ kinds.Sync

@@ -1,12 +1,13 @@
 -- Worked cases: messages that are met at two taps, in units.
 use Rattle.std.proofs.Common.{◌≡◌, ℕ, ℤ, pos, negsuc, Bool, true, false, List, [], ◌∷◌, Some, None, Option, refl}
-use Rattle.ptp_units.specs.Moment.{stamp}
+use Rattle.ptp_units.specs.Moment.{Stamp, stamp}
 use Rattle.tap_crossing.specs.declared.sighting.Fields.{Fields}
 use Rattle.tap_crossing.specs.declared.sighting.Kind.{Kind}
 use Rattle.tap_crossing.specs.declared.sighting.Kind.TheVariants as kinds
 use Rattle.tap_crossing.specs.declared.sighting.Place.{Place}
 use Rattle.tap_crossing.specs.declared.sighting.Place.TheVariants as places
 use Rattle.tap_crossing.specs.declared.sighting.Placed.{Placed}
+use Rattle.tap_crossing.specs.declared.sighting.Sighting.{Sighting}
 use Rattle.tap_crossing.specs.declared.crossing.Crossing.{Crossing}
 use Rattle.tap_crossing.specs.declared.crossing.NoCrossing.TheVariants as reasons
 use Rattle.tap_crossing.specs.declared.crossing.MessageOutcome.TheVariants as outcomes
@@ -16,7 +17,7 @@ use Rattle.tap_crossing.specs.Records.{records}
 use Rattle.tap_crossing.specs.Told.{told}
 
 -- the other fields, unless they change
-abbrev alike : Fields
+abbrev pub alike : Fields
 alike = record {
   major_sdo = 0;
   minor_sdo = 0;
@@ -27,21 +28,29 @@ alike = record {
   log = pos 0;
 }
 
--- a message of this number: its place, line, time, correction, the seconds of its timestamp, and whether another tells that
-abbrev message : Kind → (number : ℕ) → Place → (line time : ℕ) → (correction : ℤ) → (seconds : ℕ) → Bool → Placed
-message kind number place line time correction seconds needs_other = record {
+-- what was met: its line, time, correction, timestamp, and whether another tells that
+abbrev pub sighting : (line time : ℕ) → (correction : ℤ) → Stamp → Bool → Sighting
+sighting line time correction timestamp needs_other = record {
+  line = line;
+  time = time;
+  correction = record { 0 = correction };
+  timestamp = timestamp;
+  needs_other = needs_other;
+  fields = alike;
+}
+
+-- a message of this number and this place
+abbrev pub met_at : Kind → (number : ℕ) → Place → (line time : ℕ) → (correction : ℤ) → Stamp → Bool → Placed
+met_at kind number place line time correction timestamp needs_other = record {
   kind = kind;
   number = record { 0 = number };
   place = place;
-  sighting = record {
-    line = line;
-    time = time;
-    correction = record { 0 = correction };
-    timestamp = stamp seconds 0;
-    needs_other = needs_other;
-    fields = alike;
-  };
+  sighting = sighting line time correction timestamp needs_other;
 }
+
+-- the same with the seconds of its timestamp
+abbrev message : Kind → (number : ℕ) → Place → (line time : ℕ) → (correction : ℤ) → (seconds : ℕ) → Bool → Placed
+message kind number place line time correction seconds needs_other = met_at kind number place line time correction (stamp seconds 0) needs_other
 
 abbrev two_step : (number : ℕ) → Place → (line time : ℕ) → (correction : ℤ) → Placed
 two_step number place line time correction = message kinds.Sync number place line time correction 0 true
@@ -52,11 +61,11 @@ one_step number place line time correction = message kinds.Sync number place lin
 abbrev follow_up : (number : ℕ) → Place → (line : ℕ) → (correction : ℤ) → (seconds : ℕ) → Placed
 follow_up number place line correction seconds = message kinds.Sync number place line 0 correction seconds false
 
--- a crossing of 7 with these lines
-abbrev crossed : Kind → (time : ℕ) → (taken corrected rest : ℤ) → (first_line second_line : ℕ) → (from_line to_line : Option ℕ) → Crossing
-crossed kind time taken corrected rest first_line second_line from_line to_line = record {
+-- a crossing of this number with these lines
+abbrev pub crossing_of : Kind → (number time : ℕ) → (taken corrected rest : ℤ) → (first_line second_line : ℕ) → (from_line to_line : Option ℕ) → Crossing
+crossing_of kind number time taken corrected rest first_line second_line from_line to_line = record {
   kind = kind;
-  number = record { 0 = 7 };
+  number = record { 0 = number };
   time = time;
   taken = taken;
   corrected = corrected;
@@ -68,6 +77,10 @@ crossed kind time taken corrected rest first_line second_line from_line to_line 
   event_changes = no_changes;
   other_changes = no_changes;
 }
+
+-- one of 7
+abbrev crossed : Kind → (time : ℕ) → (taken corrected rest : ℤ) → (first_line second_line : ℕ) → (from_line to_line : Option ℕ) → Crossing
+crossed kind = crossing_of kind 7
 
 -- a clock of two steps that tells 1 less than it should
 abbrev met : List Placed
