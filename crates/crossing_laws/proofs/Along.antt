@@ -57,9 +57,7 @@ grown_by c stay small = grind (arith, ints, nat_tests)
 -- a stay changes a message's correction alone
 same_needs : (m : Contents) (stay : ℕ) (body : Body) → needs_other (resided m stay).header body ≡ needs_other m.header body
 same_needs m stay (bodies.Sync origin) = refl
-same_needs m stay (bodies.DelayReq origin) = refl
-same_needs m stay (bodies.FollowUp precise) = refl
-same_needs m stay (bodies.DelayResp receive requesting) = refl
+same_needs m stay _ = refl
 
 later_more : (m before later : Contents) (by stay : ℕ) → IsLater m before by → later ≡ resided before stay → IsLater m later (stay + by)
 later_more m before later by stay is same = subst (λ (c : Contents). IsLater m c (stay + by)) (sym same) (record {

@@ -287,15 +287,13 @@ are_with network run p places.AtTo s met tells are = record { first = are.first;
 read_with : (p : Passage) (place : RecordPlace) (s : Sighting) (met : Places) → IsReadAt p place s.time → AreRead p met → AreRead p (with_place place s met)
 read_with p places.First s met is read = record { first = is; second = read.second }
 read_with p places.Second s met is read = record { first = read.first; second = is }
-read_with p places.AtFrom s met is read = record { first = read.first; second = read.second }
-read_with p places.AtTo s met is read = record { first = read.first; second = read.second }
+read_with p _ s met is read = record { first = read.first; second = read.second }
 
 tapped_with : (ahead : Tap → ℤ) (kind : Kind) (p : Passage) (place : RecordPlace) (s : Sighting) (met : Places) → IsTappedAt ahead kind p place s.time
     → AreTapped (ahead (first_tap kind)) (ahead (second_tap kind)) p met → AreTapped (ahead (first_tap kind)) (ahead (second_tap kind)) p (with_place place s met)
 tapped_with ahead kind p places.First s met is tapped = record { first = is; second = tapped.second }
 tapped_with ahead kind p places.Second s met is tapped = record { first = tapped.first; second = is }
-tapped_with ahead kind p places.AtFrom s met is tapped = record { first = tapped.first; second = tapped.second }
-tapped_with ahead kind p places.AtTo s met is tapped = record { first = tapped.first; second = tapped.second }
+tapped_with ahead kind p _ s met is tapped = record { first = tapped.first; second = tapped.second }
 
 -- a clock tells what it did
 pub a_clock_tells : AClockTellsWhatItDid

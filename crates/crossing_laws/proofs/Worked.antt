@@ -1,7 +1,7 @@
 -- Worked cases: lines at both ports of a clock, of which nothing rests, and what rests where a premise is missing.
 -- Times are those of an exchange of real equipment behind a transparent clock: it kept the Sync for 45,301 ns, and the Delay_Req
 -- for 30,017 ns.
-use Rattle.std.proofs.Common.{◌≡◌, ◌∙◌, ℕ, suc, zero, ℤ, true, false, sym, ap, ◌*◌, ◌+◌, pos, ◌+ℤ◌, ◌-ℤ◌, refl, List, [], ◌∷◌, reverse, take, Option, Some, option_map}
+use Rattle.std.proofs.Common.{◌≡◌, ◌∙◌, ℕ, suc, zero, ℤ, true, false, sym, ap, ◌*◌, ◌+◌, pos, ◌+ℤ◌, ◌-ℤ◌, refl, List, [], ◌∷◌, reverse, take, Option, Some, option_map, rules}
 use Rattle.ptp_units.specs.Moment.{stamp}
 use Rattle.event_codec.specs.declared.message.Body.{Body}
 use Rattle.event_codec.specs.declared.message.Body.TheVariants as bodies
@@ -18,17 +18,21 @@ use Rattle.network_model.proofs.Accepted.{IsRun-test}
 use Rattle.network_model.proofs.Worked.{m, s, t, a, m_config, s_config, at, master, slave, clock}
 use Rattle.tap_crossing.specs.declared.sighting.Kind.{Kind}
 use Rattle.tap_crossing.specs.declared.sighting.Kind.TheVariants as kinds
+use Rattle.tap_crossing.specs.declared.sighting.Place.{Place as RecordPlace}
+use Rattle.tap_crossing.specs.declared.sighting.Placed.{Placed}
+use Rattle.tap_crossing.specs.declared.sighting.Sighting.{Sighting}
 use Rattle.tap_crossing.specs.declared.sighting.Tap.{Tap}
 use Rattle.tap_crossing.specs.declared.sighting.Tap.TheVariants as taps
 use Rattle.tap_crossing.specs.declared.watched.Watched.{Watched}
+use Rattle.tap_crossing.specs.declared.crossing.Crossing.{Crossing}
 use Rattle.tap_crossing.specs.declared.crossing.MessageOutcome.{MessageOutcome}
 use Rattle.tap_crossing.specs.declared.crossing.MessageOutcome.TheVariants as outcomes
-use Rattle.tap_crossing.specs.Changes.{no_changes}
 use Rattle.tap_crossing.specs.Placed.{needs_other}
 use Rattle.tap_crossing.specs.Told.{told}
-use Rattle.crossing_laws.specs.Told.{Moved, Passage, IsEven, message_at}
+use Rattle.tap_crossing.proofs.Worked.{crossing_of}
+use Rattle.crossing_laws.specs.Told.{Moved, Passage, IsEven, Keeps, Tells, message_at, message_told, moved_at}
 use Rattle.crossing_laws.specs.Way.{IsStay, IsWay, Leg, Cable, Clock, cables}
-use Rattle.crossing_laws.specs.Lines.{Met, placed_of, followed, EachIs, AreApart, EachRests, IsOfClock, IsOfWay, first_tap, second_tap}
+use Rattle.crossing_laws.specs.Lines.{Met, placed_of, followed, EachIs, AreApart, EachRests, IsReadAt, IsTappedAt, IsOfClock, IsOfWay, first_tap, second_tap}
 use Rattle.crossing_laws.proofs.Lines.{a_clock_tells, what_rests}
 
 -- a message of this source with a correction in ns; of a two-step Sync where the first octet of its flags is 2
@@ -118,20 +122,8 @@ outcomes_of = outcomes_under watched
 
 -- a crossing of which nothing rests
 abbrev exact : Kind → (number time kept first_line second_line from_line to_line : ℕ) → Option MessageOutcome
-exact kind number time kept first_line second_line from_line to_line = Some (outcomes.Crossed (record {
-  kind = kind;
-  number = record { 0 = number };
-  time = time;
-  taken = pos (kept * 65536);
-  corrected = pos (kept * 65536);
-  rest = pos 0;
-  first_line = first_line;
-  second_line = second_line;
-  from_line = Some from_line;
-  to_line = Some to_line;
-  event_changes = no_changes;
-  other_changes = no_changes;
-}))
+exact kind number time kept first_line second_line from_line to_line = Some (outcomes.Crossed
+    (crossing_of kind number time (pos (kept * 65536)) (pos (kept * 65536)) (pos 0) first_line second_line (Some from_line) (Some to_line)))
 
 abbrev waits : Option MessageOutcome
 waits = Some outcomes.Waits
@@ -170,80 +162,24 @@ unmoved : (n : ℕ) → IsEven network (passages n)
 unmoved zero = record { whole = refl; alone = λ m told none. refl }
 unmoved (suc n) = record { whole = refl; alone = λ m told none. refl }
 
+-- what is met tells the message that is told there
+pub it_tells : {network : Network} {run : Run} {p : Passage} {place : RecordPlace} {s : Sighting} {m : Contents}
+    → message_told network run p place ≡ Some m → Keeps (moved_at p.moved place) m s → Tells network run p place s
+it_tells is_told keeps = record { m = _; is_told = is_told; keeps = keeps }
+
+of_sync : {message : Placed} {m : Contents} → message_told network run (passages 0) message.place ≡ Some m
+    → Keeps (moved_at (passages 0).moved message.place) m message.sighting
+    → IsReadAt (passages 0) message.place message.sighting.time → IsOfClock network run t (passages 0) message
+of_sync is_told keeps read = record { there = refl; stay = sync_stay; even = unmoved 0; tells = it_tells is_told keeps; read = read }
+
+of_request : {message : Placed} {m : Contents} → message_told network run (passages 1) message.place ≡ Some m
+    → Keeps (moved_at (passages 1).moved message.place) m message.sighting
+    → IsReadAt (passages 1) message.place message.sighting.time → IsOfClock network run t (passages 1) message
+of_request is_told keeps read = record { there = refl; stay = request_stay; even = unmoved 1; tells = it_tells is_told keeps; read = read }
+
 each_is : EachIs (λ n. IsOfClock network run t (passages n)) watched lines
-each_is = (
-  record {
-    there = refl;
-    stay = request_stay;
-    even = unmoved 1;
-    tells = record { m = _; is_told = refl; keeps = record { correction = refl; too_big = λ small. small; timestamp = refl; needs_other = refl } };
-    read = tt;
-  },
-  (
-    record {
-      there = refl;
-      stay = request_stay;
-      even = unmoved 1;
-      tells = record { m = _; is_told = refl; keeps = record { correction = refl; too_big = λ small. small; timestamp = refl; needs_other = refl } };
-      read = refl;
-    },
-    (
-      record {
-        there = refl;
-        stay = sync_stay;
-        even = unmoved 0;
-        tells = record { m = _; is_told = refl; keeps = record { correction = refl; too_big = λ small. small; timestamp = refl; needs_other = refl } };
-        read = tt;
-      },
-      (
-        record {
-          there = refl;
-          stay = sync_stay;
-          even = unmoved 0;
-          tells = record { m = _; is_told = refl; keeps = record { correction = refl; too_big = λ small. small; timestamp = refl; needs_other = refl } };
-          read = refl;
-        },
-        (
-          record {
-            there = refl;
-            stay = request_stay;
-            even = unmoved 1;
-            tells = record { m = _; is_told = refl; keeps = record { correction = refl; too_big = λ small. small; timestamp = refl; needs_other = refl } };
-            read = tt;
-          },
-          (
-            record {
-              there = refl;
-              stay = request_stay;
-              even = unmoved 1;
-              tells = record { m = _; is_told = refl; keeps = record { correction = refl; too_big = λ small. small; timestamp = refl; needs_other = refl } };
-              read = refl;
-            },
-            (
-              record {
-                there = refl;
-                stay = sync_stay;
-                even = unmoved 0;
-                tells = record { m = _; is_told = refl; keeps = record { correction = refl; too_big = λ small. small; timestamp = refl; needs_other = refl } };
-                read = tt;
-              },
-              (
-                record {
-                  there = refl;
-                  stay = sync_stay;
-                  even = unmoved 0;
-                  tells = record { m = _; is_told = refl; keeps = record { correction = refl; too_big = λ small. small; timestamp = refl; needs_other = refl } };
-                  read = refl;
-                },
-                tt,
-              ),
-            ),
-          ),
-        ),
-      ),
-    ),
-  ),
-)
+each_is =
+    (of_request refl (search rules) tt, (of_request refl (search rules) refl, (of_sync refl (search rules) tt, (of_sync refl (search rules) refl, (of_request refl (search rules) tt, (of_request refl (search rules) refl, (of_sync refl (search rules) tt, (of_sync refl (search rules) refl, tt))))))))
 
 are_apart : AreApart watched lines
 are_apart = (refl, (refl, (refl, (refl, (refl, (refl, (refl, (refl, tt))))))))
@@ -264,21 +200,14 @@ ports =
     ∷ line taps.To 2 (at 1795329064 941818117 0) (follow_up 45301) 0
     ∷ line taps.To 1 (at 1795329064 941800693 0) (sync 0) 0 ∷ []
 
-abbrev pub resting : Kind → (number time kept rest first_line second_line from_line to_line : ℕ) → Option MessageOutcome
-resting kind number time kept rest first_line second_line from_line to_line = Some (outcomes.Crossed (record {
-  kind = kind;
-  number = record { 0 = number };
-  time = time;
-  taken = pos ((kept + rest) * 65536);
-  corrected = pos (kept * 65536);
-  rest = pos (rest * 65536);
-  first_line = first_line;
-  second_line = second_line;
-  from_line = Some from_line;
-  to_line = Some to_line;
-  event_changes = no_changes;
-  other_changes = no_changes;
-}))
+abbrev pub rests : Kind → (number time kept rest first_line second_line from_line to_line : ℕ) → Crossing
+rests kind number time kept rest first_line second_line from_line to_line =
+    crossing_of kind number time (pos ((kept + rest) * 65536)) (pos (kept * 65536)) (pos (rest * 65536)) first_line second_line
+    (Some from_line) (Some to_line)
+
+abbrev resting : Kind → (number time kept rest first_line second_line from_line to_line : ℕ) → Option MessageOutcome
+resting kind number time kept rest first_line second_line from_line to_line =
+    Some (outcomes.Crossed (rests kind number time kept rest first_line second_line from_line to_line))
 
 -- 1,400 ns rest of the Sync, and 2,619 ns of the Delay_Req: the cables
 told_of_ports : outcomes_of ports ≡ resting kinds.DelayReq 0 (at 1795329064 967344715 0) 30017 2619 3 7 8 4 ∷ waits
@@ -328,80 +257,21 @@ way_there = (refl, (refl, sync_stay, (refl, refl)))
 pub way_back : IsWay (whole 1).first (whole 1).second (ways 1)
 way_back = (refl, (refl, request_stay, (refl, refl)))
 
+of_way_there : {message : Placed} {m : Contents} → message_told network run (whole 0) message.place ≡ Some m
+    → Keeps (moved_at (whole 0).moved message.place) m message.sighting
+    → IsTappedAt ahead message.kind (whole 0) message.place message.sighting.time → IsOfWay network run ahead (ways 0) (whole 0) message
+of_way_there is_told keeps tapped =
+    record { there = refl; way = way_there; even = evenly_moved 0; tells = it_tells is_told keeps; tapped = tapped }
+
+of_way_back : {message : Placed} {m : Contents} → message_told network run (whole 1) message.place ≡ Some m
+    → Keeps (moved_at (whole 1).moved message.place) m message.sighting
+    → IsTappedAt ahead message.kind (whole 1) message.place message.sighting.time → IsOfWay network run ahead (ways 1) (whole 1) message
+of_way_back is_told keeps tapped =
+    record { there = refl; way = way_back; even = evenly_moved 1; tells = it_tells is_told keeps; tapped = tapped }
+
 each_way : EachIs (λ n. IsOfWay network run ahead (ways n) (whole n)) watched ports
-each_way = (
-  record {
-    there = refl;
-    way = way_back;
-    even = evenly_moved 1;
-    tells = record { m = _; is_told = refl; keeps = record { correction = refl; too_big = λ small. small; timestamp = refl; needs_other = refl } };
-    tapped = tt;
-  },
-  (
-    record {
-      there = refl;
-      way = way_back;
-      even = evenly_moved 1;
-      tells = record { m = _; is_told = refl; keeps = record { correction = refl; too_big = λ small. small; timestamp = refl; needs_other = refl } };
-      tapped = refl;
-    },
-    (
-      record {
-        there = refl;
-        way = way_there;
-        even = evenly_moved 0;
-        tells = record { m = _; is_told = refl; keeps = record { correction = refl; too_big = λ small. small; timestamp = refl; needs_other = refl } };
-        tapped = tt;
-      },
-      (
-        record {
-          there = refl;
-          way = way_there;
-          even = evenly_moved 0;
-          tells = record { m = _; is_told = refl; keeps = record { correction = refl; too_big = λ small. small; timestamp = refl; needs_other = refl } };
-          tapped = refl;
-        },
-        (
-          record {
-            there = refl;
-            way = way_back;
-            even = evenly_moved 1;
-            tells = record { m = _; is_told = refl; keeps = record { correction = refl; too_big = λ small. small; timestamp = refl; needs_other = refl } };
-            tapped = tt;
-          },
-          (
-            record {
-              there = refl;
-              way = way_back;
-              even = evenly_moved 1;
-              tells = record { m = _; is_told = refl; keeps = record { correction = refl; too_big = λ small. small; timestamp = refl; needs_other = refl } };
-              tapped = refl;
-            },
-            (
-              record {
-                there = refl;
-                way = way_there;
-                even = evenly_moved 0;
-                tells = record { m = _; is_told = refl; keeps = record { correction = refl; too_big = λ small. small; timestamp = refl; needs_other = refl } };
-                tapped = tt;
-              },
-              (
-                record {
-                  there = refl;
-                  way = way_there;
-                  even = evenly_moved 0;
-                  tells = record { m = _; is_told = refl; keeps = record { correction = refl; too_big = λ small. small; timestamp = refl; needs_other = refl } };
-                  tapped = refl;
-                },
-                tt,
-              ),
-            ),
-          ),
-        ),
-      ),
-    ),
-  ),
-)
+each_way =
+    (of_way_back refl (search rules) tt, (of_way_back refl (search rules) refl, (of_way_there refl (search rules) tt, (of_way_there refl (search rules) refl, (of_way_back refl (search rules) tt, (of_way_back refl (search rules) refl, (of_way_there refl (search rules) tt, (of_way_there refl (search rules) refl, tt))))))))
 
 cables_rest : EachRests (λ kind n. time_on (cables (ways n)) +ℤ (ahead (second_tap kind) -ℤ ahead (first_tap kind))) watched ports
 cables_rest = what_rests network run (λ n. ahead) ways whole watched ports accepted refl each_way

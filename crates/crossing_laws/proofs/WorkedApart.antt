@@ -1,5 +1,5 @@
 -- Worked cases: what rests of a clock where a premise is missing.
-use Rattle.std.proofs.Common.{◌≡◌, ℕ, ◌*◌, ◌+◌, pos, refl, List, [], ◌∷◌, reverse, take, Option, Some, None}
+use Rattle.std.proofs.Common.{◌≡◌, ℕ, ◌*◌, ◌+◌, pos, refl, List, [], ◌∷◌, reverse, take, Option, Some, None, rules}
 use Rattle.ptp_units.specs.Moment.{stamp}
 use Rattle.ptp_units.specs.Sequence.{of_count}
 use Rattle.event_codec.specs.declared.message.Body.TheVariants as bodies
@@ -16,10 +16,10 @@ use Rattle.tap_crossing.specs.declared.sighting.Placed.{Placed}
 use Rattle.tap_crossing.specs.declared.crossing.NoCrossing.TheVariants as reasons
 use Rattle.tap_crossing.specs.declared.crossing.MessageOutcome.{MessageOutcome}
 use Rattle.tap_crossing.specs.declared.crossing.MessageOutcome.TheVariants as outcomes
-use Rattle.tap_crossing.specs.Changes.{no_changes}
+use Rattle.tap_crossing.proofs.Worked.{crossing_of}
 use Rattle.crossing_laws.specs.Told.{Passage, Tells}
 use Rattle.crossing_laws.specs.Lines.{Met, EachIs, AreApart, IsReadAt, by_passages, own, waiting, newest_of}
-use Rattle.crossing_laws.proofs.Worked.{message, line, watched, network, outcomes_of, none_moved}
+use Rattle.crossing_laws.proofs.Worked.{message, line, watched, network, outcomes_of, none_moved, it_tells}
 
 -- a one-step Sync that leaves the master at 1.000000001 s
 abbrev sync : (number correction : ℕ) → Contents
@@ -27,20 +27,8 @@ sync number correction = message m_config.identity 0 number 0 correction (bodies
 
 -- a Sync of which so many nanoseconds rest
 abbrev crossed : (first_line second_line first taken corrected : ℕ) → (rest : ℕ) → Option MessageOutcome
-crossed first_line second_line first taken corrected rest = Some (outcomes.Crossed (record {
-  kind = kinds.Sync;
-  number = record { 0 = 7 };
-  time = at 1 first 0;
-  taken = pos (taken * 65536);
-  corrected = pos (corrected * 65536);
-  rest = pos (rest * 65536);
-  first_line = first_line;
-  second_line = second_line;
-  from_line = None;
-  to_line = None;
-  event_changes = no_changes;
-  other_changes = no_changes;
-}))
+crossed first_line second_line first taken corrected rest = Some (outcomes.Crossed
+    (crossing_of kinds.Sync 7 (at 1 first 0) (pos (taken * 65536)) (pos (corrected * 65536)) (pos (rest * 65536)) first_line second_line None None))
 
 -- all that the law asks of a line, but that its passage is a stay in the clock
 abbrev IsRead : Run → Passage → ℕ → Placed → Type 0
@@ -69,10 +57,7 @@ first_and_last = record {
 }
 
 twice_told : EachIs (IsRead (twice_after 4) first_and_last) watched entered_twice
-twice_told = (
-  (record { m = _; is_told = refl; keeps = record { correction = refl; too_big = λ small. small; timestamp = refl; needs_other = refl } }, refl),
-  ((record { m = _; is_told = refl; keeps = record { correction = refl; too_big = λ small. small; timestamp = refl; needs_other = refl } }, refl), tt),
-)
+twice_told = ((it_tells refl (search rules), refl), ((it_tells refl (search rules), refl), tt))
 
 twice_apart : AreApart watched entered_twice
 twice_apart = (refl, (refl, tt))
@@ -102,10 +87,7 @@ round_told_by = record {
 }
 
 round_told : EachIs (IsRead (round_after 4) round_told_by) watched went_round
-round_told = (
-  (record { m = _; is_told = refl; keeps = record { correction = refl; too_big = λ small. small; timestamp = refl; needs_other = refl } }, refl),
-  ((record { m = _; is_told = refl; keeps = record { correction = refl; too_big = λ small. small; timestamp = refl; needs_other = refl } }, refl), tt),
-)
+round_told = ((it_tells refl (search rules), refl), ((it_tells refl (search rules), refl), tt))
 
 round_apart : AreApart watched went_round
 round_apart = (refl, (refl, tt))
@@ -130,20 +112,9 @@ first_enters = line taps.From 2 (at 1 900 0) follow_up 0 ∷ line taps.From 1 (a
 abbrev same_again : List Met
 same_again = line taps.To 4 (at 1 9801 0) follow_up 0 ∷ line taps.To 3 (at 1 9701 0) (two_step 4000) 1 ∷ first_enters
 
-again_rests : outcomes_of same_again ≡ Some (outcomes.Crossed (record {
-  kind = kinds.Sync;
-  number = record { 0 = 7 };
-  time = at 1 701 0;
-  taken = pos (9000 * 65536);
-  corrected = pos (4000 * 65536);
-  rest = pos (5000 * 65536);
-  first_line = 1;
-  second_line = 3;
-  from_line = Some 2;
-  to_line = Some 4;
-  event_changes = no_changes;
-  other_changes = no_changes;
-})) ∷ Some outcomes.Waits ∷ Some outcomes.Waits ∷ Some outcomes.Waits ∷ []
+again_rests : outcomes_of same_again
+    ≡ Some (outcomes.Crossed (crossing_of kinds.Sync 7 (at 1 701 0) (pos (9000 * 65536)) (pos (4000 * 65536)) (pos (5000 * 65536)) 1 3 (Some 2) (Some 4)))
+    ∷ Some outcomes.Waits ∷ Some outcomes.Waits ∷ Some outcomes.Waits ∷ []
 again_rests = refl
 
 -- the second finds a record that isn't its own, and has none

@@ -1,6 +1,6 @@
 -- A worked case: the report of a slave behind a clock, and the crossings of its Sync and its Delay_Req between the ports of master and
 -- slave, which one clock stamps that is 100 ns ahead.
-use Rattle.std.proofs.Common.{◌≡◌, ℕ, ℤ, ◌*◌, ◌+◌, pos, negsuc, ◌+ℤ◌, ◌-ℤ◌, Bool, true, false, [], ◌∷◌, refl, arith, Some}
+use Rattle.std.proofs.Common.{◌≡◌, ℕ, ℤ, ◌*◌, pos, negsuc, ◌+ℤ◌, ◌-ℤ◌, Bool, true, false, refl, arith, rules, Some}
 use Rattle.ptp_units.specs.Moment.{Stamp, stamp}
 use Rattle.slave_port.specs.declared.heard.Report.{Report}
 use Rattle.network_model.specs.declared.event.Event.TheVariants.{Sync, Arrive, Request, Hear}
@@ -13,17 +13,15 @@ use Rattle.network_model.proofs.Accepted.{IsNetwork-test}
 use Rattle.network_model.proofs.Reach.{for_slave}
 use Rattle.network_model.proofs.Short.{IsFresh-short, IsTicked-short}
 use Rattle.network_model.proofs.Worked.{m, s, at}
-use Rattle.tap_crossing.specs.declared.sighting.Fields.{Fields}
-use Rattle.tap_crossing.specs.declared.sighting.Kind.{Kind}
 use Rattle.tap_crossing.specs.declared.sighting.Kind.TheVariants as kinds
 use Rattle.tap_crossing.specs.declared.sighting.Place.TheVariants as places
 use Rattle.tap_crossing.specs.declared.sighting.Sighting.{Sighting}
 use Rattle.tap_crossing.specs.declared.places.Places.{Places}
 use Rattle.tap_crossing.specs.declared.crossing.Crossing.{Crossing}
-use Rattle.tap_crossing.specs.Changes.{no_changes}
+use Rattle.tap_crossing.proofs.Worked.{met_at, sighting as seen}
 use Rattle.crossing_laws.specs.Asymmetry.{IsCrossingOn}
 use Rattle.crossing_laws.proofs.Asymmetry.{shows_asymmetry}
-use Rattle.crossing_laws.proofs.Worked.{network, run, accepted, event, whole, ways, way_there, way_back, evenly_moved}
+use Rattle.crossing_laws.proofs.Worked.{network, run, accepted, event, rests, whole, ways, way_there, way_back, evenly_moved, it_tells}
 
 premise : IsFreshAndTickedFor exact_limits network s run
 premise = for_slave exact_limits network s run (record {
@@ -47,27 +45,8 @@ report = record {
 abbrev reported : ReportedIn network run s report
 reported = record { answered = event (Hear s 10) 12; there = refl; site = refl; reports = refl }
 
--- the other fields, as they are at both taps
-abbrev alike : Fields
-alike = record {
-  major_sdo = 0;
-  minor_sdo = 0;
-  minor_version = 0;
-  flags = 0 ∷ 0 ∷ [];
-  specific = 0 ∷ 0 ∷ 0 ∷ 0 ∷ [];
-  control = 0;
-  log = pos 0;
-}
-
 abbrev sighting : (line time correction : ℕ) → Stamp → Bool → Sighting
-sighting line time correction timestamp needs_other = record {
-  line = line;
-  time = time;
-  correction = record { 0 = pos (correction * 65536) };
-  timestamp = timestamp;
-  needs_other = needs_other;
-  fields = alike;
-}
+sighting line time correction = seen line time (pos (correction * 65536))
 
 abbrev sync_met : Places
 sync_met = record {
@@ -85,27 +64,11 @@ request_met = record {
   at_to = Some (sighting 4 (at 1795329064 967395339 0) 30017 (stamp 1795329064 967377251) false);
 }
 
-abbrev crossing_of : Kind → (number time kept rest first_line second_line from_line to_line : ℕ) → Crossing
-crossing_of kind number time kept rest first_line second_line from_line to_line = record {
-  kind = kind;
-  number = record { 0 = number };
-  time = time;
-  taken = pos ((kept + rest) * 65536);
-  corrected = pos (kept * 65536);
-  rest = pos (rest * 65536);
-  first_line = first_line;
-  second_line = second_line;
-  from_line = Some from_line;
-  to_line = Some to_line;
-  event_changes = no_changes;
-  other_changes = no_changes;
-}
-
 abbrev sync : Crossing
-sync = crossing_of kinds.Sync 7 (at 1795329064 941753992 0) 45301 1400 5 1 6 2
+sync = rests kinds.Sync 7 (at 1795329064 941753992 0) 45301 1400 5 1 6 2
 
 abbrev request : Crossing
-request = crossing_of kinds.DelayReq 0 (at 1795329064 967344715 0) 30017 2619 3 7 8 4
+request = rests kinds.DelayReq 0 (at 1795329064 967344715 0) 30017 2619 3 7 8 4
 
 abbrev sent : Place
 sent = event (Sync m (at 1795329064 941753892 0)) 1
@@ -128,20 +91,10 @@ there = record {
   moved = (whole 0).moved;
   even = evenly_moved 0;
   met = sync_met;
-  last = record {
-    kind = kinds.Sync;
-    number = record { 0 = 7 };
-    place = places.AtFrom;
-    sighting = sighting 6 (at 1795329064 941770000 0) 0 (stamp 1795329064 941753892) false;
-  };
+  last = met_at kinds.Sync 7 places.AtFrom 6 (at 1795329064 941770000 0) (pos 0) (stamp 1795329064 941753892) false;
   there = refl;
   way = way_there;
-  are = record {
-    first = record { m = _; is_told = refl; keeps = record { correction = refl; too_big = λ small. small; timestamp = refl; needs_other = refl } };
-    second = record { m = _; is_told = refl; keeps = record { correction = refl; too_big = λ small. small; timestamp = refl; needs_other = refl } };
-    at_from = record { m = _; is_told = refl; keeps = record { correction = refl; too_big = λ small. small; timestamp = refl; needs_other = refl } };
-    at_to = record { m = _; is_told = refl; keeps = record { correction = refl; too_big = λ small. small; timestamp = refl; needs_other = refl } };
-  };
+  are = record { first = it_tells refl (search rules); second = it_tells refl (search rules); at_from = it_tells refl (search rules); at_to = it_tells refl (search rules) };
   tapped = record { first = refl; second = refl };
   crossed = refl;
 }
@@ -152,20 +105,10 @@ back = record {
   moved = (whole 1).moved;
   even = evenly_moved 1;
   met = request_met;
-  last = record {
-    kind = kinds.DelayReq;
-    number = record { 0 = 0 };
-    place = places.AtFrom;
-    sighting = sighting 8 (at 1795329064 967377500 0) 0 (stamp 1795329064 967377251) false;
-  };
+  last = met_at kinds.DelayReq 0 places.AtFrom 8 (at 1795329064 967377500 0) (pos 0) (stamp 1795329064 967377251) false;
   there = refl;
   way = way_back;
-  are = record {
-    first = record { m = _; is_told = refl; keeps = record { correction = refl; too_big = λ small. small; timestamp = refl; needs_other = refl } };
-    second = record { m = _; is_told = refl; keeps = record { correction = refl; too_big = λ small. small; timestamp = refl; needs_other = refl } };
-    at_from = record { m = _; is_told = refl; keeps = record { correction = refl; too_big = λ small. small; timestamp = refl; needs_other = refl } };
-    at_to = record { m = _; is_told = refl; keeps = record { correction = refl; too_big = λ small. small; timestamp = refl; needs_other = refl } };
-  };
+  are = record { first = it_tells refl (search rules); second = it_tells refl (search rules); at_from = it_tells refl (search rules); at_to = it_tells refl (search rules) };
   tapped = record { first = refl; second = refl };
   crossed = refl;
 }

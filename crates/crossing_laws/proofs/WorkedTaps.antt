@@ -1,6 +1,6 @@
 -- A worked case of a real capture: a Sync and a Delay_Req at both ports of linuxptp's transparent clock, which is of two steps. One clock
 -- stamps both taps. What rests is below 0: a tap stamps what a port sends before the port's driver does, by 2,458 ns and 1,968 ns.
-use Rattle.std.proofs.Common.{◌≡◌, ℕ, suc, zero, ℤ, ◌*◌, pos, ◌+ℤ◌, ◌-ℤ◌, refl, List, [], ◌∷◌, reverse, take, Option, Some}
+use Rattle.std.proofs.Common.{◌≡◌, ℕ, suc, zero, ℤ, ◌*◌, pos, ◌+ℤ◌, ◌-ℤ◌, refl, List, [], ◌∷◌, reverse, take, Option, Some, rules}
 use Rattle.ptp_units.specs.Moment.{stamp}
 use Rattle.event_codec.specs.declared.message.Body.TheVariants as bodies
 use Rattle.event_codec.specs.declared.port.PortConfig.{PortConfig}
@@ -15,17 +15,18 @@ use Rattle.network_model.proofs.Accepted.{IsRun-test}
 use Rattle.network_model.proofs.Worked.{m, s, t, at, master, slave_of, clock}
 use Rattle.tap_crossing.specs.declared.sighting.Kind.{Kind}
 use Rattle.tap_crossing.specs.declared.sighting.Kind.TheVariants as kinds
+use Rattle.tap_crossing.specs.declared.sighting.Placed.{Placed}
 use Rattle.tap_crossing.specs.declared.sighting.Tap.{Tap}
 use Rattle.tap_crossing.specs.declared.sighting.Tap.TheVariants as taps
 use Rattle.tap_crossing.specs.declared.watched.Watched.{Watched}
 use Rattle.tap_crossing.specs.declared.crossing.MessageOutcome.{MessageOutcome}
 use Rattle.tap_crossing.specs.declared.crossing.MessageOutcome.TheVariants as outcomes
-use Rattle.tap_crossing.specs.Changes.{no_changes}
-use Rattle.crossing_laws.specs.Told.{Passage, IsEven, message_at}
+use Rattle.tap_crossing.proofs.Worked.{crossing_of}
+use Rattle.crossing_laws.specs.Told.{Passage, IsEven, Keeps, message_at, message_told, moved_at}
 use Rattle.crossing_laws.specs.Way.{IsWay, Leg, Clock, cables}
-use Rattle.crossing_laws.specs.Lines.{Met, EachIs, EachRests, IsOfWay, first_tap, second_tap}
+use Rattle.crossing_laws.specs.Lines.{Met, EachIs, EachRests, IsTappedAt, IsOfWay, first_tap, second_tap}
 use Rattle.crossing_laws.proofs.Lines.{what_rests}
-use Rattle.crossing_laws.proofs.Worked.{message, line, outcomes_under, need_others}
+use Rattle.crossing_laws.proofs.Worked.{message, line, outcomes_under, need_others, it_tells}
 
 abbrev identified : List ℕ → PortConfig
 identified last = record { identity = record { clock = 2 ∷ 0 ∷ 0 ∷ 255 ∷ 254 ∷ last; port = 1 }; domain = 0; log = pos 0 }
@@ -65,20 +66,9 @@ packets =
     ∷ line taps.From 21 (at 1795645067 377516479 0) sync 0 ∷ []
 
 abbrev crossed : Kind → (number time taken corrected first_line second_line from_line to_line : ℕ) → Option MessageOutcome
-crossed kind number time taken corrected first_line second_line from_line to_line = Some (outcomes.Crossed (record {
-  kind = kind;
-  number = record { 0 = number };
-  time = time;
-  taken = pos (taken * 65536);
-  corrected = pos (corrected * 65536);
-  rest = pos (taken * 65536) -ℤ pos (corrected * 65536);
-  first_line = first_line;
-  second_line = second_line;
-  from_line = Some from_line;
-  to_line = Some to_line;
-  event_changes = no_changes;
-  other_changes = no_changes;
-}))
+crossed kind number time taken corrected first_line second_line from_line to_line = Some (outcomes.Crossed
+    (crossing_of kind number time (pos (taken * 65536)) (pos (corrected * 65536)) (pos (taken * 65536) -ℤ pos (corrected * 65536)) first_line
+    second_line (Some from_line) (Some to_line)))
 
 abbrev waits : Option MessageOutcome
 waits = Some outcomes.Waits
@@ -138,80 +128,23 @@ early zero taps.To = pos 0 -ℤ pos (2458 * 65536)
 early (suc n) taps.From = pos 0 -ℤ pos (1968 * 65536)
 early (suc n) taps.To = pos 0
 
+of_way_there : {message : Placed} {m : Contents} → message_told network (after 9) (passages 0) message.place ≡ Some m
+    → Keeps (moved_at (passages 0).moved message.place) m message.sighting
+    → IsTappedAt (early 0) message.kind (passages 0) message.place message.sighting.time
+    → IsOfWay network (after 9) (early 0) (ways 0) (passages 0) message
+of_way_there is_told keeps tapped =
+    record { there = refl; way = way_there; even = evenly_moved 0; tells = it_tells is_told keeps; tapped = tapped }
+
+of_way_back : {message : Placed} {m : Contents} → message_told network (after 9) (passages 1) message.place ≡ Some m
+    → Keeps (moved_at (passages 1).moved message.place) m message.sighting
+    → IsTappedAt (early 1) message.kind (passages 1) message.place message.sighting.time
+    → IsOfWay network (after 9) (early 1) (ways 1) (passages 1) message
+of_way_back is_told keeps tapped =
+    record { there = refl; way = way_back; even = evenly_moved 1; tells = it_tells is_told keeps; tapped = tapped }
+
 each_way : EachIs (λ n. IsOfWay network (after 9) (early n) (ways n) (passages n)) watched packets
-each_way = (
-  record {
-    there = refl;
-    way = way_back;
-    even = evenly_moved 1;
-    tells = record { m = _; is_told = refl; keeps = record { correction = refl; too_big = λ small. small; timestamp = refl; needs_other = refl } };
-    tapped = tt;
-  },
-  (
-    record {
-      there = refl;
-      way = way_back;
-      even = evenly_moved 1;
-      tells = record { m = _; is_told = refl; keeps = record { correction = refl; too_big = λ small. small; timestamp = refl; needs_other = refl } };
-      tapped = refl;
-    },
-    (
-      record {
-        there = refl;
-        way = way_back;
-        even = evenly_moved 1;
-        tells = record { m = _; is_told = refl; keeps = record { correction = refl; too_big = λ small. small; timestamp = refl; needs_other = refl } };
-        tapped = tt;
-      },
-      (
-        record {
-          there = refl;
-          way = way_back;
-          even = evenly_moved 1;
-          tells = record { m = _; is_told = refl; keeps = record { correction = refl; too_big = λ small. small; timestamp = refl; needs_other = refl } };
-          tapped = refl;
-        },
-        (
-          record {
-            there = refl;
-            way = way_there;
-            even = evenly_moved 0;
-            tells = record { m = _; is_told = refl; keeps = record { correction = refl; too_big = λ small. small; timestamp = refl; needs_other = refl } };
-            tapped = tt;
-          },
-          (
-            record {
-              there = refl;
-              way = way_there;
-              even = evenly_moved 0;
-              tells = record { m = _; is_told = refl; keeps = record { correction = refl; too_big = λ small. small; timestamp = refl; needs_other = refl } };
-              tapped = refl;
-            },
-            (
-              record {
-                there = refl;
-                way = way_there;
-                even = evenly_moved 0;
-                tells = record { m = _; is_told = refl; keeps = record { correction = refl; too_big = λ small. small; timestamp = refl; needs_other = refl } };
-                tapped = tt;
-              },
-              (
-                record {
-                  there = refl;
-                  way = way_there;
-                  even = evenly_moved 0;
-                  tells = record { m = _; is_told = refl; keeps = record { correction = refl; too_big = λ small. small; timestamp = refl; needs_other = refl } };
-                  tapped = refl;
-                },
-                tt,
-              ),
-            ),
-          ),
-        ),
-      ),
-    ),
-  ),
-)
+each_way =
+    (of_way_back refl (search rules) tt, (of_way_back refl (search rules) refl, (of_way_back refl (search rules) tt, (of_way_back refl (search rules) refl, (of_way_there refl (search rules) tt, (of_way_there refl (search rules) refl, (of_way_there refl (search rules) tt, (of_way_there refl (search rules) refl, tt))))))))
 
 -- no cable is between, so what rests is how early they are
 early_rests : EachRests (λ kind n. time_on (cables (ways n)) +ℤ (early n (second_tap kind) -ℤ early n (first_tap kind))) watched packets
