@@ -81,9 +81,7 @@ module _ (w : Watched) (m : Contents) (time : ℕ) where
       → IsKnownBy body number time flag heard responses
       → IsKnownBy body number time flag (Refused refused ∷ heard) responses
   refused_too (bodies.Sync origin) number refused flag heard responses is = is
-  refused_too (bodies.DelayReq origin) number refused flag heard responses is = is
-  refused_too (bodies.FollowUp precise) number refused flag heard responses is = is
-  refused_too (bodies.DelayResp receive requesting) number refused flag heard responses is = is
+  refused_too _ number refused flag heard responses is = is
 
   -- another datagram leaves it known
   module _ (x : Recorded) (l : Listening)

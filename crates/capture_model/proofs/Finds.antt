@@ -682,11 +682,9 @@ module _ (w : Watched) (before : List Recorded) (x : Recorded) (m : Contents) (s
 
       body_of : (body : Body) → m.body ≡ body → is_delay_req body ≡ true → is_of w w.slave m.header ≡ true
           → hears w x.line x.time m body l ≡ hears_request w x.line x.time number l
-      body_of (bodies.Sync origin) is kind of_slave = cc
       body_of (bodies.DelayReq origin) is kind of_slave =
           ap (λ (b : Bool). if b then hears_request w x.line x.time number l else l) of_slave
-      body_of (bodies.FollowUp precise) is kind of_slave = cc
-      body_of (bodies.DelayResp receive requesting) is kind of_slave = cc
+      body_of _ is kind of_slave = cc
 
       heard_is : hear w x l ≡ hears_request w x.line x.time number l
       heard_is =
@@ -740,9 +738,7 @@ apart-other time other is =
 
 sync-body : (b : Body) → is_sync b ≡ true → (origin : Stamp) × (b ≡ bodies.Sync origin)
 sync-body (bodies.Sync origin) is = (origin, refl)
-sync-body (bodies.DelayReq origin) is = cc
-sync-body (bodies.FollowUp precise) is = cc
-sync-body (bodies.DelayResp receive requesting) is = cc
+sync-body _ is = cc
 
 -- a message of another kind doesn't pass
 other-kind : (w : Watched) (kind : Body → Bool) (number : ℕ) (d : Recorded) (m : Contents) → d.said ≡ Ok m

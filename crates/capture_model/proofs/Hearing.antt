@@ -51,10 +51,9 @@ is_near w number l = not l.asked || nat_lt (ahead number (next_number (setup_in 
 -- what is heard of a general message
 pub general-hearing : (line time : ℕ) (m : Contents) (body : Body) → is_general body ≡ true
     → hearing line time m body ≡ Some (calls.General (Ok m) line)
-general-hearing line time m (bodies.Sync origin) is = cc
-general-hearing line time m (bodies.DelayReq origin) is = cc
 general-hearing line time m (bodies.FollowUp precise) is = refl
 general-hearing line time m (bodies.DelayResp receive requesting) is = refl
+general-hearing line time m _ is = cc
 
 module _ (w : Watched) (x : Recorded) (l : Listening) (P R Q : Listening → Type 0) where
   -- What may come of a datagram: it isn't heard; its number and time become known, or that it was refused, or that the
@@ -217,8 +216,7 @@ module _ (w : Watched) (x : Recorded) (l : Listening) (P R Q : Listening → Typ
         followed_holds of_master Newer r same =
             let one : record l { heard = FollowUp (arrival_of m.header x.time) ∷ l.heard } ≡ r = cc in
             subst R one (keeps.follow m precise said body of_master l holds)
-        followed_holds of_master Repeated r same = cc
-        followed_holds of_master BeganAnew r same = cc
+        followed_holds of_master _ r same = cc
 
         pub follow_up_ready : (r : Listening) → ready_follow_up w x.time m l ≡ Some r → R r
         follow_up_ready r same = by (is_of w w.master m.header) refl same

@@ -134,8 +134,7 @@ module _ (w : Watched) (line : ℕ) where
     followed_is Newer a r same =
         let one : record l { heard = FollowUp a ∷ l.heard } ≡ r = cc in
         subst (IsOfLife w line) one (heard_is l (FollowUp a ∷ l.heard) l.responses is)
-    followed_is Repeated a r same = cc
-    followed_is BeganAnew a r same = cc
+    followed_is _ a r same = cc
 
     follow_up_is : (time : ℕ) (m : Contents) (r : Listening) → ready_follow_up w time m l ≡ Some r → IsOfLife w line r
     follow_up_is time m r same = by (is_of w w.master m.header) same

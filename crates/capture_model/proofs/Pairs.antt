@@ -274,8 +274,7 @@ module _ (w : Watched) where
                 near = λ is time same. facts.1 time same;
               };
             })
-        followed_ready of_master heard Repeated judged r same = cc
-        followed_ready of_master heard BeganAnew judged r same = cc
+        followed_ready of_master heard _ judged r same = cc
 
         follow_up_ready : (r : Listening) → is_heard w ds d ≡ true
             → ready_follow_up w d.time m (after_all w ds) ≡ Some r → IsReady follow_ups syncs r

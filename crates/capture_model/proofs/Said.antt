@@ -394,15 +394,12 @@ module _ (w : Watched) where
 
     sync-apart : (body : Body) → is_sync body ≡ true → is_delay_req body ≡ false
     sync-apart (bodies.Sync origin) is = refl
-    sync-apart (bodies.DelayReq origin) is = cc
-    sync-apart (bodies.FollowUp precise) is = cc
-    sync-apart (bodies.DelayResp receive requesting) is = cc
+    sync-apart _ is = cc
 
     general-apart : (body : Body) → is_general body ≡ true → is_delay_req body ≡ false
-    general-apart (bodies.Sync origin) is = cc
-    general-apart (bodies.DelayReq origin) is = cc
     general-apart (bodies.FollowUp precise) is = refl
     general-apart (bodies.DelayResp receive requesting) is = refl
+    general-apart _ is = cc
 
     -- requests are drawn up to its number
     next-asked : (l : Listening) (line time number : ℕ)

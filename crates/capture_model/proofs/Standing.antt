@@ -301,8 +301,7 @@ module _ (network : Network) (slave master : NodeName) (moved : Moved) (w : Watc
     followed-ready Newer a ready is =
         let same : record l { heard = FollowUp a ∷ l.heard } ≡ ready = cc in
         subst (IsReady syncs sent slack l) same (as_it_is (FollowUp a ∷ l.heard) l.responses)
-    followed-ready Repeated a ready is = cc
-    followed-ready BeganAnew a ready is = cc
+    followed-ready _ a ready is = cc
 
     pub follow_up-ready : (time : ℕ) (m : Contents) (ready : Listening) → ready_follow_up w time m l ≡ Some ready
         → IsReady syncs sent slack l ready

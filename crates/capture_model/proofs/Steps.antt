@@ -69,9 +69,7 @@ same_identity identity =
 pub report-in : (heard : Heard) (report : Report) → report_in heard ≡ Some report → heard ≡ answers.Report report
 report-in (answers.Report given) report is = let same : given ≡ report = cc in ap (λ (r : Report). answers.Report r)
     same
-report-in answers.Held report is = cc
-report-in answers.Completed report is = cc
-report-in (answers.Ignored reason) report is = cc
+report-in _ report is = cc
 
 module _ (network : Network) (slave master : NodeName) (moved : Moved) (w : Watched) (apart : IsNetwork network)
     (watches : Watches network slave master w) where

@@ -47,15 +47,12 @@ where-is kind n m is = by (kind n.body) refl is
 
 sync_body : (body : Body) → is_sync body ≡ true → (origin : Stamp) × (body ≡ bodies.Sync origin)
 sync_body (bodies.Sync origin) is = (origin, refl)
-sync_body (bodies.DelayReq origin) is = cc
-sync_body (bodies.FollowUp precise) is = cc
-sync_body (bodies.DelayResp receive requesting) is = cc
+sync_body _ is = cc
 
 general_body : (body : Body) → is_general body ≡ true → IsGeneral body
-general_body (bodies.Sync origin) is = cc
-general_body (bodies.DelayReq origin) is = cc
 general_body (bodies.FollowUp precise) is = FollowUp precise refl
 general_body (bodies.DelayResp receive requesting) is = DelayResp receive requesting refl
+general_body _ is = cc
 
 module _ (network : Network) (slave : NodeName) (earlier : Run) (m : Contents) where
   told_kind : (event : Event) → site_of event ≡ slave → told_by network event earlier ≡ Some m

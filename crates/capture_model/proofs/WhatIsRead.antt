@@ -45,17 +45,13 @@ event-read : (c : Criteria) (header : Header) (body : Body) (t2 tag : ℕ)
 event-read c header (bodies.Sync origin) t2 tag =
     ap (λ u. used_unless (sync_reason c header) (entry header.sequence.0 u))
     (sync_use-read header origin t2 tag (is_two_step header) refl)
-event-read c header (bodies.DelayReq origin) t2 tag = refl
-event-read c header (bodies.FollowUp precise) t2 tag = refl
-event-read c header (bodies.DelayResp receive requesting) t2 tag = refl
+event-read c header _ t2 tag = refl
 
 general-read : (c : Criteria) (header : Header) (body : Body) (tag : ℕ)
     → general_use c (general_read header body).header (general_read header body).body tag
     ≡ general_use c header body tag
 general-read c header (bodies.Sync origin) tag = refl
-general-read c header (bodies.DelayReq origin) tag = refl
-general-read c header (bodies.FollowUp precise) tag = refl
-general-read c header (bodies.DelayResp receive requesting) tag = refl
+general-read c header _ tag = refl
 
 judged-read : (c : Criteria) (call : Call) → judged c (call_read call) ≡ judged c call
 judged-read c (calls.SetMaster master) = refl
