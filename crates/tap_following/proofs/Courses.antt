@@ -1,5 +1,5 @@
 -- One more message of a course, and its end, by what is kept of it.
-use Rattle.std.proofs.Common.{◌≡◌, ◌∙◌, ℕ, Bool, true, List, [], ◌∷◌, ◌++◌, length, Option, Some, None, Result, Ok, Err, refl, sym, ap, subst, arith}
+use Rattle.std.proofs.Common.{◌≡◌, ◌∙◌, ℕ, Bool, List, [], ◌∷◌, ◌++◌, length, Option, Some, None, Result, Ok, Err, refl, sym, ap, subst, arith}
 use Rattle.std.specs.Prelude.{reverse, nat_le, min, OnOk, ◌==◌}
 use Rattle.std.proofs.lemmas.List.{append-nil, append_assoc}
 use Rattle.std.proofs.lemmas.Bool.Decides.{nat_tests}
@@ -10,8 +10,8 @@ use Rattle.tap_choice.specs.Known.{Known, noticed}
 use Rattle.tap_following.specs.declared.followed.Followed.{Followed}
 use Rattle.tap_following.specs.declared.following.Form.{Form}
 use Rattle.tap_following.specs.Written.{text_at, written}
-use Rattle.tap_following.specs.Course.{Course, kept_most, syncs_most, followed_by, chosen, chosen_at_end, begins}
-use Rattle.tap_following.specs.Course.{after, after_as, new_text, new_text_as, text_of, ended, ended_as, end_text, end_text_as}
+use Rattle.tap_following.specs.Course.{Course, kept_most, syncs_most, followed_by, chosen, begins}
+use Rattle.tap_following.specs.Course.{after, after_as, new_text, new_text_as, text_of}
 use Rattle.tap_following.specs.Held.{Held, Holding, IsFollowing, IsFollower, IsKept, IsStage, KeepsFor}
 
 -- what follows from an answer
@@ -37,17 +37,23 @@ none_some None x none some = cc
 none_some (Some y) x none some = cc
 
 -- where messages are followed, it is known which
-pub known_of : (known : Option Followed) (c : Course) (task : Holding) (following : Held) → IsStage known c task
-    → task.following ≡ Some following → (f : Followed) × (known ≡ Some f) × IsFollowing c.form f c.met following
-known_of None c task following stage is = absurd (none_some task.following following stage.0 is)
-known_of (Some f) c task following stage is = (f, refl, subst (KeepsFor c.form f c.met) is stage)
+pub known_of : (c : Course) (task : Holding) (following : Held) → IsFollower task c → task.following ≡ Some following
+    → (f : Followed) × (c.followed ≡ Some f) × IsFollowing c.form f c.met following
+known_of c task following at is = by c.followed at.stage
+  where
+    by : (known : Option Followed) → IsStage known c task → (f : Followed) × (known ≡ Some f) × IsFollowing c.form f c.met following
+    by None stage = absurd (none_some task.following following stage.0 is)
+    by (Some f) stage = (f, refl, subst (KeepsFor c.form f c.met) is stage)
 
 -- and where none are, it isn't
-pub unknown_of : (known : Option Followed) (c : Course) (task : Holding) → IsStage known c task
-    → ((x : Held) → task.following ≡ Some x → ⊥)
-    → (known ≡ None) × (task.following ≡ None) × (task.known ≡ c.known) × IsKept c.before task.kept task.count × (c.met ≡ [])
-unknown_of None c task (nothing, choice, keeps, empty) never = (refl, nothing, choice, keeps, empty)
-unknown_of (Some f) c task stage never = absurd (keeps_some c.form f c.met task.following stage never)
+pub unknown_of : (c : Course) (task : Holding) → IsFollower task c → ((x : Held) → task.following ≡ Some x → ⊥)
+    → (c.followed ≡ None) × (task.following ≡ None) × (task.known ≡ c.known) × IsKept c.before task.kept task.count × (c.met ≡ [])
+unknown_of c task at never = by c.followed at.stage
+  where
+    by : (known : Option Followed) → IsStage known c task
+        → (known ≡ None) × (task.following ≡ None) × (task.known ≡ c.known) × IsKept c.before task.kept task.count × (c.met ≡ [])
+    by None (nothing, choice, keeps, empty) = (refl, nothing, choice, keeps, empty)
+    by (Some f) stage = absurd (keeps_some c.form f c.met task.following stage never)
 
 -- one more message where it was known which are followed
 pub take_known : (c : Course) (m : Met) (task : Holding) (f : Followed) (new : Held) (before text : List ℕ)
@@ -159,72 +165,3 @@ take_begun c m task new f before text unknown is known same (keeps, appended) = 
       ∙ ap (λ (k : Option Followed). before ++ text_of (with_known k m c)) (sym known)
       ∙ ap (λ (k : Option Followed). before ++ new_text_as k m c) (sym unknown),
 )
-
--- a course of which this is known at the end
-abbrev ended_with : Option Followed → Course → Course
-ended_with known c = record c { followed = known; met = begins known c.before }
-
--- what is chosen at the end by what is kept
-ends_with : (c : Course) (task : Holding) → IsFollower task c → task.known ≡ c.known → IsKept c.before task.kept task.count
-    → followed_by true task.wanted task.sides task.known (reverse task.kept) ≡ chosen_at_end c
-ends_with c task at choice kept =
-    ap (λ (w : WantedTaps). followed_by true w task.sides task.known (reverse task.kept)) at.wanted
-    ∙ ap (λ (s : Sides). followed_by true c.wanted s task.known (reverse task.kept)) at.sides
-    ∙ ap (λ (k : Known). followed_by true c.wanted c.sides k (reverse task.kept)) choice
-    ∙ ap (λ (met : List Met). followed_by true c.wanted c.sides c.known met) kept.kept_are
-
--- the end where messages are followed
-pub finish_known : (c : Course) (task : Holding) (f : Followed) (before : List ℕ) → IsFollower task c → c.followed ≡ Some f
-    → IsFollower task (ended c) × (before ≡ before ++ end_text c)
-finish_known c task f before at known = (
-  subst (IsFollower task) (sym (ap (λ (k : Option Followed). ended_as k c) known)) at,
-  sym (append-nil before) ∙ ap (λ (k : Option Followed). before ++ end_text_as k c) (sym known),
-)
-
--- the end where it isn't known which are
-pub finish_unknown : (c : Course) (task : Holding) (before : List ℕ) → IsFollower task c → c.followed ≡ None
-    → task.following ≡ None → task.known ≡ c.known → IsKept c.before task.kept task.count
-    → followed_by true task.wanted task.sides task.known (reverse task.kept) ≡ None
-    → IsFollower task (ended c) × (before ≡ before ++ end_text c)
-finish_unknown c task before at unknown nothing choice kept none =
-    let at_end : chosen_at_end c ≡ None = sym (ends_with c task at choice kept) ∙ none in (
-      subst (IsFollower task)
-          (sym (ap (λ (k : Option Followed). ended_as k c) unknown ∙ ap (λ (k : Option Followed). ended_with k c) at_end))
-          (record {
-            form = at.form;
-            wanted = at.wanted;
-            sides = at.sides;
-            stage = (nothing, choice, kept, refl);
-          }),
-      sym (append-nil before)
-          ∙ ap (λ (k : Option Followed). before ++ text_of (ended_with k c)) (sym at_end)
-          ∙ ap (λ (k : Option Followed). before ++ text_of (ended_as k c)) (sym unknown)
-          ∙ ap (λ (k : Option Followed). before ++ end_text_as k c) (sym unknown),
-    )
-
--- and where it is enough to know all but the slave
-pub finish_begun : (c : Course) (task new : Holding) (f : Followed) (before text : List ℕ) → IsFollower task c
-    → c.followed ≡ None → task.known ≡ c.known → IsKept c.before task.kept task.count
-    → followed_by true task.wanted task.sides task.known (reverse task.kept) ≡ Some f
-    → new ≡ record task { following = new.following }
-    → KeepsFor task.form f (reverse task.kept) new.following
-    × (text ≡ before ++ written task.form f (reverse task.kept))
-    → IsFollower new (ended c) × (text ≡ before ++ end_text c)
-finish_begun c task new f before text at unknown choice kept known same (keeps, appended) =
-    let at_end : chosen_at_end c ≡ Some f = sym (ends_with c task at choice kept) ∙ known in (
-      subst (IsFollower new)
-          (sym (ap (λ (k : Option Followed). ended_as k c) unknown ∙ ap (λ (k : Option Followed). ended_with k c) at_end))
-          (record {
-            form = ap (λ (t : Holding). t.form) same ∙ at.form;
-            wanted = ap (λ (t : Holding). t.wanted) same ∙ at.wanted;
-            sides = ap (λ (t : Holding). t.sides) same ∙ at.sides;
-            stage = subst (λ (met : List Met). KeepsFor c.form f met new.following) kept.kept_are
-                (subst (λ (form : Form). KeepsFor form f (reverse task.kept) new.following) at.form keeps);
-          }),
-      appended
-          ∙ ap (λ (form : Form). before ++ written form f (reverse task.kept)) at.form
-          ∙ ap (λ (met : List Met). before ++ written c.form f met) kept.kept_are
-          ∙ ap (λ (k : Option Followed). before ++ text_of (ended_with k c)) (sym at_end)
-          ∙ ap (λ (k : Option Followed). before ++ text_of (ended_as k c)) (sym unknown)
-          ∙ ap (λ (k : Option Followed). before ++ end_text_as k c) (sym unknown),
-    )

@@ -26,7 +26,7 @@ use Rattle.tap_following.proofs.Courses.{known_of, unknown_of}
 pub followed-known : (c : Course) (task : Holding) (held : Held) (result : Followed) → IsFollower task c
     → task.following ≡ Some held → result ≡ held.followed → Some result ≡ followed_so_far c
 followed-known c task held result at is told =
-    let (f, known, follows) = known_of c.followed c task held at.stage is in
+    let (f, known, follows) = known_of c task held at is in
     let same : result ≡ with_slave c.met f = told ∙ (λ i. record {
       watched = follows.watched i;
       from = follows.from i;
@@ -38,7 +38,7 @@ followed-known c task held result at is told =
 pub followed-unknown : (c : Course) (task : Holding) → IsFollower task c
     → ((held : Held) → task.following ≡ Some held → ⊥) → None ≡ followed_so_far c
 followed-unknown c task at never =
-    let (unknown, nothing, known, keeps, empty) = unknown_of c.followed c task at.stage never in
+    let (unknown, nothing, known, keeps, empty) = unknown_of c task at never in
     rw unknown refl
 
 pub open-known : (kind : Kind) (filled : Filled) (c : Course) (result : ℕ) (f : Followed) → c.followed ≡ Some f
@@ -49,33 +49,33 @@ open-known kind filled c result f known counts = rw known (ap Some counts)
 pub open-unknown : (kind : Kind) (filled : Filled) (c : Course) (task : Holding) → IsFollower task c
     → ((held : Held) → task.following ≡ Some held → ⊥) → None ≡ open_so_far kind filled c
 open-unknown kind filled c task at never =
-    let (unknown, nothing, known, keeps, empty) = unknown_of c.followed c task at.stage never in
+    let (unknown, nothing, known, keeps, empty) = unknown_of c task at never in
     rw unknown refl
 
 pub sums-known : (c : Course) (task : Holding) (held : Held) (result : Sums) → IsFollower task c
     → task.following ≡ Some held → result ≡ held.sums → AreSums (crossings_so_far c) result
 sums-known c task held result at is told =
-    let (f, known, follows) = known_of c.followed c task held at.stage is in
+    let (f, known, follows) = known_of c task held at is in
     subst (λ (k : Option Followed). AreSums (option_map_or (λ g. crossings_in g c.met) k []) result) (sym known)
     (subst (AreSums (crossings_in f c.met)) (sym told) follows.sums)
 
 pub sums-unknown : (c : Course) (task : Holding) (result : Sums) → IsFollower task c
     → ((held : Held) → task.following ≡ Some held → ⊥) → AreSums [] result → AreSums (crossings_so_far c) result
 sums-unknown c task result at never none =
-    let (unknown, nothing, known, keeps, empty) = unknown_of c.followed c task at.stage never in
+    let (unknown, nothing, known, keeps, empty) = unknown_of c task at never in
     subst (λ (k : Option Followed). AreSums (option_map_or (λ g. crossings_in g c.met) k []) result) (sym unknown) none
 
 pub figures-known : (c : Course) (task : Holding) (held : Held) (result : Figures) → IsFollower task c
     → task.following ≡ Some held → result ≡ held.figures → AreFigures (crossings_so_far c) result
 figures-known c task held result at is told =
-    let (f, known, follows) = known_of c.followed c task held at.stage is in
+    let (f, known, follows) = known_of c task held at is in
     subst (λ (k : Option Followed). AreFigures (option_map_or (λ g. crossings_in g c.met) k []) result) (sym known)
     (subst (AreFigures (crossings_in f c.met)) (sym told) follows.figures)
 
 pub none-unknown : (c : Course) (task : Holding) → IsFollower task c
     → ((held : Held) → task.following ≡ Some held → ⊥) → crossings_so_far c ≡ []
 none-unknown c task at never =
-    let (unknown, nothing, known, keeps, empty) = unknown_of c.followed c task at.stage never in
+    let (unknown, nothing, known, keeps, empty) = unknown_of c task at never in
     rw unknown refl
 
 untold-held : (kind : Kind) (form : Form) (f : Followed) (met : List Met) (held : Held) → IsFollowing form f met held
@@ -86,12 +86,12 @@ untold-held kinds.DelayReq form f met held follows = follows.untold_requests
 pub untold-known : (kind : Kind) (c : Course) (task : Holding) (held : Held) (result : Untold) → IsFollower task c
     → task.following ≡ Some held → result ≡ untold_of kind held → AreUntold (outcomes_so_far kind c) result
 untold-known kind c task held result at is told =
-    let (f, known, follows) = known_of c.followed c task held at.stage is in
+    let (f, known, follows) = known_of c task held at is in
     subst (λ (k : Option Followed). AreUntold (option_map_or (λ g. outcomes_in kind g c.met) k []) result) (sym known)
     (subst (AreUntold (outcomes_in kind f c.met)) (sym told) (untold-held kind c.form f c.met held follows))
 
 pub untold-unknown : (kind : Kind) (c : Course) (task : Holding) (result : Untold) → IsFollower task c
     → ((held : Held) → task.following ≡ Some held → ⊥) → AreUntold [] result → AreUntold (outcomes_so_far kind c) result
 untold-unknown kind c task result at never none =
-    let (unknown, nothing, known, keeps, empty) = unknown_of c.followed c task at.stage never in
+    let (unknown, nothing, known, keeps, empty) = unknown_of c task at never in
     subst (λ (k : Option Followed). AreUntold (option_map_or (λ g. outcomes_in kind g c.met) k []) result) (sym unknown) none

@@ -8,30 +8,12 @@ use Rattle.tap_following.proofs.follower.Follower.open_records.Goals as goal
 
 pub returns-in-Some : goal.returns-in-Some
 returns-in-Some c = λ (course : Course) stands.
-    let task : Holding = record {
-      form = c.self.inside.form;
-      wanted = c.self.inside.wanted;
-      sides = c.self.inside.sides;
-      known = c.self.inside.choice;
-      kept = c.self.inside.kept.items;
-      count = c.self.inside.count;
-      following = c.self.inside.following;
-    } in
     let at = subst (λ (t : Holding). IsFollower t course) (sym c.self.view_is) stands in
-    let (f, known, follows) = known_of course.followed course task c.in-Some.following at.stage c.in-Some.is in
+    let (f, known, follows) = known_of course _ c.in-Some.following at c.in-Some.is in
     open-known c.args.kind c.args.filled course c.open_records.result f known
     (c.open_records.ensures records_most (placed_in f course.met) follows.stands)
 
 pub returns-in-None : goal.returns-in-None
 returns-in-None c = λ (course : Course) stands.
-    let task : Holding = record {
-      form = c.self.inside.form;
-      wanted = c.self.inside.wanted;
-      sides = c.self.inside.sides;
-      known = c.self.inside.choice;
-      kept = c.self.inside.kept.items;
-      count = c.self.inside.count;
-      following = c.self.inside.following;
-    } in
     let at = subst (λ (t : Holding). IsFollower t course) (sym c.self.view_is) stands in
-    open-unknown c.args.kind c.args.filled course task at (λ held is. cc)
+    open-unknown c.args.kind c.args.filled course _ at (λ held is. cc)

@@ -6,28 +6,10 @@ use Rattle.tap_following.proofs.follower.Follower.sums.Goals as goal
 
 pub returns-in-Some : goal.returns-in-Some
 returns-in-Some c = λ (course : Course) stands.
-    let task : Holding = record {
-      form = c.self.inside.form;
-      wanted = c.self.inside.wanted;
-      sides = c.self.inside.sides;
-      known = c.self.inside.choice;
-      kept = c.self.inside.kept.items;
-      count = c.self.inside.count;
-      following = c.self.inside.following;
-    } in
     let at = subst (λ (t : Holding). IsFollower t course) (sym c.self.view_is) stands in
-    sums-known course task c.in-Some.following c.sums.result at c.in-Some.is c.sums.ensures
+    sums-known course _ c.in-Some.following c.sums.result at c.in-Some.is c.sums.ensures
 
 pub returns-in-None : goal.returns-in-None
 returns-in-None c = λ (course : Course) stands.
-    let task : Holding = record {
-      form = c.self.inside.form;
-      wanted = c.self.inside.wanted;
-      sides = c.self.inside.sides;
-      known = c.self.inside.choice;
-      kept = c.self.inside.kept.items;
-      count = c.self.inside.count;
-      following = c.self.inside.following;
-    } in
     let at = subst (λ (t : Holding). IsFollower t course) (sym c.self.view_is) stands in
-    sums-unknown course task c.new.result at (λ held is. cc) c.new.ensures
+    sums-unknown course _ c.new.result at (λ held is. cc) c.new.ensures

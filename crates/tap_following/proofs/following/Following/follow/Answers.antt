@@ -1,11 +1,10 @@
-use Rattle.std.proofs.Common.{◌≡◌, ◌∙◌, ◌++◌, ℕ, List, [], ◌∷◌, Some, None, refl, sym, ap, subst}
+use Rattle.std.proofs.Common.{◌∙◌, ◌++◌, ℕ, List, [], ◌∷◌, Some, None, refl, sym, ap, subst}
 use Rattle.std.proofs.lemmas.List.{append-nil}
 use Rattle.std.specs.Prelude.{option_to_list}
 use Rattle.std.specs.String.{string_bytes}
 use Rattle.tap_crossing.specs.declared.sighting.Kind.TheVariants as kinds
 use Rattle.tap_crossing.specs.declared.sighting.Placed.{Placed}
 use Rattle.tap_crossing.specs.StandsFor.{StandsAfter}
-use Rattle.tap_crossing.specs.Told.{told}
 use Rattle.tap_figures.specs.Figures.{AreFigures}
 use Rattle.tap_figures.specs.Untold.{AreUntold}
 use Rattle.tap_sums.specs.Held.{AreSums}
