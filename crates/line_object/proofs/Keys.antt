@@ -61,49 +61,11 @@ key_at n =
 
 at_place : (k : Key) → key_at (key_place k) ≡ k
 at_place At = refl
-at_place Code = refl
-at_place CopyTag = refl
-at_place Diff = refl
-at_place Domain = refl
-at_place Ev = refl
-at_place First = refl
-at_place Hex = refl
-at_place Id = refl
-at_place Kind = refl
-at_place Log = refl
-at_place Master = refl
-at_place Number = refl
-at_place Node = refl
-at_place Offset2 = refl
-at_place Out = refl
-at_place Path2 = refl
-at_place Port = refl
-at_place Reading = refl
-at_place Tags = refl
-at_place TransitTag = refl
+at_place _ = refl
 
 of_text : (k : Key) → key_of (key_text k) ≡ Some k
 of_text At = refl
-of_text Code = refl
-of_text CopyTag = refl
-of_text Diff = refl
-of_text Domain = refl
-of_text Ev = refl
-of_text First = refl
-of_text Hex = refl
-of_text Id = refl
-of_text Kind = refl
-of_text Log = refl
-of_text Master = refl
-of_text Number = refl
-of_text Node = refl
-of_text Offset2 = refl
-of_text Out = refl
-of_text Path2 = refl
-of_text Port = refl
-of_text Reading = refl
-of_text Tags = refl
-of_text TransitTag = refl
+of_text _ = refl
 
 abbrev pick : Key → Option Key → Key
 pick a None = a
@@ -117,23 +79,4 @@ one_text a b e = ap (pick a) (sym (of_text a) ∙ ap key_of e ∙ of_text b)
 
 pub same_itself : (k : Key) → same_key k k ≡ true
 same_itself At = refl
-same_itself Code = refl
-same_itself CopyTag = refl
-same_itself Diff = refl
-same_itself Domain = refl
-same_itself Ev = refl
-same_itself First = refl
-same_itself Hex = refl
-same_itself Id = refl
-same_itself Kind = refl
-same_itself Log = refl
-same_itself Master = refl
-same_itself Number = refl
-same_itself Node = refl
-same_itself Offset2 = refl
-same_itself Out = refl
-same_itself Path2 = refl
-same_itself Port = refl
-same_itself Reading = refl
-same_itself Tags = refl
-same_itself TransitTag = refl
+same_itself _ = refl
