@@ -99,13 +99,7 @@ fits_event _ = fits_word _ refl refl
 
 fits_out : (out : TraceOut) → Fits 12 (out_text out)
 fits_out outs.Done = fits_word _ refl refl
-fits_out (outs.Made octets) = fits_word _ refl refl
-fits_out outs.Entered = fits_word _ refl refl
-fits_out outs.Held = fits_word _ refl refl
-fits_out outs.Completed = fits_word _ refl refl
-fits_out (outs.Report report) = fits_word _ refl refl
-fits_out (outs.Ignored code) = fits_word _ refl refl
-fits_out (outs.Refused code) = fits_word _ refl refl
+fits_out _ = fits_word _ refl refl
 
 -- ---- an event's line
 
@@ -113,27 +107,15 @@ abbrev AreOctets : List ℕ → Type 0
 AreOctets octets = (length octets ≤ 54) × IsBytes octets
 
 octets_out : (out : TraceOut) → IsOut out → IfSome (made_octets out) AreOctets
-octets_out outs.Done h = tt
 octets_out (outs.Made octets) h = h
-octets_out outs.Entered h = tt
-octets_out outs.Held h = tt
-octets_out outs.Completed h = tt
-octets_out (outs.Report answer) h = tt
-octets_out (outs.Ignored reason) h = tt
-octets_out (outs.Refused reason) h = tt
+octets_out _ h = tt
 
 abbrev IsShortReport : Report → Type 0
 IsShortReport report = IsShort report.offset2 × IsShort report.path2
 
 report_out : (out : TraceOut) → IsOut out → IfSome (out_report out) IsShortReport
-report_out outs.Done h = tt
-report_out (outs.Made octets) h = tt
-report_out outs.Entered h = tt
-report_out outs.Held h = tt
-report_out outs.Completed h = tt
 report_out (outs.Report answer) h = h
-report_out (outs.Ignored reason) h = tt
-report_out (outs.Refused reason) h = tt
+report_out _ h = tt
 
 -- a field's value in front of others
 pair : {A B : Type 0} → A → B → A × B

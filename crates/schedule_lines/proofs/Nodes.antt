@@ -51,8 +51,7 @@ spec_back name kinds.Clock named h = rw (name_back name named)
 
 is_no_event : (name : List ℕ) (kind : NodeKind) → get (codes "ev") (kind_data name kind) ≡ None
 is_no_event name (kinds.Master config first) = refl
-is_no_event name (kinds.Slave config first) = refl
-is_no_event name kinds.Clock = refl
+is_no_event name _ = refl
 
 in_schedule : (node : NodeSpec) (d : Data) → get (codes "ev") d ≡ None → node_spec_in d ≡ Some node → line_of d ≡ Some (schedules.Node node)
 in_schedule node d ev spec = rw (spec, ev)

@@ -1,5 +1,5 @@
 -- What is read has just the keys of what is written of it.
-use Rattle.std.proofs.Common.{◌≡◌, ◌∙◌, not, ◌+◌, ℕ, suc, Bool, true, false, List, [], ◌∷◌, Option, Some, None, is_some, is_eq, if◌then◌else◌, Ordering, Less, Equal, Greater, nat_cmp, bytes_eq, refl, sym, ap, arith}
+use Rattle.std.proofs.Common.{◌≡◌, ◌∙◌, not, ◌+◌, ℕ, suc, Bool, true, false, List, [], ◌∷◌, Option, Some, None, is_some, is_eq, if◌then◌else◌, Ordering, Equal, nat_cmp, bytes_eq, refl, sym, ap, arith}
 use Rattle.std.specs.Option.{option_or}
 use Rattle.std.specs.Cmp.Lexicographic.{slice_cmp}
 use Rattle.std.specs.Ordering.{match_ordering}
@@ -27,15 +27,13 @@ same_key k l e = (bytes_eq-Decides k l).0 (sym (is_eq-slice_cmp k l) ∙ ap is_e
 
 passed_over : (o : Ordering) (q l : List ℕ) (e : Data) (ms : Members) → slice_cmp nat_cmp q l ≡ o → (q ≡ l → ⊥)
     → get_member q ms ≡ match_ordering o (get_member q ms) (Some e) (get_member q ms)
-passed_over Less q l e ms is other = refl
 passed_over Equal q l e ms is other = absurd (other (same_key q l is))
-passed_over Greater q l e ms is other = refl
+passed_over _ q l e ms is other = refl
 
 stays_at : (o : Ordering) (q k l : List ℕ) (e : Data) (ms : Members) → slice_cmp nat_cmp k l ≡ o → (q ≡ k → ⊥) → get_member q (without k ms) ≡ get_member q ms
     → get_member q (match_ordering o (member l e (without k ms)) ms (member l e (without k ms))) ≡ get_member q (member l e ms)
-stays_at Less q k l e ms is other rest = ap (λ r. match_ordering (slice_cmp nat_cmp q l) r (Some e) r) rest
 stays_at Equal q k l e ms is other rest = passed_over (slice_cmp nat_cmp q l) q l e ms refl (λ same. other (same ∙ sym (same_key k l is)))
-stays_at Greater q k l e ms is other rest = ap (λ r. match_ordering (slice_cmp nat_cmp q l) r (Some e) r) rest
+stays_at _ q k l e ms is other rest = ap (λ r. match_ordering (slice_cmp nat_cmp q l) r (Some e) r) rest
 
 -- the other keys stay
 get_member-without : (q k : List ℕ) (ms : Members) → (q ≡ k → ⊥) → get_member q (without k ms) ≡ get_member q ms
@@ -45,9 +43,8 @@ get_member-without q k (member l e ms) other = stays_at (slice_cmp nat_cmp k l) 
 shorter_at : (o : Ordering) (k l : List ℕ) (e : Data) (ms : Members) → is_some (match_ordering o (get_member k ms) (Some e) (get_member k ms)) ≡ true
     → (is_some (get_member k ms) ≡ true → members_len ms ≡ suc (members_len (without k ms)))
     → suc (members_len ms) ≡ suc (members_len (match_ordering o (member l e (without k ms)) ms (member l e (without k ms))))
-shorter_at Less k l e ms there rest = ap suc (rest there)
 shorter_at Equal k l e ms there rest = refl
-shorter_at Greater k l e ms there rest = ap suc (rest there)
+shorter_at _ k l e ms there rest = ap suc (rest there)
 
 -- there is one member less, where the key is there
 members_len-without : (k : List ℕ) (ms : Members) → is_some (get_member k ms) ≡ true → members_len ms ≡ suc (members_len (without k ms))

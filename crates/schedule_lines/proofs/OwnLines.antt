@@ -25,8 +25,8 @@ use Rattle.schedule_lines.proofs.Keys.{Field, event_fields, answer_fields, line_
 use Rattle.schedule_lines.proofs.OwnKeys.{HasFields, own_keys}
 use Rattle.schedule_lines.proofs.Printed.{port_fields, clock_fields}
 use Rattle.schedule_lines.specs.declared.event_kind.EventKind.{EventKind}
-use Rattle.schedule_lines.specs.declared.event_kind.EventKind.TheVariants.{Sync, SyncOne, Follow, Enter, Leave}
-use Rattle.schedule_lines.specs.declared.event_kind.EventKind.TheVariants.{Arrive, Hear, Request, Stamped, Tick}
+use Rattle.schedule_lines.specs.declared.event_kind.EventKind.TheVariants.{Sync, SyncOne, Enter, Leave}
+use Rattle.schedule_lines.specs.declared.event_kind.EventKind.TheVariants.{Arrive, Hear, Request}
 use Rattle.schedule_lines.specs.declared.event_kind.EventKind.TheVariants.{SetMaster, StepClock}
 use Rattle.schedule_lines.specs.declared.reading.transcript.TranscriptLine.{TranscriptLine}
 use Rattle.schedule_lines.specs.TranscriptLine.{report_of, report_in, out_of, reading_in, trace_line_in, line_keys}
@@ -91,7 +91,6 @@ has_event_at Sync node d e n = with_field (HasEvent d) (events.Sync node) moment
     (λ at h. record { at = λ _. h; copy = no; diff = no; ev = e; master = no; node = n; transit = no })
 has_event_at SyncOne node d e n = with_field (HasEvent d) (events.SyncOne node) moment_in (codes "at") d
     (λ at h. record { at = λ _. h; copy = no; diff = no; ev = e; master = no; node = n; transit = no })
-has_event_at Follow node d e n = record { at = no; copy = no; diff = no; ev = e; master = no; node = n; transit = no }
 has_event_at Enter node d e n = then_field (HasEvent d) (λ copy. option_map (events.Enter node copy) (at_in d)) whole_in (codes "copy") d
     (λ copy k. with_field (HasEvent d) (events.Enter node copy) moment_in (codes "at") d
     (λ at h. record { at = λ _. h; copy = λ _. k; diff = no; ev = e; master = no; node = n; transit = no }))
@@ -105,12 +104,11 @@ has_event_at Hear node d e n = with_field (HasEvent d) (events.Hear node) whole_
     (λ copy k. record { at = no; copy = λ _. k; diff = no; ev = e; master = no; node = n; transit = no })
 has_event_at Request node d e n = with_field (HasEvent d) (events.Request node) moment_in (codes "at") d
     (λ at h. record { at = λ _. h; copy = no; diff = no; ev = e; master = no; node = n; transit = no })
-has_event_at Stamped node d e n = record { at = no; copy = no; diff = no; ev = e; master = no; node = n; transit = no }
-has_event_at Tick node d e n = record { at = no; copy = no; diff = no; ev = e; master = no; node = n; transit = no }
 has_event_at SetMaster node d e n = with_field (HasEvent d) (events.SetMaster node) name_in (codes "master") d
     (λ master k. record { at = no; copy = no; diff = no; ev = e; master = λ _. k; node = n; transit = no })
 has_event_at StepClock node d e n = with_field (HasEvent d) (events.StepClock node) difference_in (codes "diff") d
     (λ diff k. record { at = no; copy = no; diff = λ _. k; ev = e; master = no; node = n; transit = no })
+has_event_at _ node d e n = record { at = no; copy = no; diff = no; ev = e; master = no; node = n; transit = no }
 
 -- the text of `ev` stands there
 has_kind : (d : Data) → IfSome (option_and_then kind_of (field as_str (codes "ev") d)) (λ _. Has (codes "ev") d)

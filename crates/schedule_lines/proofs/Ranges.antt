@@ -33,8 +33,8 @@ use Rattle.schedule_lines.specs.TranscriptLine.{trace_line_in}
 use Rattle.schedule_lines.proofs.Digits.{own}
 use Rattle.schedule_lines.proofs.Names.{IsName-from_test}
 use Rattle.schedule_lines.specs.declared.event_kind.EventKind.{EventKind}
-use Rattle.schedule_lines.specs.declared.event_kind.EventKind.TheVariants.{Sync, SyncOne, Follow, Enter, Leave}
-use Rattle.schedule_lines.specs.declared.event_kind.EventKind.TheVariants.{Arrive, Hear, Request, Stamped, Tick}
+use Rattle.schedule_lines.specs.declared.event_kind.EventKind.TheVariants.{Sync, SyncOne, Enter, Leave}
+use Rattle.schedule_lines.specs.declared.event_kind.EventKind.TheVariants.{Arrive, Hear, Request}
 use Rattle.schedule_lines.specs.declared.event_kind.EventKind.TheVariants.{SetMaster, StepClock}
 use Rattle.schedule_lines.specs.TranscriptLine.{follow_in, report_of, report_in, code_in, out_of, reading_in}
 use Rattle.schedule_lines.specs.TranscriptLine.{trace_line_in, line_keys, traced_in, transcript_line_of}
@@ -109,7 +109,6 @@ with_moment event d each = mapped IsEvent event (at_in d)
 event_at_read : (kind : EventKind) (node : List ℕ) (d : Data) → IsName node → IfSome (event_at kind node d) IsEvent
 event_at_read Sync node d h = with_moment (events.Sync node) d (λ time x. record { node = h; master = tt; moment = x; step = tt })
 event_at_read SyncOne node d h = with_moment (events.SyncOne node) d (λ time x. record { node = h; master = tt; moment = x; step = tt })
-event_at_read Follow node d h = record { node = h; master = tt; moment = tt; step = tt }
 event_at_read Enter node d h = and_then IsEvent (λ copy. option_map (events.Enter node copy) (at_in d)) (copy_in d)
     (λ copy. with_moment (events.Enter node copy) d (λ time x. record { node = h; master = tt; moment = x; step = tt }))
 event_at_read Leave node d h = and_then IsEvent (λ transit. option_map (events.Leave node transit) (at_in d)) (field whole_in (codes "transit") d)
@@ -119,8 +118,6 @@ event_at_read Arrive node d h = and_then IsEvent (λ copy. option_map (events.Ar
 event_at_read Hear node d h = mapped IsEvent (events.Hear node) (copy_in d)
     (weaker (λ _. Unit {0}) (λ copy. IsEvent (events.Hear node copy)) (copy_in d) (nothing (copy_in d)) (λ copy _. record { node = h; master = tt; moment = tt; step = tt }))
 event_at_read Request node d h = with_moment (events.Request node) d (λ time x. record { node = h; master = tt; moment = x; step = tt })
-event_at_read Stamped node d h = record { node = h; master = tt; moment = tt; step = tt }
-event_at_read Tick node d h = record { node = h; master = tt; moment = tt; step = tt }
 event_at_read SetMaster node d h =
     let told = field name_in (codes "master") d in
     mapped IsEvent (events.SetMaster node) told
@@ -131,6 +128,7 @@ event_at_read StepClock node d h =
     mapped IsEvent (events.StepClock node) told
     (weaker IsShort (λ diff. IsEvent (events.StepClock node diff)) told (and_then IsShort difference_in (get (codes "diff") d) difference_read)
     (λ diff x. record { node = h; master = tt; moment = tt; step = x }))
+event_at_read _ node d h = record { node = h; master = tt; moment = tt; step = tt }
 
 event_read : (d : Data) → IfSome (event_in d) IsEvent
 event_read d = and_then IsEvent (λ kind. option_and_then (λ node. event_at kind node d) (node_in d)) (option_and_then kind_of (field as_str (codes "ev") d))

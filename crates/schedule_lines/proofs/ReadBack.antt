@@ -8,8 +8,8 @@ use Rattle.serde_json.specs.Find.{get, as_str}
 use Rattle.ptp_units.specs.Moment.{bound}
 use Rattle.slave_port.specs.declared.heard.Report.{Report}
 use Rattle.network_model.specs.declared.event.Event.{Event}
-use Rattle.network_model.specs.declared.event.Event.TheVariants.{Sync, SyncOne, Follow, Enter, Leave, Arrive, Hear}
-use Rattle.network_model.specs.declared.event.Event.TheVariants.{Request, Stamped, Tick, SetMaster, StepClock}
+use Rattle.network_model.specs.declared.event.Event.TheVariants.{Follow, Enter, Leave, Arrive, Hear}
+use Rattle.network_model.specs.declared.event.Event.TheVariants.{Stamped, Tick, SetMaster, StepClock}
 use Rattle.network_model.specs.Name.{IsName}
 use Rattle.network_model.specs.Run.{site_of, true_moment}
 use Rattle.network_model.specs.Kinds.{named_master, named_difference, named_transit, named_copy}
@@ -37,18 +37,16 @@ use Rattle.schedule_lines.specs.declared.reading.schedule.Line.TheVariants as sc
 event_back : (event : Event) (d : Data) → field as_str (codes "ev") d ≡ Some (event_text event) → node_in d ≡ Some (site_of event)
     → at_in d ≡ true_moment event → copy_in d ≡ named_copy event → field whole_in (codes "transit") d ≡ named_transit event
     → field name_in (codes "master") d ≡ named_master event → field difference_in (codes "diff") d ≡ named_difference event → event_in d ≡ Some event
-event_back (Sync node at) d ev site moment copy transit master diff = rw (ev, site, moment)
-event_back (SyncOne node at) d ev site moment copy transit master diff = rw (ev, site, moment)
 event_back (Follow node) d ev site moment copy transit master diff = rw (ev, site)
 event_back (Enter node tag at) d ev site moment copy transit master diff = rw (ev, site, copy, moment)
 event_back (Leave node tag at) d ev site moment copy transit master diff = rw (ev, site, transit, moment)
 event_back (Arrive node tag at) d ev site moment copy transit master diff = rw (ev, site, copy, moment)
 event_back (Hear node tag) d ev site moment copy transit master diff = rw (ev, site, copy)
-event_back (Request node at) d ev site moment copy transit master diff = rw (ev, site, moment)
 event_back (Stamped node) d ev site moment copy transit master diff = rw (ev, site)
 event_back (Tick node) d ev site moment copy transit master diff = rw (ev, site)
 event_back (SetMaster node told) d ev site moment copy transit master diff = rw (ev, site, master)
 event_back (StepClock node size) d ev site moment copy transit master diff = rw (ev, site, diff)
+event_back _ d ev site moment copy transit master diff = rw (ev, site, moment)
 
 -- ---- what it brought about
 
@@ -59,14 +57,11 @@ report_in_back (Some report) d offset2 path2 tags = rw (offset2, path2, tags) (r
 
 out_back : (out : TraceOut) (d : Data) → field octets_in (codes "hex") d ≡ made_octets out → code_in d ≡ out_code out → report_in d ≡ out_report out
     → out_of (out_text out) d ≡ Some out
-out_back outs.Done d hex code report = refl
 out_back (outs.Made octets) d hex code report = rw hex
-out_back outs.Entered d hex code report = refl
-out_back outs.Held d hex code report = refl
-out_back outs.Completed d hex code report = refl
 out_back (outs.Report answer) d hex code report = rw report
 out_back (outs.Ignored reason) d hex code report = rw code
 out_back (outs.Refused reason) d hex code report = rw code
+out_back _ d hex code report = refl
 
 reading_back : (at reading : Option ℕ) (d : Data) → is_some reading ≡ is_some at → field moment_in (codes "reading") d ≡ reading → reading_in at d ≡ Some reading
 reading_back None None d timed read = refl
@@ -134,34 +129,17 @@ always None = tt
 always (Some x) = tt
 
 octets_out : (out : TraceOut) → IsOut out → IfSome (made_octets out) (λ octets. IsOut (outs.Made (record { items = octets })))
-octets_out outs.Done h = tt
 octets_out (outs.Made octets) h = h
-octets_out outs.Entered h = tt
-octets_out outs.Held h = tt
-octets_out outs.Completed h = tt
-octets_out (outs.Report answer) h = tt
-octets_out (outs.Ignored reason) h = tt
-octets_out (outs.Refused reason) h = tt
+octets_out _ h = tt
 
 pub code_out : (out : TraceOut) → IsOut out → IfSome (out_code out) (λ code. code < 65536)
-code_out outs.Done h = tt
-code_out (outs.Made octets) h = tt
-code_out outs.Entered h = tt
-code_out outs.Held h = tt
-code_out outs.Completed h = tt
-code_out (outs.Report answer) h = tt
 code_out (outs.Ignored reason) h = h
 code_out (outs.Refused reason) h = h
+code_out _ h = tt
 
 report_out : (out : TraceOut) → IsOut out → IfSome (out_report out) (λ report. IsShort report.offset2 × IsShort report.path2)
-report_out outs.Done h = tt
-report_out (outs.Made octets) h = tt
-report_out outs.Entered h = tt
-report_out outs.Held h = tt
-report_out outs.Completed h = tt
 report_out (outs.Report answer) h = h
-report_out (outs.Ignored reason) h = tt
-report_out (outs.Refused reason) h = tt
+report_out _ h = tt
 
 twice_mapped : {X Y Z : Type 0} (f : Y → Z) (g : X → Y) (o : Option X) → option_map (λ x. f (g x)) o ≡ option_map f (option_map g o)
 twice_mapped f g None = refl

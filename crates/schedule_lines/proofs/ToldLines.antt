@@ -48,14 +48,8 @@ told_octets None octets bare told = subst AreFew (sym told) none_few
 told_octets (Some m) octets bare told = (few_octets m octets bare told, bytes_of octets told.octets)
 
 told_made : (copy : Option Contents) (out : TraceOut) → IfSome copy IsBare → TellsMade copy out → IsOut out
-told_made copy outs.Done bare told = absurd told
 told_made copy (outs.Made octets) bare told = told_octets copy octets.items bare told
-told_made copy outs.Entered bare told = absurd told
-told_made copy outs.Held bare told = absurd told
-told_made copy outs.Completed bare told = absurd told
-told_made copy (outs.Report report) bare told = absurd told
-told_made copy (outs.Ignored code) bare told = absurd told
-told_made copy (outs.Refused code) bare told = absurd told
+told_made copy _ bare told = absurd told
 
 -- ---- the outcome
 
@@ -67,18 +61,16 @@ abbrev HasSmallReports : Outcome → Type 0
 HasSmallReports outcome = (report : Report) → outcome ≡ outcomes.Heard (answers.Report report) → IsSmallReport report
 
 told_heard : (heard : Heard) → HasSmallReports (outcomes.Heard heard) → IsOut (heard_out heard)
-told_heard answers.Held small = tt
-told_heard answers.Completed small = tt
 told_heard (answers.Report report) small = (short report.offset2 (small report refl).0, short report.path2 (small report refl).1)
 told_heard (answers.Ignored reason) small = coded_reason reason
+told_heard _ small = tt
 
 told_out : (copy : Option Contents) (outcome : Outcome) (out : TraceOut) → IfSome copy IsBare → IsCoded (Ok outcome) → HasSmallReports outcome
     → TellsOutcome copy outcome out → IsOut out
-told_out copy outcomes.Done out bare coded small told = subst IsOut (sym told) tt
 told_out copy outcomes.Made out bare coded small told = told_made copy out bare told
-told_out copy outcomes.Entered out bare coded small told = subst IsOut (sym told) tt
 told_out copy (outcomes.Heard heard) out bare coded small told = subst IsOut (sym told) (told_heard heard small)
 told_out copy (outcomes.Refused code) out bare coded small told = subst IsOut (sym told) coded
+told_out copy _ out bare coded small told = subst IsOut (sym told) tt
 
 -- ---- the line
 

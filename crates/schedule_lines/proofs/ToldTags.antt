@@ -100,27 +100,17 @@ abbrev IsTaggedOut : TraceOut → Type 0
 IsTaggedOut out = IfSome (out_report out) HasTags
 
 tagged_made : (copy : Option Contents) (out : TraceOut) → TellsMade copy out → IsTaggedOut out
-tagged_made copy outs.Done told = tt
-tagged_made copy (outs.Made octets) told = tt
-tagged_made copy outs.Entered told = tt
-tagged_made copy outs.Held told = tt
-tagged_made copy outs.Completed told = tt
 tagged_made copy (outs.Report report) told = absurd told
-tagged_made copy (outs.Ignored code) told = tt
-tagged_made copy (outs.Refused code) told = tt
+tagged_made copy _ told = tt
 
 tagged_heard : (heard : Heard) → HasTaggedReports (outcomes.Heard heard) → IsTaggedOut (heard_out heard)
-tagged_heard answers.Held tags = tt
-tagged_heard answers.Completed tags = tt
 tagged_heard (answers.Report report) tags = tags report refl
-tagged_heard (answers.Ignored reason) tags = tt
+tagged_heard _ tags = tt
 
 tagged_out : (copy : Option Contents) (outcome : Outcome) (out : TraceOut) → HasTaggedReports outcome → TellsOutcome copy outcome out → IsTaggedOut out
-tagged_out copy outcomes.Done out tags told = subst IsTaggedOut (sym told) tt
 tagged_out copy outcomes.Made out tags told = tagged_made copy out told
-tagged_out copy outcomes.Entered out tags told = subst IsTaggedOut (sym told) tt
 tagged_out copy (outcomes.Heard heard) out tags told = subst IsTaggedOut (sym told) (tagged_heard heard tags)
-tagged_out copy (outcomes.Refused code) out tags told = subst IsTaggedOut (sym told) tt
+tagged_out copy _ out tags told = subst IsTaggedOut (sym told) tt
 
 -- ---- the line
 
