@@ -50,12 +50,7 @@ is_of_journeys _ = true
 pub of_journeys : (why : Why) → (why ≡ whys.NoSuchLine → ⊥) → (why ≡ whys.BrokenJourney → ⊥) → is_of_journeys why ≡ true
 of_journeys whys.NoSuchLine other another = absurd (other refl)
 of_journeys whys.BrokenJourney other another = absurd (another refl)
-of_journeys whys.OtherNumber other another = refl
-of_journeys whys.OtherMaster other another = refl
-of_journeys whys.WrongReading other another = refl
-of_journeys whys.TooBig other another = refl
-of_journeys whys.WrongValue other another = refl
-of_journeys whys.Bytes other another = refl
+of_journeys _ other another = refl
 
 module _ (network : Network) (report : Report) where
   -- what is found of an exchange and its journeys
@@ -150,14 +145,9 @@ module _ (network : Network) (report : Report) where
 
     by_why : (why : Why) → is_of_journeys why ≡ true
         → of_last network report (ways_of why) fed ≡ last_finding network fed report why
-    by_why whys.OtherNumber h = refl
-    by_why whys.OtherMaster h = refl
-    by_why whys.WrongReading h = refl
-    by_why whys.TooBig h = refl
-    by_why whys.WrongValue h = refl
-    by_why whys.Bytes h = refl
     by_why whys.NoSuchLine h = cc
     by_why whys.BrokenJourney h = cc
+    by_why _ h = refl
 
 module _ (network : Network) (report : Report) (why : Why) (asked : is_of_journeys why ≡ true) (fed : Lines) (kept : Kept)
     (h : IsKept network kept (length fed) (machine network fed)) (exceptions : Exceptions)

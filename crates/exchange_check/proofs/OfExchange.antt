@@ -1,6 +1,6 @@
 -- What is found of an exchange by what is kept, right after the line of its report, is what is found of it by the lines.
-use Rattle.std.proofs.Common.{◌≡◌, ◌∙◌, ℕ, ◌+◌, Bool, true, false, ◌&&◌, cond, [], ◌∷◌, length, Option, Some, None}
-use Rattle.std.proofs.Common.{refl, sym, ap, arith}
+use Rattle.std.proofs.Common.{◌≡◌, ◌∙◌, ℕ, Bool, true, false, ◌&&◌, cond, [], ◌∷◌, length, Option, Some, None}
+use Rattle.std.proofs.Common.{refl, sym, ap}
 use Rattle.std.specs.Prelude.{option_map, option_and_then}
 use Rattle.std.proofs.lemmas.Bool.{eq-eqb}
 use Rattle.std.proofs.lemmas.Option.{same_Some, none-some}
@@ -48,9 +48,6 @@ of_report-found {Y} facts stamps next number report found is =
 module _ (network : Network) (line : TraceLine) (earlier : Lines) (report : Report) where
   abbrev e : LinePlace
   e = line_place line earlier
-
-  abbrev fed : Lines
-  fed = line ∷ earlier
 
   module _ {Y : Type 0} (counted : counts network line ≡ true) (by_found : Found → Option Y) (by_lines : Lined → Option Y)
       (same : (x : Lined) → all_lines network line earlier report ≡ Some x → IsSilent line.event
@@ -155,15 +152,3 @@ module _ (network : Network) (report : Report) {Y : Type 0} (by_lines : LinePlac
         ∙ sym (λ i. option_and_then (by_lines (line_place line earlier))
         (cond (counted i && here network line earlier report && learned network line earlier report)
         (all_lines network line earlier report) None))
-
-    pub last-there : (fed : Lines) (number : ℕ) → number + 1 ≡ length fed
-        → ((line : TraceLine) (earlier : Lines) → fed ≡ line ∷ earlier → (counted : counts network line ≡ true)
-        → option_and_then (by_found (fact_of network (line_place line earlier)))
-        (found_by (facts_at network (line ∷ earlier)) (stamps_at network (line ∷ earlier)) (site_of line.event)
-        (length earlier) report) ≡ of_last (line ∷ earlier))
-        → of_report (facts_at network fed) (stamps_at network fed) by_found number report ≡ of_last fed
-    last-there [] number h each = absurd (omega (arith, h))
-    last-there (line ∷ earlier) number h each =
-        let last : number ≡ length earlier = omega (arith, h) in
-        ap (λ (n : ℕ). of_report (facts_at network (line ∷ earlier)) (stamps_at network (line ∷ earlier)) by_found n report) last
-        ∙ last_if line earlier (counts network line) refl (each line earlier refl)

@@ -17,9 +17,7 @@ use Rattle.exchange_check.specs.Inner.Messages.{said_by}
 
 small_type : (body : Body) → number_of (type_of body) < 16
 small_type (bodies.Sync origin) = omega arith
-small_type (bodies.DelayReq origin) = omega arith
-small_type (bodies.FollowUp precise) = omega arith
-small_type (bodies.DelayResp receive requesting) = omega arith
+small_type _ = omega arith
 
 module _ (m : Contents) (n : ℕ) (b : List ℕ) (within : n ≤ length b) (p : Packet m (take n b))
     (unrefused : decode_refusal b ≡ None) where
