@@ -15,7 +15,7 @@ use Rattle.network_model.specs.Outcome.{outcome_of, IsRun}
 use Rattle.network_model.proofs.LeftOnce.{leave_before, not_left}
 use Rattle.world_model.specs.Inner.Stands.{Entry}
 use Rattle.world_model.specs.declared.entry.Left.{Left}
-use Rattle.world_model.specs.declared.entry.Left.TheVariants.{Copy, Stay, Nothing}
+use Rattle.world_model.specs.declared.entry.Left.TheVariants.{Copy}
 use Rattle.world_model.specs.declared.entry.Happened.{Happened}
 use Rattle.world_model.specs.Inner.Stands.{run_of, octets_in, stay_in, event_at, octets_at, stay_at, ended, left_stay, entering, open_stay, Keeps}
 use Rattle.world_model.specs.Inner.Acts.{Brings, entries_after}
@@ -69,8 +69,7 @@ left_stay-event_at (suc transit) (entry ∷ entries) (suc tag) = left_stay-event
 
 ended-octets : (left : Left) → octets_in (ended left) ≡ octets_in left
 ended-octets (Copy octets) = refl
-ended-octets (Stay transit) = refl
-ended-octets Nothing = refl
+ended-octets _ = refl
 
 left_stay-octets_at : (transit : ℕ) (entries : List Entry) (tag : ℕ) → octets_at (left_stay transit entries) tag ≡ octets_at entries tag
 left_stay-octets_at transit [] tag = refl
@@ -81,8 +80,7 @@ left_stay-octets_at (suc transit) (entry ∷ entries) (suc tag) = left_stay-octe
 
 ended-stay : (left : Left) → stay_in (ended left) ≡ None
 ended-stay (Copy octets) = refl
-ended-stay (Stay transit) = refl
-ended-stay Nothing = refl
+ended-stay _ = refl
 
 left_stay-stay_at : (transit : ℕ) (entries : List Entry) (tag : ℕ) → stay_at (left_stay transit entries) tag ≡ (if transit == tag then None else stay_at entries tag)
 left_stay-stay_at transit [] tag = sym (same_if (transit == tag) None)

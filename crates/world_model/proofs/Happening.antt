@@ -1,7 +1,6 @@
 -- A world after one more event.
 use Rattle.std.proofs.Common.{◌≡◌, ◌∙◌, ℕ, zero, suc, ◌<◌, true, List, [], ◌∷◌, ◌++◌, length, slice_get, slice_set, slice_index_or, Option, Some, None, Result, is_some, option_map, sym, ap, refl, subst, arith}
 use Rattle.network_model.specs.declared.event.Event.{Event}
-use Rattle.network_model.specs.declared.node.NodeKind.{NodeKind}
 use Rattle.network_model.specs.declared.node.NodeSpec.{NodeSpec}
 use Rattle.network_model.specs.declared.refusal.WorldRefusal.{WorldRefusal}
 use Rattle.network_model.specs.Network.{Network, NodeName, node_of}
@@ -44,9 +43,6 @@ set_same (y ∷ ys) (suc i) x same = ap (λ rest. y ∷ rest) (set_same ys i x s
 module _ (network : Network) (event : Event) (stations : List Station) (entries : List Entry) (world : IsWorld network stations entries)
     (name : NodeName) (is_site : name ≡ site_of event) (index : ℕ) (here : Found network name index)
     (less : index < length stations) (old new : Station) (is_old : old ≡ slice_index_or stations index old) (HasRoom : Type 0) where
-  kind : NodeKind
-  kind = here.node.kind
-
   named_here : here.node.name ≡ site_of event
   named_here = named_so network name here.node here.is ∙ is_site
 

@@ -1,7 +1,6 @@
 -- What is kept of events, as entries.
-use Rattle.std.proofs.Common.{◌≡◌, ◌∙◌, ℕ, zero, suc, ◌<◌, ◌==◌, Bool, true, false, List, [], ◌∷◌, ◌++◌, length, slice_get, slice_set, if◌then◌else◌, Option, Some, None, option_map, option_and_then, unwrap_or, IsSome, is_some, refl, sym, ap, subst, arith}
+use Rattle.std.proofs.Common.{◌≡◌, ◌∙◌, ℕ, zero, suc, ◌<◌, ◌==◌, Bool, true, false, List, [], ◌∷◌, ◌++◌, length, slice_get, slice_set, if◌then◌else◌, Option, Some, None, option_map, IsSome, is_some, refl, sym, ap, subst, arith}
 use Rattle.std.proofs.lemmas.List.{map-append}
-use Rattle.std.proofs.lemmas.Option.{slice_get-map}
 use Rattle.network_model.specs.declared.event.Event.{Event}
 use Rattle.network_model.specs.Run.{Run, place}
 use Rattle.network_model.specs.Kinds.{entered_copy}
@@ -13,7 +12,7 @@ use Rattle.world_model.specs.declared.events.Slot.{Slot}
 use Rattle.world_model.specs.declared.events.Slot.TheVariants as slots
 use Rattle.world_model.specs.declared.events.Kept.{Kept}
 use Rattle.world_model.specs.Inner.Stands.{Entry, stay_in, stay_at, ended, left_stay, entering}
-use Rattle.world_model.specs.Inner.Kept.{Lists, copied, stayed, left_in, slot_at, entry_of, entries_in, IsStored, AllStored, Extends}
+use Rattle.world_model.specs.Inner.Kept.{Lists, copied, stayed, left_in, entry_of, entries_in, IsStored, AllStored, Extends}
 use Rattle.world_model.proofs.Entries.{get-push}
 
 -- what is there is there in a longer list
@@ -60,15 +59,6 @@ module _ (old new : Lists) (extends : Extends old new) where
       by_test true is = let same : k ≡ other = cc in subst (λ (x : Kept). IsStored new x.event.value x.slot) same stored
       by_test false is = still_stored other.event.value other.slot (all i other is)
 
--- the stay of this tag, by where it is kept
-stay_at-slot : (lists : Lists) (kept : List Kept) (tag : ℕ) → stay_at (entries_in lists kept) tag ≡ stay_in (left_in lists (slot_at kept tag))
-stay_at-slot lists kept tag = ap (option_and_then (λ (entry : Entry). stay_in entry.left)) (slice_get-map (entry_of lists) kept tag) ∙ by_kept (slice_get kept tag)
-  where
-    by_kept : (o : Option Kept) → option_and_then (λ (entry : Entry). stay_in entry.left) (option_map (entry_of lists) o)
-        ≡ stay_in (left_in lists (unwrap_or (option_map (λ (k : Kept). k.slot) o) slots.Nothing))
-    by_kept None = refl
-    by_kept (Some k) = refl
-
 -- a stay is that of an event that is there
 pub stay-within : (lists : Lists) (kept : List Kept) (tag entered : ℕ) → stay_at (entries_in lists kept) tag ≡ Some entered → tag < length kept
 stay-within lists [] tag entered stay = absurd (cc)
@@ -77,8 +67,7 @@ stay-within lists (k ∷ kept) (suc tag) entered stay = let less : tag < length 
 
 ended-stay : (left : Left) (entered : ℕ) → stay_in left ≡ Some entered → ended left ≡ lefts.Nothing
 ended-stay (lefts.Copy octets) entered stay = absurd (cc)
-ended-stay (lefts.Stay reading) entered stay = refl
-ended-stay lefts.Nothing entered stay = refl
+ended-stay _ entered stay = refl
 
 -- the same where a stay was taken out
 pub entries-out : (lists : Lists) (kept : List Kept) (tag entered : ℕ) (k : Kept) → slice_get kept tag ≡ Some k → stay_at (entries_in lists kept) tag ≡ Some entered

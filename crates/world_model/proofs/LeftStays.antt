@@ -2,13 +2,12 @@
 use Rattle.std.proofs.Common.{◌≡◌, ℕ, zero, suc, List, [], ◌∷◌, None, refl, ap}
 use Rattle.world_model.specs.Inner.Stands.{Entry}
 use Rattle.world_model.specs.declared.entry.Left.{Left}
-use Rattle.world_model.specs.declared.entry.Left.TheVariants.{Copy, Stay, Nothing}
+use Rattle.world_model.specs.declared.entry.Left.TheVariants.{Stay}
 use Rattle.world_model.specs.Inner.Stands.{stay_in, stay_at, ended, left_stay}
 
 unchanged : (left : Left) → stay_in left ≡ None → ended left ≡ left
-unchanged (Copy octets) none = refl
 unchanged (Stay transit) none = absurd (cc)
-unchanged Nothing none = refl
+unchanged _ none = refl
 
 -- where there is no stay nothing ends
 pub left_stay-none : (entries : List Entry) (i : ℕ) → stay_at entries i ≡ None → left_stay i entries ≡ entries

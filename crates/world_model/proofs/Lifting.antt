@@ -26,15 +26,13 @@ record MasterAt (run : Run) (name : NodeName) (kind : NodeKind) (master : Master
 master_here : (network : Network) (run : Run) (name : NodeName) (kind : NodeKind) (master : Master)
     → PortStands network run name kind (ports.Master master) → MasterAt run name kind master
 master_here network run name (kinds.Master config first) master stands = record { setup = record { config = config; first = first.0 }; is = refl; stands = stands }
-master_here network run name (kinds.Slave config first) master stands = absurd stands
-master_here network run name kinds.Clock master stands = absurd stands
+master_here network run name _ master stands = absurd stands
 
 master_there : (network : Network) (run : Run) (name : NodeName) (kind : NodeKind) (setup : PortSetup) (master : Master)
     → master_port kind ≡ Some setup → MasterStands run name setup master → PortStands network run name kind (ports.Master master)
 master_there network run name (kinds.Master config first) setup master is stands =
     let same : record { config = config; first = first.0 } ≡ setup = cc in subst (λ (s : PortSetup). MasterStands run name s master) (sym same) stands
-master_there network run name (kinds.Slave config first) setup master is stands = absurd (cc)
-master_there network run name kinds.Clock setup master is stands = absurd (cc)
+master_there network run name _ setup master is stands = absurd (cc)
 
 -- the same of a slave
 record SlaveAt (network : Network) (run : Run) (name : NodeName) (kind : NodeKind) (slave : Slave) : Type 0 where
@@ -45,15 +43,13 @@ record SlaveAt (network : Network) (run : Run) (name : NodeName) (kind : NodeKin
 slave_here : (network : Network) (run : Run) (name : NodeName) (kind : NodeKind) (slave : Slave)
     → PortStands network run name kind (ports.Slave slave) → SlaveAt network run name kind slave
 slave_here network run name (kinds.Slave config first) slave stands = record { setup = record { config = config; first = first.0 }; is = refl; stands = stands }
-slave_here network run name (kinds.Master config first) slave stands = absurd stands
-slave_here network run name kinds.Clock slave stands = absurd stands
+slave_here network run name _ slave stands = absurd stands
 
 slave_there : (network : Network) (run : Run) (name : NodeName) (kind : NodeKind) (setup : PortSetup) (slave : Slave)
     → slave_port kind ≡ Some setup → SlaveStands network run name setup slave → PortStands network run name kind (ports.Slave slave)
 slave_there network run name (kinds.Slave config first) setup slave is stands =
     let same : record { config = config; first = first.0 } ≡ setup = cc in subst (λ (s : PortSetup). SlaveStands network run name s slave) (sym same) stands
-slave_there network run name (kinds.Master config first) setup slave is stands = absurd (cc)
-slave_there network run name kinds.Clock setup slave is stands = absurd (cc)
+slave_there network run name _ setup slave is stands = absurd (cc)
 
 -- what an event brings about, said of more
 weaker : (network : Network) (run : Run) (event : Event) (HasRoom : Type 0) {A B Same Also : Type 0} → (A → B) → (Same → Also)

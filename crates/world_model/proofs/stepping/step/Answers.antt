@@ -1,6 +1,5 @@
 use Rattle.std.proofs.Common.{◌≡◌, ◌∙◌, ◌<◌, List, [], ◌∷◌, ◌++◌, length, slice_set, Ok, Err, sym, ap, subst, arith}
 use Rattle.std.proofs.lemmas.Option.{slice_get_within}
-use Rattle.network_model.specs.declared.stepped.Stepped.{Stepped}
 use Rattle.network_model.specs.Outcome.{IsStepped}
 use Rattle.world_model.specs.Inner.Stands.{Entry, run_of, IsWorld}
 use Rattle.world_model.specs.Inner.Acts.{ActsIn, entries_after}

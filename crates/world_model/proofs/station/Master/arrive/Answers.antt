@@ -1,4 +1,4 @@
-use Rattle.std.proofs.Common.{◌∙◌, Ok, ap, sym}
+use Rattle.std.proofs.Common.{◌∙◌, Ok, sym}
 use Rattle.master_port.specs.Written.{answer}
 use Rattle.network_model.specs.Truth.{copy_of}
 use Rattle.world_model.specs.declared.entry.Octets.TheVariants.{Long}

@@ -1,4 +1,4 @@
-use Rattle.std.proofs.Common.{◌∙◌, ap, sym}
+use Rattle.std.proofs.Common.{◌∙◌, sym}
 use Rattle.world_model.specs.declared.entry.Octets.TheVariants.{Short}
 use Rattle.world_model.proofs.Masters.{one_step_sync-brings}
 use Rattle.world_model.proofs.station.Master.one_step_sync.Goals as goal

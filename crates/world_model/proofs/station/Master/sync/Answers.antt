@@ -1,4 +1,4 @@
-use Rattle.std.proofs.Common.{◌≡◌, ◌∙◌, ap, sym}
+use Rattle.std.proofs.Common.{◌≡◌, ◌∙◌, sym}
 use Rattle.ptp_units.specs.declared.sequence.Seq.{Seq}
 use Rattle.world_model.specs.declared.entry.Octets.TheVariants.{Short}
 use Rattle.world_model.proofs.Masters.{sync-brings}

@@ -1,4 +1,4 @@
-use Rattle.std.proofs.Common.{◌≡◌, ◌∙◌, ◌∷◌, ℕ, Ok, ap, sym, subst}
+use Rattle.std.proofs.Common.{◌≡◌, ◌∙◌, ◌∷◌, ℕ, Ok, sym, subst}
 use Rattle.slave_port.specs.History as calls
 use Rattle.slave_port.specs.Answer as slaves
 use Rattle.slave_port.specs.StandsFor.{StandsFor}

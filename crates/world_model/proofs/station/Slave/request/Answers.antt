@@ -1,4 +1,4 @@
-use Rattle.std.proofs.Common.{◌∙◌, ◌∷◌, ap, sym, subst, ℕ}
+use Rattle.std.proofs.Common.{◌∙◌, ◌∷◌, sym, subst, ℕ}
 use Rattle.slave_port.specs.History as calls
 use Rattle.slave_port.specs.StandsFor.{StandsFor}
 use Rattle.network_model.specs.SlaveHistory.{slave_setup, history_of}

@@ -1,4 +1,4 @@
-use Rattle.std.proofs.Common.{◌∙◌, pos, ◌+ℤ◌, ok_or, ap, sym}
+use Rattle.std.proofs.Common.{pos, ◌+ℤ◌, ok_or, ap, sym}
 use Rattle.ptp_units.specs.Moment.{moment_of}
 use Rattle.network_model.specs.declared.refusal.WorldRefusal.TheVariants.{ReadingOutOfRange}
 use Rattle.world_model.specs.Inner.Stands.{listed}

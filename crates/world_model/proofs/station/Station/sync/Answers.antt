@@ -1,4 +1,4 @@
-use Rattle.std.proofs.Common.{◌∙◌, pos, ◌+ℤ◌, ok_or, ap, refl}
+use Rattle.std.proofs.Common.{pos, ◌+ℤ◌, ok_or, ap, refl}
 use Rattle.ptp_units.specs.Moment.{moment_of}
 use Rattle.network_model.specs.declared.event.Event.TheVariants.{Sync}
 use Rattle.network_model.specs.declared.refusal.WorldRefusal.TheVariants.{ReadingOutOfRange}
