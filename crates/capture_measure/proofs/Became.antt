@@ -4,7 +4,7 @@ use Rattle.std.specs.Prelude.{if◌then◌else◌, ◌&&◌, not, ◌==◌, opti
 use Rattle.std.specs.Option.{option_map_or}
 use Rattle.event_codec.specs.declared.message.Header.{Header}
 use Rattle.event_codec.specs.declared.message.Body.{Body}
-use Rattle.event_codec.specs.declared.message.Body.TheVariants.{Sync, DelayReq, FollowUp, DelayResp}
+use Rattle.event_codec.specs.declared.message.Body.TheVariants.{Sync, DelayReq}
 use Rattle.event_codec.specs.Packet.{Contents}
 use Rattle.sync_watch.specs.declared.judgement.Judgement.{Judgement}
 use Rattle.sync_watch.specs.declared.judgement.Judgement.TheVariants.{Newer, Repeated, BeganAnew}
@@ -124,31 +124,27 @@ module _ (w : Watched) (line time : ℕ) (m : Contents) where
   heard-became (Sync origin) l = heard_called w (Event (Ok m) time line) (sync_begins w line time m l) _
   heard-became (DelayReq origin) l = ap (option_map (λ (r : Reply). r.heard))
       (asked_unheard (is_of w w.slave m.header) (is_next w l m.header.sequence.0) (is_last w l m.header.sequence.0))
-  heard-became (FollowUp precise) l = heard_called w (General (Ok m) line) false _
-  heard-became (DelayResp receive requesting) l = heard_called w (General (Ok m) line) false _
+  heard-became _ l = heard_called w (General (Ok m) line) false _
 
   pub exchange-became : (body : Body) (l : Listening)
       → exchange_by (became_of w line time m body l) ≡ exchanged w line time m body l
   exchange-became (Sync origin) l = exchange_called w (Event (Ok m) time line) (sync_begins w line time m l) _
   exchange-became (DelayReq origin) l = ap (option_and_then (λ (r : Reply). r.exchange))
       (asked_unheard (is_of w w.slave m.header) (is_next w l m.header.sequence.0) (is_last w l m.header.sequence.0))
-  exchange-became (FollowUp precise) l = exchange_called w (General (Ok m) line) false _
-  exchange-became (DelayResp receive requesting) l = exchange_called w (General (Ok m) line) false _
+  exchange-became _ l = exchange_called w (General (Ok m) line) false _
 
   pub why-became : (body : Body) (l : Listening)
       → why_by w.domain m.header (became_of w line time m body l) ≡ why_heard w line time m body l
   why-became (Sync origin) l = why_called w (Event (Ok m) time line) w.domain m.header (sync_begins w line time m l) _
   why-became (DelayReq origin) l = asked_why w.domain m.header (is_of w w.slave m.header) (is_next w l m.header.sequence.0)
       (is_last w l m.header.sequence.0) (m.header.domain == w.domain) refl
-  why-became (FollowUp precise) l = why_called w (General (Ok m) line) w.domain m.header false _
-  why-became (DelayResp receive requesting) l = why_called w (General (Ok m) line) w.domain m.header false _
+  why-became _ l = why_called w (General (Ok m) line) w.domain m.header false _
 
   pub slave-became : (body : Body) (l : Listening) → is_slave_anew (became_of w line time m body l) ≡ slave_begins w m body l
   slave-became (Sync origin) l = slave_called (sync_begins w line time m l) _
   slave-became (DelayReq origin) l =
       asked_slave (is_of w w.slave m.header) (is_next w l m.header.sequence.0) (is_last w l m.header.sequence.0)
-  slave-became (FollowUp precise) l = slave_called false _
-  slave-became (DelayResp receive requesting) l = slave_called false _
+  slave-became _ l = slave_called false _
 
   pub master-became : (body : Body) (l : Listening)
       → is_master_anew (became_of w line time m body l) ≡ master_begins w line time m body l
@@ -156,5 +152,4 @@ module _ (w : Watched) (line time : ℕ) (m : Contents) where
       (judged_sync (arrival_of m.header time) table_capacity l.heard) w line (Event (Ok m) time line) (arrival_of m.header time) l
   master-became (DelayReq origin) l =
       asked_master (is_of w w.slave m.header) (is_next w l m.header.sequence.0) (is_last w l m.header.sequence.0)
-  master-became (FollowUp precise) l = master_called_not _
-  master-became (DelayResp receive requesting) l = master_called_not _
+  master-became _ l = master_called_not _

@@ -36,31 +36,11 @@ use Rattle.capture_measure.proofs.Became.{why-became, slave-became, master-becam
 -- ---- places
 kind_few : (kind : Kind) → kind_number kind < 10
 kind_few kinds.Sync = omega arith
-kind_few kinds.FollowUp = omega arith
-kind_few kinds.DelayReq = omega arith
-kind_few kinds.DelayResp = omega arith
-kind_few kinds.Pdelay = omega arith
-kind_few kinds.Announce = omega arith
-kind_few kinds.Signaling = omega arith
-kind_few kinds.Management = omega arith
-kind_few kinds.Reserved = omega arith
-kind_few kinds.Malformed = omega arith
+kind_few _ = omega arith
 
 why_few : (why : NoReport) → why_number why < 14
 why_few whys.Held = omega arith
-why_few whys.Alone = omega arith
-why_few whys.OfSlave = omega arith
-why_few whys.Again = omega arith
-why_few whys.Before = omega arith
-why_few whys.OtherDomain = omega arith
-why_few whys.OtherMaster = omega arith
-why_few whys.OtherSlave = omega arith
-why_few whys.TooBig = omega arith
-why_few whys.NotNewer = omega arith
-why_few whys.Unrecorded = omega arith
-why_few whys.PeerDelay = omega arith
-why_few whys.TooEarly = omega arith
-why_few whys.NoPart = omega arith
+why_few _ = omega arith
 
 place_within : (k y : ℕ) → k < 10 → y < 14 → k * 14 + y < 140
 place_within k y few some = omega (arith, few, some)
@@ -86,45 +66,25 @@ slave_more : (b : Became) (counts : Counts) (fate : Fate) (all : List Fate) → 
     → counts.slave_anew ≡ at_most (count_by (λ f. f.slave_anew) all)
     → (with_anew b counts).slave_anew ≡ at_most (count_by (λ f. f.slave_anew) (fate ∷ all))
 slave_more became.Anew counts fate all is so = count_yes (λ f. f.slave_anew) fate all counts.slave_anew is so
-slave_more (became.Heard heard) counts fate all is so = count_no (λ f. f.slave_anew) fate all counts.slave_anew is so
-slave_more (became.HeardAnew heard) counts fate all is so = count_no (λ f. f.slave_anew) fate all counts.slave_anew is so
-slave_more became.HeardBefore counts fate all is so = count_no (λ f. f.slave_anew) fate all counts.slave_anew is so
-slave_more became.Asked counts fate all is so = count_no (λ f. f.slave_anew) fate all counts.slave_anew is so
-slave_more became.Repeated counts fate all is so = count_no (λ f. f.slave_anew) fate all counts.slave_anew is so
-slave_more became.Foreign counts fate all is so = count_no (λ f. f.slave_anew) fate all counts.slave_anew is so
+slave_more _ counts fate all is so = count_no (λ f. f.slave_anew) fate all counts.slave_anew is so
 
 master_more : (b : Became) (counts : Counts) (fate : Fate) (all : List Fate) → fate.master_anew ≡ is_master_anew b
     → counts.master_anew ≡ at_most (count_by (λ f. f.master_anew) all)
     → (with_anew b counts).master_anew ≡ at_most (count_by (λ f. f.master_anew) (fate ∷ all))
 master_more (became.HeardAnew heard) counts fate all is so = count_yes (λ f. f.master_anew) fate all counts.master_anew is so
-master_more (became.Heard heard) counts fate all is so = count_no (λ f. f.master_anew) fate all counts.master_anew is so
-master_more became.Anew counts fate all is so = count_no (λ f. f.master_anew) fate all counts.master_anew is so
-master_more became.HeardBefore counts fate all is so = count_no (λ f. f.master_anew) fate all counts.master_anew is so
-master_more became.Asked counts fate all is so = count_no (λ f. f.master_anew) fate all counts.master_anew is so
-master_more became.Repeated counts fate all is so = count_no (λ f. f.master_anew) fate all counts.master_anew is so
-master_more became.Foreign counts fate all is so = count_no (λ f. f.master_anew) fate all counts.master_anew is so
+master_more _ counts fate all is so = count_no (λ f. f.master_anew) fate all counts.master_anew is so
 
 -- the counts of those that gave no report, and of reports, and what they are worth are those of before
 anew_others : (b : Became) (counts : Counts)
     → ((with_anew b counts).unreported ≡ counts.unreported) × ((with_anew b counts).reports ≡ counts.reports)
     × ((with_anew b counts).quality ≡ counts.quality)
 anew_others (became.Heard heard) counts = (refl, refl, refl)
-anew_others (became.HeardAnew heard) counts = (refl, refl, refl)
-anew_others became.HeardBefore counts = (refl, refl, refl)
-anew_others became.Asked counts = (refl, refl, refl)
-anew_others became.Repeated counts = (refl, refl, refl)
-anew_others became.Anew counts = (refl, refl, refl)
-anew_others became.Foreign counts = (refl, refl, refl)
+anew_others _ counts = (refl, refl, refl)
 
 -- who else is there, too
 pub anew_same : (b : Became) (counts : Counts) → (with_anew b counts).others ≡ counts.others
 anew_same (became.Heard heard) counts = refl
-anew_same (became.HeardAnew heard) counts = refl
-anew_same became.HeardBefore counts = refl
-anew_same became.Asked counts = refl
-anew_same became.Repeated counts = refl
-anew_same became.Anew counts = refl
-anew_same became.Foreign counts = refl
+anew_same _ counts = refl
 
 pub why_same : (kind : Kind) (why : Option NoReport) (counts : Counts) → (with_why kind why counts).others ≡ counts.others
 why_same kind None counts = refl

@@ -5,7 +5,7 @@ use Rattle.std.specs.Prelude.{⊤, if◌then◌else◌}
 use Rattle.std.specs.Option.{option_map_or}
 use Rattle.std.proofs.lemmas.List.{append-nil}
 use Rattle.capture_file.specs.declared.name.InterfaceName.{InterfaceName}
-use Rattle.capture_file.specs.Packet.{InterfaceOf, PacketOf, Captured, Timeless, Simple}
+use Rattle.capture_file.specs.Packet.{InterfaceOf, PacketOf, Captured}
 use Rattle.capture_file.specs.Task.{TakesPackets}
 use Rattle.capture_model.specs.declared.watched.Watched.{Watched}
 use Rattle.capture_model.specs.Told.{AreNumbered}
@@ -84,8 +84,7 @@ pub record HasReadOn (k read : Capture) (text : List ℕ) (most : ℕ) : Type 0 
 row_number : (asked : Option InterfaceName) (number : ℕ) (packet : PacketOf) (r : InterfaceRow) → IsPacketRow asked number packet r
     → r.row.datagram.line ≡ number
 row_number asked number (Captured interface time link octets) r is = is.4.numbered
-row_number asked number Timeless r is = absurd is
-row_number asked number Simple r is = absurd is
+row_number asked number _ r is = absurd is
 
 pub read_on : (form : Form) (wanted : WantedPorts) (packets : List PacketOf) (read : Capture) (text : List ℕ)
     → TakesPackets capture_rules (capture_begun form wanted) packets read text

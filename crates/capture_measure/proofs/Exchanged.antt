@@ -30,9 +30,7 @@ some_is a b same = cc
 
 report_is : (heard : Heard) (report : Report) → report_in heard ≡ Some report → heard ≡ answers.Report report
 report_is (answers.Report own) report is = ap answers.Report (some_is own report is)
-report_is answers.Held report is = absurd cc
-report_is answers.Completed report is = absurd cc
-report_is (answers.Ignored reason) report is = absurd cc
+report_is _ report is = absurd cc
 
 -- an exchange is there, and a report is of it
 abbrev IsThere : Option LastExchange → Report → Type 0

@@ -15,14 +15,6 @@ use Rattle.capture_measure.specs.Counts.{Fate, fate_in, fate_at, fates, early_fa
 use Rattle.capture_measure.proofs.Rows.{heard-known, heard-unknown, unknown_before}
 use Rattle.capture_measure.proofs.Told.{watched-stays}
 
--- before the first line
-no_fates : (w : WantedPorts) (known : Option Watched) → option_map_or (λ watched. fates watched (heard w [])) known [] ++ [] ≡ []
-no_fates w None = refl
-no_fates w (Some watched) = refl
-
-pub fates-nil : (w : WantedPorts) → fates_in w [] ≡ []
-fates-nil w = no_fates w (watched_in w [])
-
 -- where it isn't known whom to watch
 pub fates-unknown : (w : WantedPorts) (rows : List Row) → watched_in w (datagrams rows) ≡ None → fates_in w rows ≡ early_fates rows
 fates-unknown w rows unknown =

@@ -159,9 +159,8 @@ stops_unread Memory number line a is = is
 -- where it was read it has a row
 pub stops_read : (fault : LineFault) (number : ℕ) (line : List ℕ) (a b : Option (List ℕ)) → IsOfOutput fault
     → HasRow number line → StopsAt fault number line a b
-stops_read Write number line a b of_output has = has
 stops_read Field number line a b of_output has = absurd of_output
-stops_read Memory number line a b of_output has = has
+stops_read _ number line a b of_output has = has
 
 -- a line that a port hears stops it
 pub stopped : (r : Recording) (line : List ℕ) (fault : LineFault) (a b : Option (List ℕ)) (ms : Row → List Measured)

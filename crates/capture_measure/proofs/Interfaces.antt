@@ -26,9 +26,6 @@ same_interface one other = Decides-like (is_same_interface one other)
     (Decides-and (one.place == other.place) (is_same_name one.name other.name)
     (Decides-eqb one.place other.place) (same_name one.name other.name))
 
-pub same_itself : (one : InterfaceOf) → is_same_interface one one ≡ true
-same_itself one = (same_interface one one).1 refl
-
 pub other_way : (one other : InterfaceOf) → is_same_interface one other ≡ false → is_same_interface other one ≡ false
 other_way one other differ = go (is_same_interface other one) refl
   where
@@ -47,19 +44,6 @@ not_among interface (x ∷ known) zero d none within =
 not_among interface (x ∷ known) (suc k) d none within =
     not_among interface known k d (or_parts (is_same_interface x interface) (is_among interface known) none).1
     (omega (arith, within))
-
-or_true : (b : Bool) → (b || true) ≡ true
-or_true true = refl
-or_true false = refl
-
-pub among_at : (interface : InterfaceOf) (known : List InterfaceOf) (k : ℕ) (d : InterfaceOf) → k < length known
-    → get_or known k d ≡ interface → is_among interface known ≡ true
-among_at interface [] k d within is = absurd (omega (arith, within))
-among_at interface (x ∷ known) zero d within is =
-    ap (λ b. b || is_among interface known) ((same_interface x interface).1 is)
-among_at interface (x ∷ known) (suc k) d within is =
-    ap (λ b. is_same_interface x interface || b) (among_at interface known k d (omega (arith, within)) is)
-    ∙ or_true (is_same_interface x interface)
 
 -- ---- no two are alike
 abbrev pub AreDistinct : List InterfaceOf → Type 0

@@ -10,7 +10,7 @@ use Rattle.sync_watch.specs.declared.judgement.Judgement.{Judgement}
 use Rattle.sync_watch.specs.declared.judgement.Judgement.TheVariants.{Newer, Repeated, BeganAnew}
 use Rattle.sync_watch.specs.Told.{Arrival, Sync, FollowUp, Refused, known}
 use Rattle.sync_watch.specs.Judged.{judged_sync, judged_follow_up, judged_refused, is_repeated, after}
-use Rattle.slave_port.specs.History.{Call, Event, General}
+use Rattle.slave_port.specs.History.{Call, Event}
 use Rattle.capture_model.specs.declared.watched.Watched.{Watched}
 use Rattle.capture_model.specs.Listening.{Listening, table_capacity, is_of, is_stale, arrival_of, told, answer_in}
 use Rattle.capture_model.specs.Listening.{with_master_anew, ready_refused, ready_newer, ready_judged, ready_sync}
@@ -34,10 +34,9 @@ abbrev pub IsNoBeginning : Judgement → Type 0
 IsNoBeginning j = (j ≡ Newer) ⊎ (j ≡ Repeated)
 
 no-beginning : (j : Judgement) → IsNoBeginning j → is_beginning j ≡ false
-no-beginning Newer started = refl
-no-beginning Repeated started = refl
 no-beginning BeganAnew (inl is) = cc
 no-beginning BeganAnew (inr is) = cc
+no-beginning _ started = refl
 
 module _ (w : Watched) (line : ℕ) (call : Call) (a : Arrival) (l : Listening) where
   -- a Sync that isn't refused
@@ -52,17 +51,15 @@ module _ (w : Watched) (line : ℕ) (call : Call) (a : Arrival) (l : Listening) 
   told-refused : (j : Judgement) → IsNoBeginning j
       → told call (ready_refused j w line call a l)
       ≡ record (told call l) { heard = after j a (Refused a.number) l.heard }
-  told-refused Newer started = refl
-  told-refused Repeated started = refl
   told-refused BeganAnew (inl is) = cc
   told-refused BeganAnew (inr is) = cc
+  told-refused _ started = refl
 
   reply-refused : (j : Judgement) → IsNoBeginning j
       → reply_in w (ready_refused j w line call a l) call ≡ reply_in w l call
-  reply-refused Newer started = refl
-  reply-refused Repeated started = refl
   reply-refused BeganAnew (inl is) = cc
   reply-refused BeganAnew (inr is) = cc
+  reply-refused _ started = refl
 
   -- one that is refused, and no beginning
   pub refused-told : is_stale (answer_in w l call) ≡ true → IsNoBeginning (judged_refused a table_capacity l.heard)
@@ -148,9 +145,6 @@ module _ (w : Watched) (line time : ℕ) (m : Contents) (l : Listening) where
 
 -- what a Follow_Up becomes
 module _ (w : Watched) (line time : ℕ) (m : Contents) (l : Listening) where
-  abbrev general : Call
-  general = General (Ok m) line
-
   abbrev follow : Arrival
   follow = arrival_of m.header time
 

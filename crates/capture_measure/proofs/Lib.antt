@@ -18,7 +18,6 @@ pub mod OneCourse
 pub mod OneRow
 pub mod Once
 pub mod Readings
-pub mod Reported
 pub mod Inputs
 pub mod Interfaces
 pub mod CaptureFates

@@ -1,16 +1,11 @@
 -- What a listener stands for after its port was told of a message.
-use Rattle.std.proofs.Common.{◌≡◌, ◌∙◌, ◌+◌, ◌%◌, ◌∷◌, List, Ok, Err, sym, ap}
-use Rattle.std.specs.Option.{option_map_or}
-use Rattle.std.specs.Result.{result_ok}
-use Rattle.event_codec.specs.declared.refusal.DecodeRefusal.{DecodeRefusal}
-use Rattle.event_codec.specs.Packet.{Contents}
+use Rattle.std.proofs.Common.{◌≡◌, ◌∙◌, ◌+◌, ◌%◌, ◌∷◌, List, sym, ap}
 use Rattle.sync_watch.specs.Told.{Told}
 use Rattle.sync_watch.specs.StandsFor.{Watch, StandsFor as StandsForTold}
 use Rattle.slave_port.specs.History.{Call, requests_drawn}
 use Rattle.slave_port.specs.StandsFor.{Port, StandsFor}
 use Rattle.capture_model.specs.declared.watched.Watched.{Watched}
-use Rattle.capture_model.specs.Listening.{Listening, setup_in, table_capacity, told, hears, hear}
-use Rattle.capture_model.specs.Recorded.{Recorded}
+use Rattle.capture_model.specs.Listening.{Listening, setup_in, table_capacity, told}
 use Rattle.capture_measure.specs.declared.listener.Listener.{Listener}
 use Rattle.capture_measure.specs.Inner.Listener.{IsListener}
 
@@ -43,14 +38,3 @@ IsListener-heard w listener l heard told stood is = record {
   heard = stood;
   responses = is.responses;
 }
-
--- what a listener stands for after a datagram, by what its octets say
-pub hear-said : (w : Watched) (d : Recorded) (l : Listening) (m : Contents) → d.said ≡ Ok m
-    → hear w d l ≡ hears w d.line d.time m m.body l
-hear-said w d l m said =
-    ap (λ s. option_map_or (λ (x : Contents). hears w d.line d.time x x.body l) (result_ok s) l) said
-
-pub hear-untold : (w : Watched) (d : Recorded) (l : Listening) (refusal : DecodeRefusal) → d.said ≡ Err refusal
-    → hear w d l ≡ l
-hear-untold w d l refusal said =
-    ap (λ s. option_map_or (λ (x : Contents). hears w d.line d.time x x.body l) (result_ok s) l) said

@@ -32,8 +32,7 @@ one_taken line r one other text text' (row, next, later, out) (row', next', late
 
 of_writer : (Device : LineFault → Type 0) → Device Write → (fault : LineFault) → is_write fault ≡ true → Device fault
 of_writer Device write Write is = write
-of_writer Device write Field is = absurd cc
-of_writer Device write Memory is = absurd cc
+of_writer Device write _ is = absurd cc
 
 pub measure_course : (Device : LineFault → Type 0) → Device Write → Device Memory → HasOneCourse measure_rules Device
 measure_course Device write memory = record {

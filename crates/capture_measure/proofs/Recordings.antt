@@ -1,6 +1,6 @@
 -- What is known of the interfaces of a capture, with one datagram more.
 use Rattle.std.proofs.Common.{◌≡◌, ◌≢◌, ◌∙◌, ◌⊎◌, inl, inr, ℕ, zero, suc, ◌+◌, ◌<◌, ◌≤◌, nat_le, Bool, true, false, ◌==◌, ◌||◌}
-use Rattle.std.proofs.Common.{List, [], ◌∷◌, ◌++◌, length, get_or, map, slice_set, Option, Some, None, Ok, Err, refl, sym, ap, subst, arith}
+use Rattle.std.proofs.Common.{List, [], ◌∷◌, ◌++◌, length, get_or, map, slice_set, Option, Some, None, Ok, refl, sym, ap, subst, arith}
 use Rattle.std.specs.Prelude.{if◌then◌else◌}
 use Rattle.std.specs.List.{All}
 use Rattle.std.specs.Option.{option_map_or}
@@ -11,7 +11,6 @@ use Rattle.std.proofs.lemmas.List.Elements.{All-push}
 use Rattle.ptp_units.specs.Moment.{Stamp}
 use Rattle.event_codec.specs.declared.message.Header.{Header}
 use Rattle.event_codec.specs.declared.port.PortIdentity.{PortIdentity}
-use Rattle.event_codec.specs.declared.refusal.DecodeRefusal.{DecodeRefusal}
 use Rattle.event_codec.specs.Packet.{Contents}
 use Rattle.event_codec.specs.Port.{is_same_port}
 use Rattle.capture_file.specs.Packet.{InterfaceOf}
@@ -42,9 +41,6 @@ or_swap false false = refl
 tells_said : (is : Header → Bool) (d : Recorded) (m : Contents) → d.said ≡ Ok m → tells is d ≡ is m.header
 tells_said is d m said = ap (λ s. option_map_or (λ (x : Contents). is x.header) (result_ok s) false) said
 
-tells_untold : (is : Header → Bool) (d : Recorded) (refusal : DecodeRefusal) → d.said ≡ Err refusal → tells is d ≡ false
-tells_untold is d refusal said = ap (λ s. option_map_or (λ (x : Contents). is x.header) (result_ok s) false) said
-
 domain_more : (domain : Option ℕ) (d : Recorded) (ds : List Recorded) (m : Contents) (old new : Bool) → d.said ≡ Ok m
     → old ≡ is_domain_met domain ds → new ≡ (old || option_map_or (λ n. m.header.domain == n) domain false)
     → new ≡ is_domain_met domain (d ∷ ds)
@@ -71,26 +67,6 @@ IsMet-said w d ds m old new said is domain master slave = record {
   domain = domain_more w.domain d ds m old.domain new.domain said is.domain domain;
   master = port_more w.master d ds m old.master new.master said is.master master;
   slave = port_more w.slave d ds m old.slave new.slave said is.slave slave;
-}
-
-domain_untold : (domain : Option ℕ) (d : Recorded) (ds : List Recorded) (refusal : DecodeRefusal) → d.said ≡ Err refusal
-    → is_domain_met domain ds ≡ is_domain_met domain (d ∷ ds)
-domain_untold None d ds refusal said = refl
-domain_untold (Some domain) d ds refusal said =
-    ap (λ b. b || is_domain_met (Some domain) ds) (sym (tells_untold (λ header. header.domain == domain) d refusal said))
-
-port_untold : (port : Option PortIdentity) (d : Recorded) (ds : List Recorded) (refusal : DecodeRefusal) → d.said ≡ Err refusal
-    → is_port_met port ds ≡ is_port_met port (d ∷ ds)
-port_untold None d ds refusal said = refl
-port_untold (Some port) d ds refusal said =
-    ap (λ b. b || is_port_met (Some port) ds) (sym (tells_untold (λ header. is_same_port header.source port) d refusal said))
-
-pub IsMet-untold : (w : WantedPorts) (d : Recorded) (ds : List Recorded) (met : Met) (refusal : DecodeRefusal) → d.said ≡ Err refusal
-    → IsMet w ds met → IsMet w (d ∷ ds) met
-IsMet-untold w d ds met refusal said is = record {
-  domain = is.domain ∙ domain_untold w.domain d ds refusal said;
-  master = is.master ∙ port_untold w.master d ds refusal said;
-  slave = is.slave ∙ port_untold w.slave d ds refusal said;
 }
 
 -- ---- one more is kept

@@ -90,13 +90,9 @@ module _ {T : Type 0} (of : T → CaptureMeasuring) (is_left : T → T → LineF
         → packets.HasTaken capture_rules (capture_begun form w) octets parts rest state text → count ≡ length (packets_of parts)
         → packets.IsLeftAt (λ t. IsCapturing (of t)) is_left state task what
         → OfPacketsUntil form w octets count what (IsCaptureSummary w summary)
-    packets_until count causes.Read parts rest state text has numbered at =
-        (parts, rest, state, text, has, numbered, captured parts rest state text has at)
-    packets_until count causes.Memory parts rest state text has numbered at =
-        (parts, rest, state, text, has, numbered, captured parts rest state text has at)
-    packets_until count (causes.Capture fault) parts rest state text has numbered at =
-        (parts, rest, state, text, has, numbered, captured parts rest state text has at)
     packets_until count (causes.Task fault) parts rest state text has numbered left = tt
+    packets_until count _ parts rest state text has numbered at =
+        (parts, rest, state, text, has, numbered, captured parts rest state text has at)
 
     pub packets_left : (answer : Result ℕ (CaptureStop LineFault))
         → packets.LeavesTask capture_rules (λ t. IsCapturing (of t)) is_left (λ old new. of new ≡ of old) (capture_begun form w) octets task

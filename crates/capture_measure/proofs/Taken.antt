@@ -12,7 +12,7 @@ use Rattle.capture_measure.specs.declared.listener.Listener.{Listener}
 use Rattle.capture_measure.specs.declared.measuring.Form.{Form}
 use Rattle.capture_measure.specs.declared.measuring.Measuring.{Measuring}
 use Rattle.text_lines.specs.declared.line_fault.LineFault.{LineFault}
-use Rattle.text_lines.specs.declared.line_fault.LineFault.TheVariants.{Write, Field, Memory}
+use Rattle.text_lines.specs.declared.line_fault.LineFault.TheVariants.{Field, Memory}
 use Rattle.capture_measure.specs.declared.measuring.LineStage.{LineStage}
 use Rattle.capture_measure.specs.declared.measuring.LineStage.TheVariants.{Kept, Passed, Hearing}
 use Rattle.capture_measure.specs.declared.watch.WantedPorts.{WantedPorts}
@@ -53,8 +53,7 @@ nothing_fails (Err fault) o is = subst (λ (f : LineFault). HasFailedIf (is_writ
 -- no line that is kept is too long
 pub are_within : (w : WantedPorts) (rows : List Row) (stage : LineStage) → IsStage w rows stage → AreWithin stage
 are_within w rows (Kept kept) is = is.2
-are_within w rows Passed is = tt
-are_within w rows (Hearing listener) is = tt
+are_within w rows _ is = tt
 
 -- it isn't unknown whom to watch once it is known
 pub not_unknown : {P : Type 0} (w : WantedPorts) (rows : List Row) (watched : Watched)
@@ -64,9 +63,8 @@ not_unknown w rows watched known unknown = absurd (true≢false (ap is_some (sym
 -- while no port hears it isn't known whom to watch
 pub not_known : (w : WantedPorts) (rows : List Row) (stage : LineStage) → IsStage w rows stage
     → ((listener : Listener) → stage ≢ Hearing listener) → watched_in w (datagrams rows) ≡ None
-not_known w rows (Kept kept) is other = is.0
-not_known w rows Passed is other = is.0
 not_known w rows (Hearing listener) is other = absurd (other listener refl)
+not_known w rows _ is other = is.0
 
 -- the lines that are heard before the one by which it is known whom to watch
 pub heard_before : (w : WantedPorts) (rows : List Row) (row : Row) (watched : Watched) (stage : LineStage) → IsStage w rows stage
@@ -94,10 +92,9 @@ measured-first w rows row watched earlier known first unknown =
 pub stage_heard : (w : WantedPorts) (rows : List Row) (watched : Watched) (those : List Row) (stage : LineStage)
     → watched_in w (datagrams rows) ≡ Some watched → heard w rows ≡ those → IsHearing watched those stage
     → IsStage w rows stage
-stage_heard w rows watched those (Kept kept) known same is = absurd is
-stage_heard w rows watched those Passed known same is = absurd is
 stage_heard w rows watched those (Hearing listener) known same is =
     (watched, known, subst (λ (r : List Row). IsHearing watched r (Hearing listener)) (sym same) is)
+stage_heard w rows watched those _ known same is = absurd is
 
 -- while it isn't known whom to watch nothing is measured
 pub measured-still : (w : WantedPorts) (rows : List Row) (row : Row)
@@ -132,5 +129,4 @@ memory_field (Err fault) only what is field = let same : fault ≡ what = cc in 
 -- so it is left, where nothing changed at a line that is none of a recording
 pub left_by : (old new : Measuring) (what : LineFault) → (what ≡ Field → new ≡ old) → IsLeft old new what
 left_by old new Field same = same refl
-left_by old new Write same = tt
-left_by old new Memory same = tt
+left_by old new _ same = tt

@@ -71,57 +71,9 @@ no_syncs known (d ∷ earlier) none =
     ap (λ o. option_or o (source_told is_sync known d)) (no_syncs known earlier parts.0)
     ∙ tells_domain known (header_in is_sync d) parts.1
 
--- so the first Sync of the domain is the one that told it
-first_source : (d : Recorded) (ds : List Recorded) (domain : Option ℕ) → first_told (domain_told None) ds ≡ None
-    → option_and_then (λ known. source_told is_sync known d) domain
-    ≡ option_and_then (λ known. first_told (source_told is_sync known) (d ∷ ds)) domain
-first_source d ds None none = refl
-first_source d ds (Some known) none =
-    ap (λ o. option_or o (source_told is_sync known d)) (sym (no_syncs known ds none))
-
 module _ (d : Recorded) (ds : List Recorded) where
   pub domain_with : (w : WantedPorts) → domain_in w (d ∷ ds) ≡ option_or (domain_in w ds) (domain_told w.master d)
   domain_with w = sym (or-assoc w.domain (first_told (domain_told w.master) ds) (domain_told w.master d))
-
-  pub domain_after : (master : Option PortIdentity) (domain : Option ℕ)
-      → option_or domain (domain_told (port_in is_sync master domain ds) d) ≡ option_or domain (domain_told master d)
-  domain_after master None = ap (λ m. domain_told m d) (or-none master)
-  domain_after master (Some known) = refl
-
-  pub master_after : (master : Option PortIdentity) (domain : Option ℕ)
-      → (domain ≡ None → first_told (domain_told master) ds ≡ None)
-      → let all = option_or domain (domain_told master d) in
-      option_or (port_in is_sync master domain ds) (option_and_then (λ known. source_told is_sync known d) all)
-      ≡ port_in is_sync master all (d ∷ ds)
-  master_after master (Some known) none =
-      or-assoc master (first_told (source_told is_sync known) ds) (source_told is_sync known d)
-  master_after (Some m) None none = refl
-  master_after None None none = first_source d ds (domain_told None d) (none refl)
-
-  pub slave_after : (slave : Option PortIdentity) (domain told : Option ℕ)
-      → let requests : ℕ → Option PortIdentity = λ known. first_told (source_told is_request known) (d ∷ ds) in
-      option_or (port_in is_request slave domain ds) (option_and_then requests (option_or domain told))
-      ≡ port_in is_request slave (option_or domain told) (d ∷ ds)
-  slave_after slave (Some known) told =
-      or-again slave (first_told (source_told is_request known) ds) (source_told is_request known d)
-  slave_after slave None told =
-      let requests : ℕ → Option PortIdentity = λ known. first_told (source_told is_request known) (d ∷ ds) in
-      ap (λ s. option_or s (option_and_then requests told)) (or-none slave)
-
-  -- a datagram that is no message of a kind tells no port
-  pub port_untold : (kind : Body → Bool) (asked : Option PortIdentity) (domain : Option ℕ) → header_in kind d ≡ None
-      → port_in kind asked domain ds ≡ port_in kind asked domain (d ∷ ds)
-  port_untold kind asked None none = refl
-  port_untold kind asked (Some known) none =
-      let first = first_told (source_told kind known) ds in
-      ap (option_or asked)
-      (sym (or-none first) ∙ ap (λ m. option_or first (option_and_then (source_in known) m)) (sym none))
-
-  pub domain_untold : (w : WantedPorts) → header_in is_sync d ≡ None → domain_in w ds ≡ domain_in w (d ∷ ds)
-  domain_untold w none =
-      let first = first_told (domain_told w.master) ds in
-      ap (option_or w.domain)
-      (sym (or-none first) ∙ ap (λ m. option_or first (option_and_then (domain_from w.master) m)) (sym none))
 
   -- a port that is known stays so
   port_with : (kind : Body → Bool) (asked : Option PortIdentity) (known : ℕ)
