@@ -9,8 +9,8 @@ use std::alloc::{AllocError, Global};
 impl<'a> LineObject<'a> {
     ghost use Rattle.line_object.specs.Object.{object_data};
 
-    /// Reads a line as an object, in place of what it was. Answers whether it did: else the line's value is to be read,
-    /// and which lines these are no clause says. Memory fails by `AllocError`.
+    /// Reads a line as this object, and answers whether it did: else the line's value is to be read, and which lines these
+    /// are no clause says. Memory fails by `AllocError`.
     pub fn parse(
         &mut self,
         alloc: Global,
