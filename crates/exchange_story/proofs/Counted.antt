@@ -104,28 +104,6 @@ counts_more old new whys reports after is =
       failing = map (λ (why : Why). failing_are why i) told_reasons;
     }
 
--- how many reports each reason stands against, after one more
-pub record IsFailingAfter (whys : List Why) (old new : Failing) : Type 0 where
-  pub no_such_line : new.no_such_line ≡ with_one (stands NoSuchLine whys) old.no_such_line
-  pub broken_journey : new.broken_journey ≡ with_one (stands BrokenJourney whys) old.broken_journey
-  pub other_number : new.other_number ≡ with_one (stands OtherNumber whys) old.other_number
-  pub other_master : new.other_master ≡ with_one (stands OtherMaster whys) old.other_master
-  pub wrong_reading : new.wrong_reading ≡ with_one (stands WrongReading whys) old.wrong_reading
-  pub too_big : new.too_big ≡ with_one (stands TooBig whys) old.too_big
-  pub wrong_value : new.wrong_value ≡ with_one (stands WrongValue whys) old.wrong_value
-  pub bytes : new.bytes ≡ with_one (stands Bytes whys) old.bytes
-
-pub failing_after : (old new : Failing) (whys : List Why) → IsFailingAfter whys old new → (why : Why)
-    → failing_in new why ≡ with_one (stands why whys) (failing_in old why)
-failing_after old new whys after NoSuchLine = after.no_such_line
-failing_after old new whys after BrokenJourney = after.broken_journey
-failing_after old new whys after OtherNumber = after.other_number
-failing_after old new whys after OtherMaster = after.other_master
-failing_after old new whys after WrongReading = after.wrong_reading
-failing_after old new whys after TooBig = after.too_big
-failing_after old new whys after WrongValue = after.wrong_value
-failing_after old new whys after Bytes = after.bytes
-
 pub counted_by : (counts counts' : Bool) (n later : ℕ) → later ≡ with_one counts n → counts ≡ counts' → later ≡ with_one counts' n
 counted_by counts counts' n later is same = is ∙ ap (λ (b : Bool). with_one b n) same
 

@@ -11,7 +11,7 @@ use Rattle.trace_model.specs.declared.verdict.Why.{Why}
 use Rattle.exchange_story.specs.declared.report.Reported.{Reported}
 use Rattle.exchange_story.specs.Lines.{are_lines}
 use Rattle.exchange_story.specs.Report.{begin_text, difference_text, noun_of_units, reason_text, row_text, rows_text}
-use Rattle.exchange_story.specs.Report.{all_rows_text, are_same, as_reported_text, messages_row_text, told_row_text, tells_otherwise}
+use Rattle.exchange_story.specs.Report.{all_rows_text, are_same, as_reported_text, messages_row_text, tells_otherwise}
 use Rattle.exchange_story.specs.Report.{side_text, units_text, TellsJudged, TellsReasons, TellsRefused, TellsReport, TellsWhich}
 use Rattle.exchange_story.specs.Counts.{is_sound}
 
@@ -123,37 +123,6 @@ case_told (Ok x) reported by_messages start begun reasoned placed rowed ended re
         → rowed ≡ placed ++ rows → rowed ++ which ≡ start ++ (begin ++ (reasons ++ (lines ++ (rows ++ which))))
     joined begin rows which a b c d = rw (d, c, b, a) (simp append_assoc)
 case_told (Err e) reported by_messages start begun reasoned placed rowed ended reasons lines a b c d tells below which = tt
-
--- no message tells otherwise
-pub which_none : (otherwise : Bool) (old : List ℕ) → otherwise ≡ false
-    → (which : List ℕ) × (are_lines (codes "    ") which ≡ true) × TellsWhich otherwise which × (old ≡ old ++ which)
-which_none otherwise old none = ([], refl, subst (λ (b : Bool). TellsWhich b []) (sym none) refl, sym (append-nil old))
-
--- or one may
-pub which_told : {E : Type 0} (r : Result (Unit {0}) E) (otherwise : Bool) (old new : List ℕ) → otherwise ≡ true
-    → OnOk r ((told : List ℕ) × (are_lines (codes "    ") told ≡ true) × (new ≡ old ++ told))
-    → OnOk r ((which : List ℕ) × (are_lines (codes "    ") which ≡ true) × TellsWhich otherwise which × (new ≡ old ++ which))
-which_told (Ok x) otherwise old new so (told, below, is) = (told, below, subst (λ (b : Bool). TellsWhich b told) (sym so) tt, is)
-which_told (Err e) otherwise old new so told = tt
-
--- behind the two results those by the messages
-pub all_rows_told : {E : Type 0} (r : Result (Unit {0}) E) (report : Report) (by_readings by_messages : Option Results) (told : Results)
-    → (old first new : List ℕ) → by_messages ≡ Some told → tells_otherwise by_readings by_messages ≡ true
-    → first ≡ old ++ rows_text report by_readings → OnOk r (new ≡ first ++ messages_row_text report told)
-    → OnOk r (new ≡ old ++ all_rows_text report by_readings by_messages)
-all_rows_told (Ok x) report by_readings by_messages told old first new some otherwise first_is is =
-    is ∙ ap (λ (t : List ℕ). t ++ messages_row_text report told) first_is
-    ∙ append_assoc old (rows_text report by_readings) (messages_row_text report told)
-    ∙ ap (λ (t : List ℕ). old ++ (rows_text report by_readings ++ t))
-    (sym (rw otherwise (ap (told_row_text report) some)))
-all_rows_told (Err e) report by_readings by_messages told old first new some otherwise first_is is = tt
-
--- or nothing
-pub two_rows_told : (report : Report) (by_readings by_messages : Option Results) (old new : List ℕ)
-    → tells_otherwise by_readings by_messages ≡ false → new ≡ old ++ rows_text report by_readings
-    → new ≡ old ++ all_rows_text report by_readings by_messages
-two_rows_told report by_readings by_messages old new same is =
-    is ∙ ap (λ (t : List ℕ). old ++ t) (rw same (sym (append-nil (rows_text report by_readings))))
 
 pub sound_told : {E : Type 0} (r : Result (Unit {0}) E) (reported : Reported) (by_messages : Option Results) (whys : List Why)
     → (old new : List ℕ) → is_sound whys ≡ true → OnOk r (new ≡ old ++ (begin_text reported ++ codes "sound\n"))
