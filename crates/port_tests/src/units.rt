@@ -8,19 +8,6 @@ use ptp_units::{
 use std::test::Fail;
 
 #[test]
-fn codes(rt: HostRuntime) {
-    let cases = [
-        (UnitRefusal::OutOfRange, 101),
-        (UnitRefusal::Seconds, 102),
-        (UnitRefusal::Nanoseconds, 103),
-        (UnitRefusal::TooLow, 104),
-    ];
-    for (refusal, code) in cases {
-        assert_eq!(rt; refusal.code(), code);
-    }
-}
-
-#[test]
 fn timestamps_in_range(rt: HostRuntime) -> Result<(), Fail> {
     for (seconds, nanos) in [(0, 0), (1, 999_999_999), (281_474_976_710_655, 999_999_999)] {
         let timestamp = Timestamp::new(seconds, nanos)?;
