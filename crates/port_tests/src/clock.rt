@@ -1,16 +1,12 @@
 //! What a clock does to messages, octet for octet, worked by hand from the layout of the messages.
 
-use crate::values::{moment, with_correction};
+use crate::values::{
+    DELAY_REQ, DELAY_RESP, FOLLOW_UP, Moment, SYNC, changed, moment, with_correction,
+};
 use event_codec::DecodeRefusal;
 use ptp_units::UnitRefusal;
 use std::test::Fail;
 use transparent_clock::{ClockRefusal, Transit, enter};
-
-const SYNC: [u8; 44] = [
-    0x00, 0x12, 0x00, 0x2c, 0x00, 0x00, 0x02, 0x00, 0x00, 0x00, 0x00, 0x00, 0x00, 0x00, 0x00, 0x00,
-    0x00, 0x00, 0x00, 0x00, 0x00, 0x11, 0x22, 0xff, 0xfe, 0x33, 0x44, 0x55, 0x00, 0x01, 0x00, 0x00,
-    0x00, 0x00, 0x00, 0x00, 0x00, 0x00, 0x00, 0x00, 0x00, 0x00, 0x00, 0x00,
-];
 
 /// A Sync of the 2008 edition, with messageTypeSpecific 01020304, the suffix abcd, and padding.
 const PADDED_SYNC: [u8; 50] = [
@@ -20,43 +16,14 @@ const PADDED_SYNC: [u8; 50] = [
     0xee, 0xee,
 ];
 
-const FOLLOW_UP: [u8; 44] = [
-    0x08, 0x12, 0x00, 0x2c, 0x00, 0x00, 0x00, 0x00, 0x00, 0x00, 0x00, 0x00, 0x00, 0x00, 0x00, 0x00,
-    0x00, 0x00, 0x00, 0x00, 0x00, 0x11, 0x22, 0xff, 0xfe, 0x33, 0x44, 0x55, 0x00, 0x01, 0x00, 0x00,
-    0x02, 0x00, 0x00, 0x00, 0x00, 0x00, 0x00, 0x01, 0x00, 0x00, 0x00, 0x00,
-];
-
-const DELAY_REQ: [u8; 44] = [
-    0x01, 0x12, 0x00, 0x2c, 0x00, 0x00, 0x00, 0x00, 0x00, 0x00, 0x00, 0x00, 0x00, 0x00, 0x00, 0x00,
-    0x00, 0x00, 0x00, 0x00, 0x00, 0xaa, 0xbb, 0xff, 0xfe, 0xcc, 0xdd, 0xee, 0x00, 0x01, 0x00, 0x00,
-    0x01, 0x7f, 0x00, 0x00, 0x00, 0x00, 0x00, 0x00, 0x00, 0x00, 0x00, 0x00,
-];
-
-const DELAY_RESP: [u8; 54] = [
-    0x09, 0x12, 0x00, 0x36, 0x00, 0x00, 0x00, 0x00, 0x00, 0x00, 0x00, 0x00, 0x0d, 0xac, 0x00, 0x00,
-    0x00, 0x00, 0x00, 0x00, 0x00, 0x11, 0x22, 0xff, 0xfe, 0x33, 0x44, 0x55, 0x00, 0x01, 0x00, 0x00,
-    0x03, 0x00, 0x00, 0x00, 0x00, 0x00, 0x00, 0x02, 0x00, 0x00, 0x11, 0x94, 0x00, 0xaa, 0xbb, 0xff,
-    0xfe, 0xcc, 0xdd, 0xee, 0x00, 0x01,
-];
-
-/// The octets with another one at a place.
-fn with_octet<const N: usize>(octets: [u8; N], place: usize, octet: u8) -> [u8; N] {
-    let mut changed = octets;
-    if let Some(old) = changed.get_mut(place) {
-        *old = octet;
-    }
-    changed
-}
-
-/// Seconds, nanoseconds and units of 2^-16 ns.
-type Moment = (u64, u32, u16);
-
 const FIRST: Moment = (0, 0, 0);
 
 const START: Moment = (1, 0, 0);
 
 /// So many units after the first moment as no correction says.
 const END: Moment = (140_737, 488_355_327, 65_535);
+
+const LAST: Moment = (281_474_976_710_655, 999_999_999, 65_535);
 
 /// A message, its correction, when it enters and leaves, and its correction then.
 type Row = ([u8; 44], i64, Moment, Moment, i64);
@@ -75,13 +42,7 @@ const RESIDENCES: [Row; 14] = [
     (SYNC, i64::MAX, START, (2, 0, 0), i64::MAX),
     (SYNC, 0, (0, 0, 1), END, i64::MAX - 1),
     (SYNC, 0, FIRST, END, i64::MAX),
-    (
-        DELAY_REQ,
-        i64::MIN,
-        FIRST,
-        (281_474_976_710_655, 999_999_999, 65_535),
-        i64::MAX,
-    ),
+    (DELAY_REQ, i64::MIN, FIRST, LAST, i64::MAX),
 ];
 
 fn transit((seconds, nanos, fraction): Moment) -> Result<Transit, UnitRefusal> {
@@ -115,45 +76,37 @@ fn keeps_all_other_octets(rt: HostRuntime) -> Result<(), Fail> {
     Ok(())
 }
 
+const OTHER_TYPE: ClockRefusal = ClockRefusal::Decode(DecodeRefusal::OtherType(11));
+
+const OTHER_VERSION: ClockRefusal = ClockRefusal::Decode(DecodeRefusal::Version);
+
+const CUT: ClockRefusal = ClockRefusal::Decode(DecodeRefusal::Truncated);
+
+const NEGATIVE: ClockRefusal = ClockRefusal::NegativeResidence;
+
+/// The last moment before `START`.
+const BEFORE: Moment = (0, 999_999_999, 65_535);
+
+/// A message with other octets at some places, which enters at `START`, when it leaves, and why it doesn't.
+type RefusedRow = ([u8; 44], &'static [(usize, u8)], Moment, ClockRefusal, u16);
+
+const REFUSED: [RefusedRow; 7] = [
+    (SYNC, &[(0, 0x0b)], START, OTHER_TYPE, 401),
+    (SYNC, &[(1, 0x01)], START, OTHER_VERSION, 401),
+    (SYNC, &[(3, 45)], BEFORE, CUT, 401),
+    (FOLLOW_UP, &[], START, ClockRefusal::NotEvent, 402),
+    (FOLLOW_UP, &[], BEFORE, ClockRefusal::NotEvent, 402),
+    (SYNC, &[], BEFORE, NEGATIVE, 403),
+    (DELAY_REQ, &[], (0, 999_999_999, 0), NEGATIVE, 403),
+];
+
 #[test]
 fn refuses_and_leaves_the_octets(rt: HostRuntime) -> Result<(), Fail> {
-    let start = moment(1, 0, 0)?;
-    let before = moment(0, 999_999_999, 65_535)?;
-    let other_type = with_octet(SYNC, 0, 0x0b);
-    let other_version = with_octet(SYNC, 1, 0x01);
-    let cut = with_octet(SYNC, 3, 45);
-    let rows = [
-        (
-            other_type,
-            start,
-            ClockRefusal::Decode(DecodeRefusal::OtherType(11)),
-            401,
-        ),
-        (
-            other_version,
-            start,
-            ClockRefusal::Decode(DecodeRefusal::Version),
-            401,
-        ),
-        (
-            cut,
-            before,
-            ClockRefusal::Decode(DecodeRefusal::Truncated),
-            401,
-        ),
-        (FOLLOW_UP, start, ClockRefusal::NotEvent, 402),
-        (FOLLOW_UP, before, ClockRefusal::NotEvent, 402),
-        (SYNC, before, ClockRefusal::NegativeResidence, 403),
-        (
-            DELAY_REQ,
-            moment(0, 999_999_999, 0)?,
-            ClockRefusal::NegativeResidence,
-            403,
-        ),
-    ];
-    for (octets, left, refusal, code) in rows {
+    for (message, changes, (seconds, nanos, fraction), refusal, code) in REFUSED {
+        let octets = changed(message, changes);
         let mut given = octets;
-        assert_eq!(rt; enter(start).leave(&mut given, left), Err(refusal));
+        let left = moment(seconds, nanos, fraction)?;
+        assert_eq!(rt; transit(START)?.leave(&mut given, left), Err(refusal));
         assert_eq!(rt; given, octets);
         assert_eq!(rt; refusal.code(), code);
     }

@@ -2,6 +2,10 @@
 
 ghost use Rattle.std.specs.Prelude.{◌≤◌, length};
 
+use crate::values::{
+    DELAY_REQ, DELAY_RESP, FOLLOW_UP, FORWARDED_DELAY_REQ, FORWARDED_SYNC, MASTER, SLAVE, SYNC,
+    changed, padded,
+};
 use event_codec::{
     Body, DecodeRefusal, EncodeRefusal, Header, Message, Nibble, PortIdentity, decode, encode,
     patch_correction,
@@ -9,68 +13,6 @@ use event_codec::{
 use ptp_units::{Interval, Seq, Timestamp};
 use std::process::Abort;
 use std::test::Fail;
-
-/// The messages of an exchange between the ports 001122fffe334455/1 and 00aabbfffeccddee/1.
-const SYNC: [u8; 44] = [
-    0x00, 0x12, 0x00, 0x2c, 0x00, 0x00, 0x02, 0x00, 0x00, 0x00, 0x00, 0x00, 0x00, 0x00, 0x00, 0x00,
-    0x00, 0x00, 0x00, 0x00, 0x00, 0x11, 0x22, 0xff, 0xfe, 0x33, 0x44, 0x55, 0x00, 0x01, 0x00, 0x00,
-    0x00, 0x00, 0x00, 0x00, 0x00, 0x00, 0x00, 0x00, 0x00, 0x00, 0x00, 0x00,
-];
-
-const FORWARDED_SYNC: [u8; 44] = [
-    0x00, 0x12, 0x00, 0x2c, 0x00, 0x00, 0x02, 0x00, 0x00, 0x00, 0x00, 0x00, 0x07, 0xd0, 0x00, 0x00,
-    0x00, 0x00, 0x00, 0x00, 0x00, 0x11, 0x22, 0xff, 0xfe, 0x33, 0x44, 0x55, 0x00, 0x01, 0x00, 0x00,
-    0x00, 0x00, 0x00, 0x00, 0x00, 0x00, 0x00, 0x00, 0x00, 0x00, 0x00, 0x00,
-];
-
-const FOLLOW_UP: [u8; 44] = [
-    0x08, 0x12, 0x00, 0x2c, 0x00, 0x00, 0x00, 0x00, 0x00, 0x00, 0x00, 0x00, 0x00, 0x00, 0x00, 0x00,
-    0x00, 0x00, 0x00, 0x00, 0x00, 0x11, 0x22, 0xff, 0xfe, 0x33, 0x44, 0x55, 0x00, 0x01, 0x00, 0x00,
-    0x02, 0x00, 0x00, 0x00, 0x00, 0x00, 0x00, 0x01, 0x00, 0x00, 0x00, 0x00,
-];
-
-const DELAY_REQ: [u8; 44] = [
-    0x01, 0x12, 0x00, 0x2c, 0x00, 0x00, 0x00, 0x00, 0x00, 0x00, 0x00, 0x00, 0x00, 0x00, 0x00, 0x00,
-    0x00, 0x00, 0x00, 0x00, 0x00, 0xaa, 0xbb, 0xff, 0xfe, 0xcc, 0xdd, 0xee, 0x00, 0x01, 0x00, 0x00,
-    0x01, 0x7f, 0x00, 0x00, 0x00, 0x00, 0x00, 0x00, 0x00, 0x00, 0x00, 0x00,
-];
-
-const FORWARDED_DELAY_REQ: [u8; 44] = [
-    0x01, 0x12, 0x00, 0x2c, 0x00, 0x00, 0x00, 0x00, 0x00, 0x00, 0x00, 0x00, 0x0d, 0xac, 0x40, 0x00,
-    0x00, 0x00, 0x00, 0x00, 0x00, 0xaa, 0xbb, 0xff, 0xfe, 0xcc, 0xdd, 0xee, 0x00, 0x01, 0x00, 0x00,
-    0x01, 0x7f, 0x00, 0x00, 0x00, 0x00, 0x00, 0x00, 0x00, 0x00, 0x00, 0x00,
-];
-
-const DELAY_RESP: [u8; 54] = [
-    0x09, 0x12, 0x00, 0x36, 0x00, 0x00, 0x00, 0x00, 0x00, 0x00, 0x00, 0x00, 0x0d, 0xac, 0x00, 0x00,
-    0x00, 0x00, 0x00, 0x00, 0x00, 0x11, 0x22, 0xff, 0xfe, 0x33, 0x44, 0x55, 0x00, 0x01, 0x00, 0x00,
-    0x03, 0x00, 0x00, 0x00, 0x00, 0x00, 0x00, 0x02, 0x00, 0x00, 0x11, 0x94, 0x00, 0xaa, 0xbb, 0xff,
-    0xfe, 0xcc, 0xdd, 0xee, 0x00, 0x01,
-];
-
-const MASTER: PortIdentity = PortIdentity {
-    clock: [0x00, 0x11, 0x22, 0xff, 0xfe, 0x33, 0x44, 0x55],
-    port: 1,
-};
-
-const SLAVE: PortIdentity = PortIdentity {
-    clock: [0x00, 0xaa, 0xbb, 0xff, 0xfe, 0xcc, 0xdd, 0xee],
-    port: 1,
-};
-
-/// The octets in front of zeros, with other octets at some places.
-fn changed(octets: &[u8], changes: &[(usize, u8)]) -> [u8; 60]
-    requires { length octets.now ≤ 60 }
-{
-    let mut room = [0; 60];
-    room[..octets.len()].copy_from_slice(octets);
-    for (place, octet) in changes {
-        if let Some(old) = room.get_mut(*place) {
-            *old = *octet;
-        }
-    }
-    room
-}
 
 /// A header as the ports of the exchange write it.
 fn header(flags: u8, correction: i64, source: PortIdentity, control: u8, log: i8) -> Header {
@@ -146,21 +88,30 @@ fn writes_an_exchange(rt: HostRuntime) -> Result<(), Fail> {
     Ok(())
 }
 
+fn assert_written_again(rt: &impl Abort, octets: &[u8], used: usize) {
+    let mut buffer = [0xee; 60];
+    match decode(octets) {
+        Ok((message, _)) => assert_eq!(rt; encode(&message, &mut buffer), Ok(used)),
+        Err(refusal) => assert!(rt; false, "{refusal:?}"),
+    }
+    assert_eq!(rt; buffer.get(..used), octets.get(..used));
+}
+
 /// Octets of a Sync, how many of them are given, and what they say: minorVersionPTP, the suffix and
 /// messageLength.
 type SyncRow = ([u8; 60], usize, u8, &'static [u8], usize);
 
 #[test]
 fn leaves_padding_and_keeps_the_suffix(rt: HostRuntime) -> Result<(), Fail> {
-    let sync = changed(&SYNC, &[]);
-    let with_suffix = changed(&SYNC, &[(3, 46), (44, 0xab), (45, 0xcd)]);
+    let sync = padded(&SYNC);
+    let with_suffix = changed(sync, &[(3, 46), (44, 0xab), (45, 0xcd)]);
     let rows: [SyncRow; 6] = [
         (sync, 44, 1, &[], 44),
         (sync, 46, 1, &[], 44),
         (sync, 60, 1, &[], 44),
         (with_suffix, 46, 1, &[0xab, 0xcd], 46),
         (with_suffix, 60, 1, &[0xab, 0xcd], 46),
-        (changed(&SYNC, &[(1, 0x02)]), 44, 0, &[], 44),
+        (changed(sync, &[(1, 0x02)]), 44, 0, &[], 44),
     ];
     for (octets, length, minor_version, suffix, used) in rows {
         let mut header = header(0x02, 0, MASTER, 0, 0);
@@ -175,60 +126,28 @@ fn leaves_padding_and_keeps_the_suffix(rt: HostRuntime) -> Result<(), Fail> {
         };
         let front = octets.get(..length).ok_or("so many octets")?;
         assert_eq!(rt; decode(front), Ok((message, used)));
+        assert_written_again(&rt, front, used);
     }
     Ok(())
 }
 
-fn assert_written_again(rt: &impl Abort, octets: &[u8], used: usize) {
-    let mut buffer = [0xee; 60];
-    match decode(octets) {
-        Ok((message, _)) => assert_eq!(rt; encode(&message, &mut buffer), Ok(used)),
-        Err(refusal) => assert!(rt; false, "{refusal:?}"),
-    }
-    assert_eq!(rt; buffer.get(..used), octets.get(..used));
-}
+/// Changes to a Sync, how many of its octets are given, and why they are no message.
+type RefusedRow = (&'static [(usize, u8)], usize, DecodeRefusal, u16);
 
-#[test]
-fn writes_again_what_it_read(rt: HostRuntime) {
-    let with_suffix = changed(&SYNC, &[(3, 46), (44, 0xab), (45, 0xcd)]);
-    assert_written_again(&rt, &changed(&SYNC, &[]), 44);
-    assert_written_again(&rt, &with_suffix, 46);
-    assert_written_again(&rt, &changed(&SYNC, &[(1, 0x02)]), 44);
-}
+const REFUSED: [RefusedRow; 7] = [
+    (&[], 0, DecodeRefusal::Short, 201),
+    (&[], 33, DecodeRefusal::Short, 201),
+    (&[(1, 0x01)], 44, DecodeRefusal::Version, 202),
+    (&[(0, 0x0b)], 44, DecodeRefusal::OtherType(11), 203),
+    (&[(3, 43)], 44, DecodeRefusal::LengthField, 204),
+    (&[], 34, DecodeRefusal::Truncated, 205),
+    (&[], 43, DecodeRefusal::Truncated, 205),
+];
 
 #[test]
 fn refuses_what_is_no_message(rt: HostRuntime) -> Result<(), Fail> {
-    let rows: [([u8; 60], usize, DecodeRefusal, u16); 8] = [
-        (changed(&SYNC, &[]), 0, DecodeRefusal::Short, 201),
-        (changed(&SYNC, &[]), 33, DecodeRefusal::Short, 201),
-        (
-            changed(&SYNC, &[(1, 0x01)]),
-            44,
-            DecodeRefusal::Version,
-            202,
-        ),
-        (
-            changed(&SYNC, &[(0, 0x0b)]),
-            44,
-            DecodeRefusal::OtherType(11),
-            203,
-        ),
-        (
-            changed(&SYNC, &[(3, 43)]),
-            44,
-            DecodeRefusal::LengthField,
-            204,
-        ),
-        (changed(&SYNC, &[]), 34, DecodeRefusal::Truncated, 205),
-        (changed(&SYNC, &[]), 43, DecodeRefusal::Truncated, 205),
-        (
-            changed(&FOLLOW_UP, &[(40, 0x3b), (41, 0x9a), (42, 0xca)]),
-            44,
-            DecodeRefusal::Nanoseconds,
-            206,
-        ),
-    ];
-    for (octets, length, refusal, code) in rows {
+    for (changes, length, refusal, code) in REFUSED {
+        let octets = changed(padded(&SYNC), changes);
         let front = octets.get(..length).ok_or("so many octets")?;
         assert_eq!(rt; decode(front), Err(refusal));
         assert_eq!(rt; refusal.code(), code);
@@ -236,17 +155,19 @@ fn refuses_what_is_no_message(rt: HostRuntime) -> Result<(), Fail> {
     Ok(())
 }
 
+/// Of a Follow_Up with 999,999,999 ns, and with one more.
 #[test]
 fn reads_the_last_nanosecond_of_a_second(rt: HostRuntime) -> Result<(), Fail> {
-    let octets = changed(
-        &FOLLOW_UP,
-        &[(40, 0x3b), (41, 0x9a), (42, 0xc9), (43, 0xff)],
-    );
+    let last = [(40, 0x3b), (41, 0x9a), (42, 0xc9), (43, 0xff)];
     let precise = Timestamp::new(1, 999_999_999)?;
+    let octets = changed(padded(&FOLLOW_UP), &last);
     match decode(&octets) {
         Ok((message, _)) => assert_eq!(rt; message.body, Body::FollowUp { precise }),
         Err(refusal) => assert!(rt; false, "{refusal:?}"),
     }
+    let octets = changed(FOLLOW_UP, &[(40, 0x3b), (41, 0x9a), (42, 0xca)]);
+    assert_eq!(rt; decode(&octets), Err(DecodeRefusal::Nanoseconds));
+    assert_eq!(rt; DecodeRefusal::Nanoseconds.code(), 206);
     Ok(())
 }
 
@@ -279,8 +200,12 @@ struct Shape {
     message_length: usize,
 }
 
-fn shape_of(octets: &[u8]) -> Result<Shape, DecodeRefusal> {
-    match decode(octets) {
+/// What the octets say, with other ones at some places.
+fn shape_with(octets: &[u8], changes: &[(usize, u8)]) -> Result<Shape, DecodeRefusal>
+    requires { length octets.now ≤ 60 }
+{
+    let room = changed(padded(octets), changes);
+    match decode(&room[..octets.len()]) {
         Ok((message, message_length)) => Ok(Shape {
             message_type: match message.body {
                 Body::Sync { .. } => 0,
@@ -329,22 +254,13 @@ fn assert_first_octets(rt: &impl Abort, octets: &[u8])
     requires { length octets.now ≤ 60 }
 {
     for octet in 0..=255 {
-        let room = changed(octets, &[(0, octet)]);
         let expected = shape_by_first_octet(octet, octets.len());
         assert_eq!(rt;
-            shape_of(&room[..octets.len()]),
+            shape_with(octets, &[(0, octet)]),
             expected,
             "octet 0 {octet}"
         );
-    }
-}
-
-fn assert_second_octets(rt: &impl Abort, octets: &[u8])
-    requires { length octets.now ≤ 60 }
-{
-    for octet in 0..=255 {
-        let room = changed(octets, &[(1, octet)]);
-        let minor_version = shape_of(&room[..octets.len()]).map(|shape| shape.minor_version);
+        let minor_version = shape_with(octets, &[(1, octet)]).map(|shape| shape.minor_version);
         let expected = minor_version_by_second_octet(octet);
         assert_eq!(rt; minor_version, expected, "octet 1 {octet}");
     }
@@ -355,7 +271,6 @@ fn reads_each_first_and_second_octet(rt: HostRuntime) {
     for octets in LEAST {
         assert!(rt; octets.len() <= 60);
         assert_first_octets(&rt, octets);
-        assert_second_octets(&rt, octets);
     }
 }
 
@@ -389,8 +304,8 @@ fn assert_message_length(
     requires { length octets.now ≤ 60 }
 {
     let [high, low] = message_length.to_be_bytes();
-    let room = changed(octets, &[(2, high), (3, low)]);
-    let read = shape_of(&room[..octets.len()]).map(|shape| shape.message_length);
+    let shape = shape_with(octets, &[(2, high), (3, low)]);
+    let read = shape.map(|shape| shape.message_length);
     assert_eq!(rt; read, used, "messageLength {message_length}");
 }
 
@@ -466,19 +381,9 @@ fn patches_octets_8_to_15_alone(rt: HostRuntime) {
         (-2, [0xff, 0xff, 0xff, 0xff, 0xff, 0xff, 0xff, 0xfe]),
         (i64::MAX, [0x7f, 0xff, 0xff, 0xff, 0xff, 0xff, 0xff, 0xff]),
     ];
-    let with_specific = changed(
-        &SYNC,
-        &[
-            (3, 46),
-            (7, 0x11),
-            (16, 1),
-            (17, 2),
-            (18, 3),
-            (19, 4),
-            (44, 0xab),
-            (45, 0xcd),
-        ],
-    );
+    let with_suffix = changed(padded(&SYNC), &[(3, 46), (44, 0xab), (45, 0xcd)]);
+    let specific = [(7, 0x11), (16, 1), (17, 2), (18, 3), (19, 4)];
+    let with_specific = changed(with_suffix, &specific);
     for (correction, written) in rows {
         let mut octets = with_specific;
         patch_correction(&mut octets, Interval(correction));

@@ -1,86 +1,56 @@
 //! What the exchange of the last report is, and when there is none.
 
-use event_codec::{Header, PortConfig, PortIdentity};
+use crate::values::{MASTER, MASTER_PORT, SLAVE, SLAVE_PORT, moment};
+use event_codec::{Header, NO_FLAGS, TWO_STEP};
 use pairing::ListTable;
 use ptp_units::{Interval, ScaledTime, Seq, Timestamp};
 use slave_port::{Heard, HeldFollow, HeldRequest, HeldSync, LastExchange, Report, SlavePort};
-use std::process::Abort;
+use std::test::Fail;
 
 /// A slave with 4 places of each kind.
 type Slave = SlavePort<ListTable<HeldSync, 4>, ListTable<HeldFollow, 4>, ListTable<HeldRequest, 4>>;
 
-const MASTER: PortConfig = PortConfig {
-    identity: PortIdentity {
-        clock: [0x00, 0x11, 0x22, 0xff, 0xfe, 0x33, 0x44, 0x55],
-        port: 1,
-    },
-    domain: 0,
-    log: 0,
-};
-
-const SLAVE: PortConfig = PortConfig {
-    identity: PortIdentity {
-        clock: [0x00, 0xaa, 0xbb, 0xff, 0xfe, 0xcc, 0xdd, 0xee],
-        port: 1,
-    },
-    domain: 0,
-    log: 0,
-};
-
 /// A slave of the master, whose first Delay_Req has the number 40.
 fn new_slave() -> Slave {
-    let mut slave = Slave::new(SLAVE, Seq(40));
-    slave.set_master(MASTER.identity);
+    let mut slave = Slave::new(SLAVE_PORT, Seq(40));
+    slave.set_master(MASTER);
     slave
-}
-
-fn timestamp(rt: &impl Abort, seconds: u64, nanoseconds: u32) -> Timestamp {
-    Timestamp::new(seconds, nanoseconds).expect(rt, "a timestamp")
-}
-
-fn moment(rt: &impl Abort, seconds: u64, nanoseconds: u32, fraction: u16) -> ScaledTime {
-    ScaledTime::join(timestamp(rt, seconds, nanoseconds), fraction)
 }
 
 /// The header of a message of the master.
 fn header(flags: [u8; 2], correction: i64, number: u16) -> Header {
-    MASTER.header(flags, Interval(correction), Seq(number), 0, 0)
+    MASTER_PORT.header(flags, Interval(correction), Seq(number), 0, 0)
 }
-
-const TWO_STEP: [u8; 2] = [0x02, 0x00];
-
-const NO_FLAGS: [u8; 2] = [0x00, 0x00];
 
 /// What the slave answers to the Delay_Resp of its next Delay_Req, which left at `t3`.
 fn request(
-    rt: &impl Abort,
     slave: &mut Slave,
     t3: ScaledTime,
     receive: Timestamp,
     correction: i64,
-) -> Heard {
+) -> Result<Heard, Fail> {
     let (_, number) = slave.next_request(3);
-    slave.request_left(number, t3).expect(rt, "a held request");
-    let response = header(NO_FLAGS, correction, number.0).delay_resp(receive, SLAVE.identity);
-    slave.general(&response, 4)
+    slave.request_left(number, t3)?;
+    let response = header(NO_FLAGS, correction, number.0).delay_resp(receive, SLAVE);
+    Ok(slave.general(&response, 4))
 }
 
 #[test]
-fn it_has_what_the_report_was_made_of(rt: HostRuntime) {
+fn it_has_what_the_report_was_made_of(rt: HostRuntime) -> Result<(), Fail> {
     let mut slave = new_slave();
     // The Sync left at 1 s and 16,384 units, and stayed in a clock for 2,000 ns.
     let sync = header(TWO_STEP, 131_072_000, 7).sync(Timestamp::default());
-    let follow_up = header(TWO_STEP, 16_384, 7).follow_up(timestamp(&rt, 1, 0));
-    slave.sync(&sync, moment(&rt, 1, 4_000, 5), 1);
+    let follow_up = header(TWO_STEP, 16_384, 7).follow_up(Timestamp::new(1, 0)?);
+    slave.sync(&sync, moment(1, 4_000, 5)?, 1);
     slave.general(&follow_up, 2);
     assert_eq!(rt; slave.last_exchange(), None);
-    let left = moment(&rt, 2, 1_000, 65_535);
-    let answered = request(&rt, &mut slave, left, timestamp(&rt, 2, 4_500), 229_376_000);
+    let left = moment(2, 1_000, 65_535)?;
+    let answered = request(&mut slave, left, Timestamp::new(2, 4_500)?, 229_376_000)?;
     let exchange = LastExchange {
-        t1: moment(&rt, 1, 0, 0),
-        t2: moment(&rt, 1, 4_000, 5),
+        t1: moment(1, 0, 0)?,
+        t2: moment(1, 4_000, 5)?,
         t3: left,
-        t4: moment(&rt, 2, 4_500, 0),
+        t4: moment(2, 4_500, 0)?,
         sync_correction: 131_072_000,
         follow_correction: 16_384,
         response_correction: 229_376_000,
@@ -100,33 +70,23 @@ fn it_has_what_the_report_was_made_of(rt: HostRuntime) {
         response_tag: 4,
     };
     assert_eq!(rt; answered, Heard::Report(report));
+    Ok(())
 }
 
 #[test]
-fn a_newer_half_takes_the_place_of_the_older(rt: HostRuntime) {
+fn a_newer_half_takes_the_place_of_the_older(rt: HostRuntime) -> Result<(), Fail> {
     let mut slave = new_slave();
-    slave.sync(
-        &header(NO_FLAGS, -1, 7).sync(timestamp(&rt, 1, 1)),
-        moment(&rt, 1, 5, 0),
-        1,
-    );
-    request(
-        &rt,
-        &mut slave,
-        moment(&rt, 2, 0, 0),
-        timestamp(&rt, 2, 3),
-        0,
-    );
-    slave.sync(
-        &header(NO_FLAGS, -3, 9).sync(timestamp(&rt, 3, 1)),
-        moment(&rt, 3, 5, 0),
-        5,
-    );
+    let sync = header(NO_FLAGS, -1, 7).sync(Timestamp::new(1, 1)?);
+    slave.sync(&sync, moment(1, 5, 0)?, 1);
+    let left = moment(2, 0, 0)?;
+    request(&mut slave, left, Timestamp::new(2, 3)?, 0)?;
+    let sync = header(NO_FLAGS, -3, 9).sync(Timestamp::new(3, 1)?);
+    slave.sync(&sync, moment(3, 5, 0)?, 5);
     let exchange = LastExchange {
-        t1: moment(&rt, 3, 1, 0),
-        t2: moment(&rt, 3, 5, 0),
-        t3: moment(&rt, 2, 0, 0),
-        t4: moment(&rt, 2, 3, 0),
+        t1: moment(3, 1, 0)?,
+        t2: moment(3, 5, 0)?,
+        t3: left,
+        t4: moment(2, 3, 0)?,
         sync_correction: -3,
         follow_correction: 0,
         response_correction: 0,
@@ -136,6 +96,7 @@ fn a_newer_half_takes_the_place_of_the_older(rt: HostRuntime) {
     assert_eq!(rt; slave.last_exchange(), Some(exchange));
     // 1,000,000,005 ns.
     assert_eq!(rt; exchange.age(), 65_536_000_327_680);
+    Ok(())
 }
 
 /// What happens to a slave, and at which second of its clock.
@@ -209,38 +170,40 @@ const WHEN_IT_IS_THERE: [Row; 5] = [
     ),
 ];
 
-fn take(rt: &impl Abort, slave: &mut Slave, step: Step) {
-    let origin = timestamp(rt, 1, 0);
+fn take(slave: &mut Slave, step: Step) -> Result<(), Fail> {
+    let origin = Timestamp::new(1, 0)?;
     match step {
         Step::Sync(second, number) => {
             let sync = header(NO_FLAGS, 0, number).sync(origin);
-            slave.sync(&sync, moment(rt, second, 0, 0), 1);
+            slave.sync(&sync, moment(second, 0, 0)?, 1);
         }
         Step::TwoStepSync(second, number) => {
             let sync = header(TWO_STEP, 0, number).sync(origin);
-            slave.sync(&sync, moment(rt, second, 0, 0), 2);
+            slave.sync(&sync, moment(second, 0, 0)?, 2);
         }
         Step::Request(second) => {
-            request(rt, slave, moment(rt, second, 0, 0), origin, 0);
+            request(slave, moment(second, 0, 0)?, origin, 0)?;
         }
         Step::Tick => slave.tick(),
-        Step::SetMaster => slave.set_master(MASTER.identity),
+        Step::SetMaster => slave.set_master(MASTER),
         Step::Restart => slave.restart(Seq(50)),
     }
+    Ok(())
 }
 
 #[test]
-fn it_is_there_while_both_halves_are(rt: HostRuntime) {
+fn it_is_there_while_both_halves_are(rt: HostRuntime) -> Result<(), Fail> {
     for (name, steps) in &WHEN_IT_IS_THERE {
         let mut slave = new_slave();
         for (step, expected) in *steps {
-            take(&rt, &mut slave, *step);
+            take(&mut slave, *step)?;
             let times = slave.last_exchange().map(|last| (last.t2, last.t3));
             let wanted = match *expected {
-                Some((t2, t3)) => Some((moment(&rt, t2, 0, 0), moment(&rt, t3, 0, 0))),
+                Some((t2, t3)) => Some((moment(t2, 0, 0)?, moment(t3, 0, 0)?)),
                 None => None,
             };
             assert_eq!(rt; times, wanted, "{name}");
         }
     }
+    Ok(())
 }

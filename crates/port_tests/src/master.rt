@@ -1,80 +1,25 @@
 //! What a master writes, octet for octet, worked by hand from the layout of the messages.
 
-use crate::values::{moment, with_correction};
-use event_codec::{DecodeRefusal, PortConfig, PortIdentity};
+use crate::values::{
+    DELAY_RESP, FOLLOW_UP, FORWARDED_DELAY_REQ, MASTER_PORT, ONE_STEP_SYNC, SYNC, changed, moment,
+    padded, with_correction,
+};
+use event_codec::{DecodeRefusal, PortConfig};
 use master_port::{MasterPort, MasterRefusal};
 use ptp_units::Seq;
 use std::process::Abort;
 use std::test::Fail;
 
-/// The messages of an exchange between the master 001122fffe334455/1 and the slave
-/// 00aabbfffeccddee/1. The Sync leaves at 1 s; the Delay_Req arrives at 2 s and 4,500.25 ns.
-const SYNC: [u8; 44] = [
-    0x00, 0x12, 0x00, 0x2c, 0x00, 0x00, 0x02, 0x00, 0x00, 0x00, 0x00, 0x00, 0x00, 0x00, 0x00, 0x00,
-    0x00, 0x00, 0x00, 0x00, 0x00, 0x11, 0x22, 0xff, 0xfe, 0x33, 0x44, 0x55, 0x00, 0x01, 0x00, 0x00,
-    0x00, 0x00, 0x00, 0x00, 0x00, 0x00, 0x00, 0x00, 0x00, 0x00, 0x00, 0x00,
-];
-
-/// A one-step Sync, which leaves a quarter of a nanosecond after 1 s.
-const ONE_STEP_SYNC: [u8; 44] = [
-    0x00, 0x12, 0x00, 0x2c, 0x00, 0x00, 0x00, 0x00, 0x00, 0x00, 0x00, 0x00, 0x00, 0x00, 0x40, 0x00,
-    0x00, 0x00, 0x00, 0x00, 0x00, 0x11, 0x22, 0xff, 0xfe, 0x33, 0x44, 0x55, 0x00, 0x01, 0x00, 0x00,
-    0x00, 0x00, 0x00, 0x00, 0x00, 0x00, 0x00, 0x01, 0x00, 0x00, 0x00, 0x00,
-];
-
-const FOLLOW_UP: [u8; 44] = [
-    0x08, 0x12, 0x00, 0x2c, 0x00, 0x00, 0x00, 0x00, 0x00, 0x00, 0x00, 0x00, 0x00, 0x00, 0x00, 0x00,
-    0x00, 0x00, 0x00, 0x00, 0x00, 0x11, 0x22, 0xff, 0xfe, 0x33, 0x44, 0x55, 0x00, 0x01, 0x00, 0x00,
-    0x02, 0x00, 0x00, 0x00, 0x00, 0x00, 0x00, 0x01, 0x00, 0x00, 0x00, 0x00,
-];
-
-const DELAY_REQ: [u8; 44] = [
-    0x01, 0x12, 0x00, 0x2c, 0x00, 0x00, 0x00, 0x00, 0x00, 0x00, 0x00, 0x00, 0x0d, 0xac, 0x40, 0x00,
-    0x00, 0x00, 0x00, 0x00, 0x00, 0xaa, 0xbb, 0xff, 0xfe, 0xcc, 0xdd, 0xee, 0x00, 0x01, 0x00, 0x00,
-    0x01, 0x7f, 0x00, 0x00, 0x00, 0x00, 0x00, 0x00, 0x00, 0x00, 0x00, 0x00,
-];
-
-const DELAY_RESP: [u8; 54] = [
-    0x09, 0x12, 0x00, 0x36, 0x00, 0x00, 0x00, 0x00, 0x00, 0x00, 0x00, 0x00, 0x0d, 0xac, 0x00, 0x00,
-    0x00, 0x00, 0x00, 0x00, 0x00, 0x11, 0x22, 0xff, 0xfe, 0x33, 0x44, 0x55, 0x00, 0x01, 0x00, 0x00,
-    0x03, 0x00, 0x00, 0x00, 0x00, 0x00, 0x00, 0x02, 0x00, 0x00, 0x11, 0x94, 0x00, 0xaa, 0xbb, 0xff,
-    0xfe, 0xcc, 0xdd, 0xee, 0x00, 0x01,
-];
-
-const MASTER: PortConfig = PortConfig {
-    identity: PortIdentity {
-        clock: [0x00, 0x11, 0x22, 0xff, 0xfe, 0x33, 0x44, 0x55],
-        port: 1,
-    },
-    domain: 0,
-    log: 0,
-};
-
-/// The octets with others at some places.
-fn changed<const N: usize>(octets: [u8; N], changes: &[(usize, u8)]) -> [u8; N] {
-    let mut changed = octets;
-    for (place, octet) in changes {
-        if let Some(old) = changed.get_mut(*place) {
-            *old = *octet;
-        }
-    }
-    changed
-}
-
-/// The Delay_Req with padding after it.
-fn padded_delay_req() -> [u8; 60] {
-    let mut room = [0; 60];
-    room[..44].copy_from_slice(&DELAY_REQ);
-    room
-}
-
 #[test]
 fn writes_an_exchange(rt: HostRuntime) -> Result<(), Fail> {
-    let mut port = MasterPort::new(MASTER, Seq(0));
+    let mut port = MasterPort::new(MASTER_PORT, Seq(0));
     assert_eq!(rt; port.next_sync(), (SYNC, Seq(0)));
     assert_eq!(rt; port.sync_left(Seq(0), moment(1, 0, 0)?), Ok(FOLLOW_UP));
     let arrival = moment(2, 4_500, 16_384)?;
-    assert_eq!(rt; port.delay_req(&DELAY_REQ, arrival), Ok(DELAY_RESP));
+    assert_eq!(rt;
+        port.delay_req(&FORWARDED_DELAY_REQ, arrival),
+        Ok(DELAY_RESP)
+    );
     Ok(())
 }
 
@@ -87,7 +32,7 @@ fn follow_up_carries_the_fraction(rt: HostRuntime) -> Result<(), Fail> {
         (256, 1, &[(15, 0x01), (42, 0x01)]),
     ];
     for (nanos, fraction, changes) in cases {
-        let mut port = MasterPort::new(MASTER, Seq(0));
+        let mut port = MasterPort::new(MASTER_PORT, Seq(0));
         let (_, number) = port.next_sync();
         let left = port.sync_left(number, moment(1, nanos, fraction)?);
         assert_eq!(rt;
@@ -107,7 +52,7 @@ fn a_one_step_sync_carries_its_departure(rt: HostRuntime) -> Result<(), Fail> {
         (0, 65_535, &[(14, 0xff), (15, 0xff), (39, 0x00)]),
     ];
     for (seconds, fraction, changes) in cases {
-        let mut port = MasterPort::new(MASTER, Seq(0));
+        let mut port = MasterPort::new(MASTER_PORT, Seq(0));
         let written = port.one_step_sync(moment(seconds, 0, fraction)?);
         assert_eq!(rt;
             written,
@@ -207,7 +152,7 @@ fn answer_to(rt: &impl Abort, port: &mut MasterPort, step: Step) -> Result<Answe
 #[test]
 fn syncs_have_numbers(rt: HostRuntime) -> Result<(), Fail> {
     for (title, first, steps) in NUMBERS {
-        let mut port = MasterPort::new(MASTER, Seq(first));
+        let mut port = MasterPort::new(MASTER_PORT, Seq(first));
         for (step, expected) in steps {
             let answer = answer_to(&rt, &mut port, *step)?;
             assert_eq!(rt; answer, *expected, "{title}");
@@ -221,14 +166,14 @@ fn domain_and_log_are_those_of_the_port(rt: HostRuntime) -> Result<(), Fail> {
     let config = PortConfig {
         domain: 7,
         log: -3,
-        ..MASTER
+        ..MASTER_PORT
     };
     let mut port = MasterPort::new(config, Seq(0));
     let changes = [(4, 7), (33, 0xfd)];
     assert_eq!(rt; port.next_sync(), (changed(SYNC, &changes), Seq(0)));
     let left = port.sync_left(Seq(0), moment(1, 0, 0)?);
     assert_eq!(rt; left, Ok(changed(FOLLOW_UP, &changes)));
-    let request = changed(DELAY_REQ, &[(4, 7)]);
+    let request = changed(FORWARDED_DELAY_REQ, &[(4, 7)]);
     let answer = port.delay_req(&request, moment(2, 4_500, 16_384)?);
     assert_eq!(rt; answer, Ok(changed(DELAY_RESP, &changes)));
     Ok(())
@@ -239,7 +184,7 @@ type AnswerRow = (&'static [(usize, u8)], usize, &'static [(usize, u8)]);
 
 #[test]
 fn answers_what_a_delay_req_says(rt: HostRuntime) -> Result<(), Fail> {
-    let port = MasterPort::new(MASTER, Seq(0));
+    let port = MasterPort::new(MASTER_PORT, Seq(0));
     let rows: [AnswerRow; 6] = [
         (&[], 44, &[]),
         (&[], 60, &[]),
@@ -262,7 +207,7 @@ fn answers_what_a_delay_req_says(rt: HostRuntime) -> Result<(), Fail> {
     ];
     let arrival = moment(2, 4_500, 16_384)?;
     for (changes, length, expected) in rows {
-        let octets = changed(padded_delay_req(), changes);
+        let octets = changed(padded(&FORWARDED_DELAY_REQ), changes);
         let answer = octets
             .get(..length)
             .map(|given| port.delay_req(given, arrival));
@@ -273,7 +218,7 @@ fn answers_what_a_delay_req_says(rt: HostRuntime) -> Result<(), Fail> {
 
 #[test]
 fn takes_the_fraction_off_the_correction(rt: HostRuntime) -> Result<(), Fail> {
-    let port = MasterPort::new(MASTER, Seq(0));
+    let port = MasterPort::new(MASTER_PORT, Seq(0));
     let cases = [
         (0, 0, Some(0)),
         (0, 65_535, Some(-65_535)),
@@ -285,7 +230,7 @@ fn takes_the_fraction_off_the_correction(rt: HostRuntime) -> Result<(), Fail> {
         (i64::MIN + 1, 1, Some(i64::MIN)),
     ];
     for (correction, fraction, difference) in cases {
-        let request = with_correction(DELAY_REQ, correction);
+        let request = with_correction(FORWARDED_DELAY_REQ, correction);
         let answer = port.delay_req(&request, moment(2, 4_500, fraction)?);
         let expected = difference
             .map(|units| with_correction(DELAY_RESP, units))
@@ -293,7 +238,8 @@ fn takes_the_fraction_off_the_correction(rt: HostRuntime) -> Result<(), Fail> {
         assert_eq!(rt; answer, expected, "{correction} - {fraction}");
     }
     // Too big stays too big, at 1 s and five units.
-    let answer = port.delay_req(&with_correction(DELAY_REQ, i64::MAX), moment(1, 0, 5)?);
+    let request = with_correction(FORWARDED_DELAY_REQ, i64::MAX);
+    let answer = port.delay_req(&request, moment(1, 0, 5)?);
     let stamp = [(39, 0x01), (42, 0x00), (43, 0x00)];
     let expected = changed(with_correction(DELAY_RESP, i64::MAX), &stamp);
     assert_eq!(rt; answer, Ok(expected));
@@ -302,20 +248,14 @@ fn takes_the_fraction_off_the_correction(rt: HostRuntime) -> Result<(), Fail> {
 
 #[test]
 fn refuses_what_is_no_request_to_it(rt: HostRuntime) -> Result<(), Fail> {
-    let port = MasterPort::new(MASTER, Seq(0));
-    let lowest = with_correction(DELAY_REQ, i64::MIN);
+    let port = MasterPort::new(MASTER_PORT, Seq(0));
+    let lowest = with_correction(FORWARDED_DELAY_REQ, i64::MIN);
+    let other_type = MasterRefusal::Decode(DecodeRefusal::OtherType(11));
+    let version = MasterRefusal::Decode(DecodeRefusal::Version);
     let rows: [(&[u8], MasterRefusal, u16); 9] = [
         (&[], MasterRefusal::Decode(DecodeRefusal::Short), 302),
-        (
-            &changed(SYNC, &[(0, 0x0b)]),
-            MasterRefusal::Decode(DecodeRefusal::OtherType(11)),
-            302,
-        ),
-        (
-            &changed(SYNC, &[(1, 0x01)]),
-            MasterRefusal::Decode(DecodeRefusal::Version),
-            302,
-        ),
+        (&changed(SYNC, &[(0, 0x0b)]), other_type, 302),
+        (&changed(SYNC, &[(1, 0x01)]), version, 302),
         (&SYNC, MasterRefusal::NotRequest, 303),
         (&FOLLOW_UP, MasterRefusal::NotRequest, 303),
         (&DELAY_RESP, MasterRefusal::NotRequest, 303),

@@ -1,10 +1,16 @@
 //! What a slave answers, call by call.
 
-use event_codec::{DecodeRefusal, Header, PortConfig, PortIdentity};
+use crate::values::{
+    DELAY_REQ, FORWARDED_SYNC, MASTER, MASTER_PORT, Moment, ONE_STEP_SYNC, SLAVE, SLAVE_PORT,
+    changed, moment,
+};
+use SyncKind::{Forwarded, ForwardedOneStep, OneStep, TwoStep};
+use event_codec::{DecodeRefusal, Header, PortConfig, PortIdentity, TWO_STEP};
 use pairing::{ListTable, PairTable};
-use ptp_units::{Interval, ScaledTime, Seq, TOO_BIG, Timestamp};
-use slave_port::{Heard, HeldFollow, HeldRequest, HeldSync, Reason, Report, SlavePort};
+use ptp_units::{Interval, ScaledTime, Seq, Timestamp};
+use slave_port::{Heard, HeldFollow, HeldRequest, HeldSync, Reason, SlavePort};
 use std::process::Abort;
+use std::test::Fail;
 
 /// A slave with 16 places of each kind.
 type Slave = SlavePort<
@@ -20,88 +26,26 @@ type SmallSlave = SlavePort<
     ListTable<HeldRequest, 3>,
 >;
 
-const MASTER: PortIdentity = PortIdentity {
-    clock: [0x00, 0x11, 0x22, 0xff, 0xfe, 0x33, 0x44, 0x55],
-    port: 1,
-};
-
 const OTHER_MASTER: PortIdentity = PortIdentity {
     clock: [0x00, 0x11, 0x22, 0xff, 0xfe, 0x33, 0x44, 0x55],
     port: 2,
 };
 
-const SLAVE: PortIdentity = PortIdentity {
-    clock: [0x00, 0xaa, 0xbb, 0xff, 0xfe, 0xcc, 0xdd, 0xee],
-    port: 1,
-};
-
-const MASTER_CONFIG: PortConfig = PortConfig {
-    identity: MASTER,
-    domain: 0,
-    log: 0,
-};
-
-/// The master, in another domain.
-const OTHER_DOMAIN: PortConfig = PortConfig {
-    identity: MASTER,
-    domain: 1,
-    log: 0,
-};
-
-const SLAVE_CONFIG: PortConfig = PortConfig {
-    identity: SLAVE,
-    domain: 0,
-    log: 0,
-};
-
-/// The first Delay_Req of the slave.
-const DELAY_REQ: [u8; 44] = [
-    0x01, 0x12, 0x00, 0x2c, 0x00, 0x00, 0x00, 0x00, 0x00, 0x00, 0x00, 0x00, 0x00, 0x00, 0x00, 0x00,
-    0x00, 0x00, 0x00, 0x00, 0x00, 0xaa, 0xbb, 0xff, 0xfe, 0xcc, 0xdd, 0xee, 0x00, 0x01, 0x00, 0x00,
-    0x01, 0x7f, 0x00, 0x00, 0x00, 0x00, 0x00, 0x00, 0x00, 0x00, 0x00, 0x00,
-];
-
-/// The octets of a Sync of the master, with 131072000 units of residence.
-const FORWARDED_SYNC: [u8; 44] = [
-    0x00, 0x12, 0x00, 0x2c, 0x00, 0x00, 0x02, 0x00, 0x00, 0x00, 0x00, 0x00, 0x07, 0xd0, 0x00, 0x00,
-    0x00, 0x00, 0x00, 0x00, 0x00, 0x11, 0x22, 0xff, 0xfe, 0x33, 0x44, 0x55, 0x00, 0x01, 0x00, 0x00,
-    0x00, 0x00, 0x00, 0x00, 0x00, 0x00, 0x00, 0x00, 0x00, 0x00, 0x00, 0x00,
-];
-
-/// The octets of a one-step Sync of the master that left a quarter of a nanosecond after 1 s, with
-/// 131072000 units of residence.
-const FORWARDED_ONE_STEP_SYNC: [u8; 44] = [
-    0x00, 0x12, 0x00, 0x2c, 0x00, 0x00, 0x00, 0x00, 0x00, 0x00, 0x00, 0x00, 0x07, 0xd0, 0x40, 0x00,
-    0x00, 0x00, 0x00, 0x00, 0x00, 0x11, 0x22, 0xff, 0xfe, 0x33, 0x44, 0x55, 0x00, 0x01, 0x00, 0x00,
-    0x00, 0x00, 0x00, 0x00, 0x00, 0x00, 0x00, 0x01, 0x00, 0x00, 0x00, 0x00,
-];
-
-/// A slave whose first Delay_Req has this number.
-fn slave_from(first: u16) -> Slave {
-    Slave::new(SLAVE_CONFIG, Seq(first))
-}
-
-fn small_slave_from(first: u16) -> SmallSlave {
-    SmallSlave::new(SLAVE_CONFIG, Seq(first))
-}
-
 /// A slave of this master, or of none.
 fn slave_of(master: Option<PortIdentity>) -> Slave {
-    let mut slave = slave_from(0);
+    let mut slave = Slave::new(SLAVE_PORT, Seq(0));
     if let Some(master) = master {
         slave.set_master(master);
     }
     slave
 }
 
-/// The twoStepFlag alone, and every other flag.
-const TWO_STEP: [u8; 2] = [0x02, 0x00];
-
+/// Every flag but the twoStepFlag.
 const NOT_TWO_STEP: [u8; 2] = [0xfd, 0xff];
 
 /// The header of a two-step message of the master.
 fn header(correction: i64, number: u16) -> Header {
-    MASTER_CONFIG.header(TWO_STEP, Interval(correction), Seq(number), 0, 0)
+    MASTER_PORT.header(TWO_STEP, Interval(correction), Seq(number), 0, 0)
 }
 
 fn sync(header: Header) -> [u8; 44] {
@@ -115,7 +59,7 @@ fn plain_sync(number: u16) -> [u8; 44] {
 
 /// The one-step Sync of the master with this correction, of this number.
 fn one_step_sync(correction: i64, number: u16) -> [u8; 44] {
-    sync(MASTER_CONFIG.header(NOT_TWO_STEP, Interval(correction), Seq(number), 0, 0))
+    sync(MASTER_PORT.header(NOT_TWO_STEP, Interval(correction), Seq(number), 0, 0))
 }
 
 /// The Follow_Up of the master of this number.
@@ -128,19 +72,8 @@ fn plain_delay_resp(number: u16) -> [u8; 54] {
     header(0, number).delay_resp(Timestamp::default(), SLAVE)
 }
 
-fn timestamp(rt: &impl Abort, (seconds, nanoseconds): Stamp) -> Timestamp {
-    Timestamp::new(seconds, nanoseconds).expect(rt, "a timestamp")
-}
-
-fn moment(rt: &impl Abort, (seconds, nanoseconds, fraction): Moment) -> ScaledTime {
-    ScaledTime::join(timestamp(rt, (seconds, nanoseconds)), fraction)
-}
-
 /// Seconds and nanoseconds.
 type Stamp = (u64, u32);
-
-/// Seconds, nanoseconds and units of 2^-16 ns.
-type Moment = (u64, u32, u16);
 
 const ZERO: Stamp = (0, 0);
 
@@ -153,7 +86,7 @@ const SECOND: Moment = (1, 0, 0);
 enum SyncKind {
     TwoStep(u16),
     OneStep(u16),
-    /// These have number 0, and were in a clock.
+    /// These have number 0, and were in a clock for 131,072,000 units.
     Forwarded,
     ForwardedOneStep,
 }
@@ -188,7 +121,8 @@ enum Answer {
     Refused(u16),
     Held,
     Completed,
-    Report(Report),
+    /// Its two results, and the tags of the Sync, the Follow_Up, the Delay_Req and the Delay_Resp.
+    Report(i128, i128, (u64, Option<u64>, u64, u64)),
     /// For the reason of this number.
     Ignored(u16),
 }
@@ -200,18 +134,18 @@ fn answer_of(heard: Heard) -> Answer {
     match heard {
         Heard::Held => Answer::Held,
         Heard::Completed => Answer::Completed,
-        Heard::Report(report) => Answer::Report(report),
+        Heard::Report(it) => {
+            let tags = (it.sync_tag, it.follow_tag, it.request_tag, it.response_tag);
+            Answer::Report(it.offset2, it.path2, tags)
+        }
         Heard::Ignored(reason) => Answer::Ignored(reason.code()),
     }
 }
 
 /// The number of a Delay_Req that was drawn. Its octets are those of the first, but for that number.
 fn drawn(rt: &impl Abort, octets: [u8; 44], number: Seq) -> Answer {
-    let mut expected = DELAY_REQ;
     let [high, low] = number.0.to_be_bytes();
-    expected[30] = high;
-    expected[31] = low;
-    assert_eq!(rt; octets, expected);
+    assert_eq!(rt; octets, changed(DELAY_REQ, &[(30, high), (31, low)]));
     Answer::Drawn(number.0)
 }
 
@@ -220,7 +154,7 @@ fn octets_of(sync: SyncKind) -> [u8; 44] {
         SyncKind::TwoStep(number) => plain_sync(number),
         SyncKind::OneStep(number) => one_step_sync(0, number),
         SyncKind::Forwarded => FORWARDED_SYNC,
-        SyncKind::ForwardedOneStep => FORWARDED_ONE_STEP_SYNC,
+        SyncKind::ForwardedOneStep => changed(ONE_STEP_SYNC, &[(12, 0x07), (13, 0xd0)]),
     }
 }
 
@@ -230,13 +164,13 @@ fn answer_to<S, F, Q>(
     slave: &mut SlavePort<S, F, Q>,
     step: Step,
     tag: u64,
-) -> Answer
+) -> Result<Answer, Fail>
 where
     S: PairTable<HeldSync>,
     F: PairTable<HeldFollow>,
     Q: PairTable<HeldRequest>,
 {
-    match step {
+    Ok(match step {
         Step::Master(master) => {
             slave.set_master(master);
             Answer::Done
@@ -249,26 +183,34 @@ where
             let (octets, number) = slave.next_request(tag);
             drawn(rt, octets, number)
         }
-        Step::Left(number, left) => match slave.request_left(Seq(number), moment(rt, left)) {
-            Ok(()) => Answer::Done,
-            Err(refusal) => Answer::Refused(refusal.code()),
-        },
-        Step::Sync(sync, arrival) => {
-            answer_of(slave.sync(&octets_of(sync), moment(rt, arrival), tag))
+        Step::Left(number, (seconds, nanos, fraction)) => {
+            match slave.request_left(Seq(number), moment(seconds, nanos, fraction)?) {
+                Ok(()) => Answer::Done,
+                Err(refusal) => Answer::Refused(refusal.code()),
+            }
         }
-        Step::FollowUp(number, correction, precise) => {
-            let octets = header(correction, number).follow_up(timestamp(rt, precise));
+        Step::Sync(sync, (seconds, nanos, fraction)) => {
+            let arrival = moment(seconds, nanos, fraction)?;
+            answer_of(slave.sync(&octets_of(sync), arrival, tag))
+        }
+        Step::FollowUp(number, correction, (seconds, nanos)) => {
+            let precise = Timestamp::new(seconds, nanos)?;
+            answer_of(slave.general(&header(correction, number).follow_up(precise), tag))
+        }
+        Step::DelayResp(number, correction, (seconds, nanos)) => {
+            let receive = Timestamp::new(seconds, nanos)?;
+            let octets = header(correction, number).delay_resp(receive, SLAVE);
             answer_of(slave.general(&octets, tag))
         }
-        Step::DelayResp(number, correction, receive) => {
-            let octets = header(correction, number).delay_resp(timestamp(rt, receive), SLAVE);
-            answer_of(slave.general(&octets, tag))
-        }
-    }
+    })
 }
 
 /// The slave of the master answers each step of the row as it says.
-fn assert_answers<S, F, Q>(rt: &impl Abort, slave: &mut SlavePort<S, F, Q>, (title, steps): Row)
+fn assert_answers<S, F, Q>(
+    rt: &impl Abort,
+    slave: &mut SlavePort<S, F, Q>,
+    (title, steps): Row,
+) -> Result<(), Fail>
 where
     S: PairTable<HeldSync>,
     F: PairTable<HeldFollow>,
@@ -276,9 +218,10 @@ where
 {
     slave.set_master(MASTER);
     for (tag, (step, expected)) in steps.iter().enumerate() {
-        let answer = answer_to(rt, slave, *step, tag as u64);
+        let answer = answer_to(rt, slave, *step, tag as u64)?;
         assert_eq!(rt; answer, *expected, "{title}: step {tag}");
     }
+    Ok(())
 }
 
 const ROWS: [Row; 16] = [
@@ -286,62 +229,34 @@ const ROWS: [Row; 16] = [
     (
         "the Delay_Req went twice, its second journey took another time, and the Follow_Up comes again",
         &[
-            (Step::Sync(SyncKind::Forwarded, (1, 4_000, 0)), Answer::Held),
+            (Step::Sync(Forwarded, (1, 4_000, 0)), Answer::Held),
             (Step::FollowUp(0, 0, (1, 0)), Answer::Completed),
             (Step::Request, Answer::Drawn(0)),
             (Step::Left(0, (2, 1_000, 0)), Answer::Done),
             (
                 Step::DelayResp(0, 229_376_000, (2, 4_500)),
-                Answer::Report(Report {
-                    offset2: 131_072_000,
-                    path2: 131_072_000,
-                    sync_tag: 0,
-                    follow_tag: Some(1),
-                    request_tag: 2,
-                    response_tag: 4,
-                }),
+                Answer::Report(131_072_000, 131_072_000, (0, Some(1), 2, 4)),
             ),
             (
                 Step::DelayResp(0, 557_056_000, (2, 9_700)),
-                Answer::Report(Report {
-                    offset2: 117_964_800,
-                    path2: 144_179_200,
-                    sync_tag: 0,
-                    follow_tag: Some(1),
-                    request_tag: 2,
-                    response_tag: 5,
-                }),
+                Answer::Report(117_964_800, 144_179_200, (0, Some(1), 2, 5)),
             ),
             (
                 Step::FollowUp(0, 0, (1, 0)),
-                Answer::Report(Report {
-                    offset2: 117_964_800,
-                    path2: 144_179_200,
-                    sync_tag: 0,
-                    follow_tag: Some(6),
-                    request_tag: 2,
-                    response_tag: 5,
-                }),
+                Answer::Report(117_964_800, 144_179_200, (0, Some(6), 2, 5)),
             ),
         ],
     ),
     (
         "results may be odd and negative",
         &[
-            (Step::Sync(SyncKind::Forwarded, (1, 3_000, 0)), Answer::Held),
+            (Step::Sync(Forwarded, (1, 3_000, 0)), Answer::Held),
             (Step::FollowUp(0, 0, (1, 0)), Answer::Completed),
             (Step::Request, Answer::Drawn(0)),
             (Step::Left(0, (1, 999_999_999, 65_535)), Answer::Done),
             (
                 Step::DelayResp(0, 229_376_000, (2, 4_500)),
-                Answer::Report(Report {
-                    offset2: -1,
-                    path2: 131_072_001,
-                    sync_tag: 0,
-                    follow_tag: Some(1),
-                    request_tag: 2,
-                    response_tag: 4,
-                }),
+                Answer::Report(-1, 131_072_001, (0, Some(1), 2, 4)),
             ),
         ],
     ),
@@ -349,21 +264,14 @@ const ROWS: [Row; 16] = [
         "with a one-step Sync",
         &[
             (
-                Step::Sync(SyncKind::ForwardedOneStep, (1, 4_000, 0)),
+                Step::Sync(ForwardedOneStep, (1, 4_000, 0)),
                 Answer::Completed,
             ),
             (Step::Request, Answer::Drawn(0)),
             (Step::Left(0, (2, 1_000, 0)), Answer::Done),
             (
                 Step::DelayResp(0, 229_376_000, (2, 4_500)),
-                Answer::Report(Report {
-                    offset2: 131_055_616,
-                    path2: 131_055_616,
-                    sync_tag: 0,
-                    follow_tag: None,
-                    request_tag: 1,
-                    response_tag: 3,
-                }),
+                Answer::Report(131_055_616, 131_055_616, (0, None, 1, 3)),
             ),
         ],
     ),
@@ -373,18 +281,11 @@ const ROWS: [Row; 16] = [
             (Step::Request, Answer::Drawn(0)),
             (Step::Left(0, SECOND), Answer::Done),
             (Step::Left(0, (2, 0, 0)), Answer::Done),
-            (Step::Sync(SyncKind::TwoStep(0), START), Answer::Held),
+            (Step::Sync(TwoStep(0), START), Answer::Held),
             (Step::FollowUp(0, 0, ZERO), Answer::Completed),
             (
                 Step::DelayResp(0, 0, (2, 1)),
-                Answer::Report(Report {
-                    offset2: -65_536,
-                    path2: 65_536,
-                    sync_tag: 3,
-                    follow_tag: Some(4),
-                    request_tag: 0,
-                    response_tag: 5,
-                }),
+                Answer::Report(-65_536, 65_536, (3, Some(4), 0, 5)),
             ),
         ],
     ),
@@ -393,23 +294,16 @@ const ROWS: [Row; 16] = [
         &[
             (Step::Request, Answer::Drawn(0)),
             (Step::Left(0, SECOND), Answer::Done),
-            (Step::Sync(SyncKind::TwoStep(0), SECOND), Answer::Held),
+            (Step::Sync(TwoStep(0), SECOND), Answer::Held),
             (Step::FollowUp(1, 0, ZERO), Answer::Held),
             (Step::Tick, Answer::Done),
             (Step::FollowUp(0, 0, ZERO), Answer::Completed),
             (Step::Tick, Answer::Done),
             (Step::FollowUp(0, 0, ZERO), Answer::Held),
-            (Step::Sync(SyncKind::TwoStep(1), SECOND), Answer::Held),
+            (Step::Sync(TwoStep(1), SECOND), Answer::Held),
             (
                 Step::DelayResp(0, 0, ZERO),
-                Answer::Report(Report {
-                    offset2: 131_072_000_000_000,
-                    path2: 0,
-                    sync_tag: 2,
-                    follow_tag: Some(5),
-                    request_tag: 0,
-                    response_tag: 9,
-                }),
+                Answer::Report(131_072_000_000_000, 0, (2, Some(5), 0, 9)),
             ),
             (Step::Tick, Answer::Done),
             (Step::DelayResp(0, 0, ZERO), Answer::Completed),
@@ -421,15 +315,12 @@ const ROWS: [Row; 16] = [
         &[
             (Step::FollowUp(0, 0, ZERO), Answer::Held),
             (Step::FollowUp(1, 0, ZERO), Answer::Held),
-            (Step::Sync(SyncKind::TwoStep(1), START), Answer::Completed),
-            (
-                Step::Sync(SyncKind::TwoStep(0), START),
-                Answer::Ignored(512),
-            ),
-            (Step::Sync(SyncKind::TwoStep(1), START), Answer::Completed),
+            (Step::Sync(TwoStep(1), START), Answer::Completed),
+            (Step::Sync(TwoStep(0), START), Answer::Ignored(512)),
+            (Step::Sync(TwoStep(1), START), Answer::Completed),
             (Step::Tick, Answer::Done),
             (Step::Tick, Answer::Done),
-            (Step::Sync(SyncKind::TwoStep(0), START), Answer::Held),
+            (Step::Sync(TwoStep(0), START), Answer::Held),
             (Step::FollowUp(0, 0, ZERO), Answer::Completed),
         ],
     ),
@@ -438,15 +329,15 @@ const ROWS: [Row; 16] = [
         &[
             (Step::FollowUp(0, 0, ZERO), Answer::Held),
             (Step::FollowUp(1, 0, ZERO), Answer::Held),
-            (Step::Sync(SyncKind::TwoStep(0), START), Answer::Completed),
-            (Step::Sync(SyncKind::TwoStep(1), START), Answer::Completed),
+            (Step::Sync(TwoStep(0), START), Answer::Completed),
+            (Step::Sync(TwoStep(1), START), Answer::Completed),
         ],
     ),
     (
         "0 is newer than 65535",
         &[
-            (Step::Sync(SyncKind::TwoStep(65_535), START), Answer::Held),
-            (Step::Sync(SyncKind::TwoStep(0), START), Answer::Held),
+            (Step::Sync(TwoStep(65_535), START), Answer::Held),
+            (Step::Sync(TwoStep(0), START), Answer::Held),
             (Step::FollowUp(0, 0, ZERO), Answer::Completed),
             (Step::FollowUp(65_535, 0, ZERO), Answer::Ignored(512)),
         ],
@@ -454,8 +345,8 @@ const ROWS: [Row; 16] = [
     (
         "over the end of the numbers, in the order sent",
         &[
-            (Step::Sync(SyncKind::TwoStep(65_535), START), Answer::Held),
-            (Step::Sync(SyncKind::TwoStep(0), START), Answer::Held),
+            (Step::Sync(TwoStep(65_535), START), Answer::Held),
+            (Step::Sync(TwoStep(0), START), Answer::Held),
             (Step::FollowUp(65_535, 0, ZERO), Answer::Completed),
             (Step::FollowUp(0, 0, ZERO), Answer::Completed),
         ],
@@ -464,18 +355,12 @@ const ROWS: [Row; 16] = [
     (
         "completes by itself, and what is older isn't used",
         &[
-            (Step::Sync(SyncKind::OneStep(5), START), Answer::Completed),
-            (
-                Step::Sync(SyncKind::OneStep(4), START),
-                Answer::Ignored(512),
-            ),
-            (
-                Step::Sync(SyncKind::TwoStep(4), START),
-                Answer::Ignored(512),
-            ),
+            (Step::Sync(OneStep(5), START), Answer::Completed),
+            (Step::Sync(OneStep(4), START), Answer::Ignored(512)),
+            (Step::Sync(TwoStep(4), START), Answer::Ignored(512)),
             (Step::FollowUp(4, 0, ZERO), Answer::Ignored(512)),
-            (Step::Sync(SyncKind::OneStep(5), START), Answer::Completed),
-            (Step::Sync(SyncKind::TwoStep(5), START), Answer::Held),
+            (Step::Sync(OneStep(5), START), Answer::Completed),
+            (Step::Sync(TwoStep(5), START), Answer::Held),
             (Step::FollowUp(5, 0, ZERO), Answer::Completed),
         ],
     ),
@@ -483,57 +368,45 @@ const ROWS: [Row; 16] = [
         "a Follow_Up plays no part",
         &[
             (Step::FollowUp(0, 0, ZERO), Answer::Held),
-            (Step::Sync(SyncKind::OneStep(0), START), Answer::Completed),
+            (Step::Sync(OneStep(0), START), Answer::Completed),
             (Step::FollowUp(0, 0, ZERO), Answer::Held),
-            (Step::Sync(SyncKind::TwoStep(0), START), Answer::Completed),
+            (Step::Sync(TwoStep(0), START), Answer::Completed),
         ],
     ),
     (
         "its number stands until the second tick",
         &[
-            (Step::Sync(SyncKind::OneStep(5), START), Answer::Completed),
+            (Step::Sync(OneStep(5), START), Answer::Completed),
             (Step::Tick, Answer::Done),
-            (
-                Step::Sync(SyncKind::OneStep(4), START),
-                Answer::Ignored(512),
-            ),
+            (Step::Sync(OneStep(4), START), Answer::Ignored(512)),
             (Step::Tick, Answer::Done),
-            (Step::Sync(SyncKind::OneStep(4), START), Answer::Completed),
+            (Step::Sync(OneStep(4), START), Answer::Completed),
         ],
     ),
     (
         "half a turn ahead isn't newer",
         &[
-            (Step::Sync(SyncKind::OneStep(0), START), Answer::Completed),
-            (
-                Step::Sync(SyncKind::TwoStep(32_768), START),
-                Answer::Ignored(512),
-            ),
+            (Step::Sync(OneStep(0), START), Answer::Completed),
+            (Step::Sync(TwoStep(32_768), START), Answer::Ignored(512)),
             (Step::FollowUp(32_768, 0, ZERO), Answer::Ignored(512)),
-            (Step::Sync(SyncKind::TwoStep(32_767), START), Answer::Held),
-            (
-                Step::Sync(SyncKind::OneStep(32_767), START),
-                Answer::Completed,
-            ),
-            (
-                Step::Sync(SyncKind::OneStep(65_534), START),
-                Answer::Completed,
-            ),
-            (Step::Sync(SyncKind::OneStep(0), START), Answer::Completed),
+            (Step::Sync(TwoStep(32_767), START), Answer::Held),
+            (Step::Sync(OneStep(32_767), START), Answer::Completed),
+            (Step::Sync(OneStep(65_534), START), Answer::Completed),
+            (Step::Sync(OneStep(0), START), Answer::Completed),
         ],
     ),
     // Changes of master, and Delay_Reqs.
     (
         "a change of master drops what is held, and so does the same master again",
         &[
-            (Step::Sync(SyncKind::TwoStep(3), SECOND), Answer::Held),
+            (Step::Sync(TwoStep(3), SECOND), Answer::Held),
             (Step::Master(OTHER_MASTER), Answer::Done),
             (Step::FollowUp(3, 0, ZERO), Answer::Ignored(505)),
             (Step::Master(MASTER), Answer::Done),
             (Step::FollowUp(3, 0, ZERO), Answer::Held),
-            (Step::Sync(SyncKind::TwoStep(3), SECOND), Answer::Completed),
+            (Step::Sync(TwoStep(3), SECOND), Answer::Completed),
             (Step::Master(MASTER), Answer::Done),
-            (Step::Sync(SyncKind::TwoStep(3), SECOND), Answer::Held),
+            (Step::Sync(TwoStep(3), SECOND), Answer::Held),
         ],
     ),
     (
@@ -552,7 +425,7 @@ const ROWS: [Row; 16] = [
     (
         "too big comes before not newer, and a Delay_Resp has a number of another pool",
         &[
-            (Step::Sync(SyncKind::OneStep(1), START), Answer::Completed),
+            (Step::Sync(OneStep(1), START), Answer::Completed),
             (Step::FollowUp(0, i64::MAX, ZERO), Answer::Ignored(507)),
             (Step::FollowUp(0, 0, ZERO), Answer::Ignored(512)),
             (Step::DelayResp(0, 0, ZERO), Answer::Ignored(509)),
@@ -571,15 +444,15 @@ const OVER_THE_END: Row = (
 const FEW_PLACES: Row = (
     "a one-step Sync pushes no two-step one out",
     &[
-        (Step::Sync(SyncKind::TwoStep(0), SECOND), Answer::Held),
-        (Step::Sync(SyncKind::TwoStep(1), SECOND), Answer::Held),
+        (Step::Sync(TwoStep(0), SECOND), Answer::Held),
+        (Step::Sync(TwoStep(1), SECOND), Answer::Held),
         (Step::FollowUp(0, 0, ZERO), Answer::Held),
-        (Step::Sync(SyncKind::OneStep(0), SECOND), Answer::Completed),
+        (Step::Sync(OneStep(0), SECOND), Answer::Completed),
         (Step::FollowUp(1, 0, ZERO), Answer::Completed),
         (Step::FollowUp(2, 0, ZERO), Answer::Held),
         (Step::FollowUp(3, 0, ZERO), Answer::Held),
-        (Step::Sync(SyncKind::TwoStep(1), SECOND), Answer::Held),
-        (Step::Sync(SyncKind::TwoStep(2), SECOND), Answer::Completed),
+        (Step::Sync(TwoStep(1), SECOND), Answer::Held),
+        (Step::Sync(TwoStep(2), SECOND), Answer::Completed),
         (Step::Request, Answer::Drawn(7)),
         (Step::Left(7, SECOND), Answer::Done),
         (Step::Request, Answer::Drawn(8)),
@@ -591,78 +464,70 @@ const FEW_PLACES: Row = (
         (Step::DelayResp(7, 0, ZERO), Answer::Ignored(509)),
         (
             Step::DelayResp(8, 0, ZERO),
-            Answer::Report(Report {
-                offset2: 131_072_000_000_000,
-                path2: 0,
-                sync_tag: 8,
-                follow_tag: Some(5),
-                request_tag: 11,
-                response_tag: 18,
-            }),
+            Answer::Report(131_072_000_000_000, 0, (8, Some(5), 11, 18)),
         ),
     ],
 );
 
 #[test]
-fn slaves_answer_each_step(rt: HostRuntime) {
+fn slaves_answer_each_step(rt: HostRuntime) -> Result<(), Fail> {
     for row in &ROWS {
-        assert_answers(&rt, &mut slave_from(0), *row);
+        assert_answers(&rt, &mut Slave::new(SLAVE_PORT, Seq(0)), *row)?;
     }
+    Ok(())
 }
 
 #[test]
-fn first_numbers_and_capacities_may_differ(rt: HostRuntime) {
-    assert_answers(&rt, &mut slave_from(65_535), OVER_THE_END);
-    assert_answers(&rt, &mut small_slave_from(7), FEW_PLACES);
+fn first_numbers_and_capacities_may_differ(rt: HostRuntime) -> Result<(), Fail> {
+    assert_answers(&rt, &mut Slave::new(SLAVE_PORT, Seq(65_535)), OVER_THE_END)?;
+    assert_answers(&rt, &mut SmallSlave::new(SLAVE_PORT, Seq(7)), FEW_PLACES)
 }
 
 #[test]
-fn the_last_sixteen_syncs_are_held(rt: HostRuntime) {
+fn the_last_sixteen_syncs_are_held(rt: HostRuntime) -> Result<(), Fail> {
     let mut slave = slave_of(Some(MASTER));
     for number in 0..17 {
-        let sync = Step::Sync(SyncKind::TwoStep(number), SECOND);
-        assert_eq!(rt; answer_to(&rt, &mut slave, sync, 1), Answer::Held);
+        let sync = Step::Sync(TwoStep(number), SECOND);
+        assert_eq!(rt; answer_to(&rt, &mut slave, sync, 1)?, Answer::Held);
     }
     for (number, answer) in [(0, Answer::Held), (1, Answer::Completed)] {
         let follow_up = Step::FollowUp(number, 0, ZERO);
-        assert_eq!(rt; answer_to(&rt, &mut slave, follow_up, 2), answer);
+        assert_eq!(rt; answer_to(&rt, &mut slave, follow_up, 2)?, answer);
     }
+    Ok(())
 }
 
 /// What a slave answers to the Delay_Resp of the first Delay_Req, after so many more.
-fn answer_after(rt: &impl Abort, later: usize) -> Answer {
+fn answer_after(rt: &impl Abort, later: usize) -> Result<Answer, Fail> {
     let mut slave = slave_of(Some(MASTER));
-    answer_to(rt, &mut slave, Step::Request, 1);
-    answer_to(rt, &mut slave, Step::Left(0, SECOND), 2);
+    answer_to(rt, &mut slave, Step::Request, 1)?;
+    answer_to(rt, &mut slave, Step::Left(0, SECOND), 2)?;
     for _ in 0..later {
-        answer_to(rt, &mut slave, Step::Request, 3);
+        answer_to(rt, &mut slave, Step::Request, 3)?;
     }
     answer_to(rt, &mut slave, Step::DelayResp(0, 0, ZERO), 4)
 }
 
 #[test]
-fn the_last_sixteen_requests_are_held(rt: HostRuntime) {
-    assert_eq!(rt; answer_after(&rt, 15), Answer::Completed);
-    assert_eq!(rt; answer_after(&rt, 16), Answer::Ignored(509));
+fn the_last_sixteen_requests_are_held(rt: HostRuntime) -> Result<(), Fail> {
+    assert_eq!(rt; answer_after(&rt, 15)?, Answer::Completed);
+    assert_eq!(rt; answer_after(&rt, 16)?, Answer::Ignored(509));
+    Ok(())
 }
 
 #[test]
 fn octets_that_are_no_message_are_ignored(rt: HostRuntime) {
-    let mut octets = plain_sync(0);
-    octets[1] = 0x01;
-    let heard = slave_of(None).sync(&octets, ScaledTime::default(), 1);
-    assert_eq!(rt;
-        heard,
-        Heard::Ignored(Reason::Decode(DecodeRefusal::Version))
-    );
-    assert_eq!(rt; code(heard), Some(501));
-    octets[0] = 0x0b;
-    octets[1] = 0x12;
-    let other = Heard::Ignored(Reason::Decode(DecodeRefusal::OtherType(11)));
-    let heard = slave_of(None).sync(&octets, ScaledTime::default(), 1);
-    assert_eq!(rt; heard, other);
-    assert_eq!(rt; code(heard), Some(501));
-    assert_eq!(rt; slave_of(None).general(&octets, 1), other);
+    for (place, octet, refusal) in [
+        (1, 0x01, DecodeRefusal::Version),
+        (0, 0x0b, DecodeRefusal::OtherType(11)),
+    ] {
+        let octets = changed(plain_sync(0), &[(place, octet)]);
+        let ignored = Heard::Ignored(Reason::Decode(refusal));
+        let heard = slave_of(None).sync(&octets, ScaledTime::default(), 1);
+        assert_eq!(rt; heard, ignored);
+        assert_eq!(rt; slave_of(None).general(&octets, 1), ignored);
+        assert_eq!(rt; code(heard), Some(501));
+    }
 }
 
 /// The number of the reason, where a message was ignored.
@@ -673,63 +538,61 @@ fn code(heard: Heard) -> Option<u16> {
     }
 }
 
-/// What a slave of this master answers to a message on its event port.
-fn on_event_port(master: Option<PortIdentity>, octets: &[u8]) -> Option<u16> {
-    code(slave_of(master).sync(octets, ScaledTime::default(), 1))
-}
+/// The master of a slave or none, what the slave is sent, and for which reason it ignores that.
+type ReasonRow<'a> = (Option<PortIdentity>, &'a [u8], Option<u16>);
 
-/// What a slave of this master answers to a message on its general port.
-fn on_general_port(master: Option<PortIdentity>, octets: &[u8]) -> Option<u16> {
-    code(slave_of(master).general(octets, 1))
+const PRESENT: Option<PortIdentity> = Some(MASTER);
+
+const ANOTHER: Option<PortIdentity> = Some(OTHER_MASTER);
+
+/// The header of a message of the master, in another domain.
+fn header_in_other_domain() -> Header {
+    let other_domain = PortConfig {
+        domain: 1,
+        ..MASTER_PORT
+    };
+    other_domain.header(TWO_STEP, Interval(0), Seq(0), 0, 0)
 }
 
 #[test]
 fn reasons_of_the_event_port_in_order(rt: HostRuntime) {
-    let other_domain = sync(header_in_other_domain());
-    let one_step = one_step_sync(0, 0);
-    let too_big = sync(too_big_header());
-    let one_step_too_big = one_step_sync(i64::MAX, 0);
-    assert_eq!(rt; on_event_port(None, &DELAY_REQ), Some(502));
-    assert_eq!(rt; on_event_port(None, &plain_follow_up(0)), Some(502));
-    assert_eq!(rt; on_event_port(None, &other_domain), Some(503));
-    assert_eq!(rt; on_event_port(None, &one_step), Some(504));
-    assert_eq!(rt; on_event_port(Some(OTHER_MASTER), &too_big), Some(505));
-    assert_eq!(rt; on_event_port(Some(MASTER), &one_step), None);
-    assert_eq!(rt; on_event_port(Some(MASTER), &one_step_too_big), Some(507));
-    assert_eq!(rt;
-        on_event_port(Some(MASTER), &one_step_sync(i64::MAX - 1, 0)),
-        None
-    );
-    assert_eq!(rt; on_event_port(Some(MASTER), &too_big), Some(507));
-    assert_eq!(rt;
-        on_event_port(Some(MASTER), &sync(header(i64::MAX - 1, 0))),
-        None
-    );
-}
-
-fn header_in_other_domain() -> Header {
-    OTHER_DOMAIN.header(TWO_STEP, Interval(0), Seq(0), 0, 0)
-}
-
-fn too_big_header() -> Header {
-    MASTER_CONFIG.header(TWO_STEP, TOO_BIG, Seq(0), 0, 0)
+    let too_big = sync(header(i64::MAX, 0));
+    let rows: [ReasonRow<'_>; 10] = [
+        (None, &DELAY_REQ, Some(502)),
+        (None, &plain_follow_up(0), Some(502)),
+        (None, &sync(header_in_other_domain()), Some(503)),
+        (None, &one_step_sync(0, 0), Some(504)),
+        (ANOTHER, &too_big, Some(505)),
+        (PRESENT, &one_step_sync(0, 0), None),
+        (PRESENT, &one_step_sync(i64::MAX, 0), Some(507)),
+        (PRESENT, &one_step_sync(i64::MAX - 1, 0), None),
+        (PRESENT, &too_big, Some(507)),
+        (PRESENT, &sync(header(i64::MAX - 1, 0)), None),
+    ];
+    for (master, octets, reason) in rows {
+        let heard = slave_of(master).sync(octets, ScaledTime::default(), 1);
+        assert_eq!(rt; code(heard), reason);
+    }
 }
 
 #[test]
 fn reasons_of_the_general_port_in_order(rt: HostRuntime) {
     let stamp = Timestamp::default();
-    let sync = sync(header_in_other_domain());
+    let too_big = header(i64::MAX, 0).follow_up(stamp);
     let other_domain = header_in_other_domain().follow_up(stamp);
-    let too_big = too_big_header().follow_up(stamp);
-    let both = too_big_header().delay_resp(stamp, MASTER);
+    let both = header(i64::MAX, 0).delay_resp(stamp, MASTER);
     let other_requester = header(0, 0).delay_resp(stamp, MASTER);
-    let unknown = plain_delay_resp(0);
-    assert_eq!(rt; on_general_port(None, &sync), Some(502));
-    assert_eq!(rt; on_general_port(None, &other_domain), Some(503));
-    assert_eq!(rt; on_general_port(None, &too_big), Some(504));
-    assert_eq!(rt; on_general_port(Some(OTHER_MASTER), &too_big), Some(505));
-    assert_eq!(rt; on_general_port(Some(MASTER), &too_big), Some(507));
-    assert_eq!(rt; on_general_port(Some(MASTER), &both), Some(507));
-    assert_eq!(rt; on_general_port(Some(MASTER), &other_requester), Some(508));
-    assert_eq!(rt; on_general_port(Some(MASTER), &unknown), Some(509));
+    let rows: [ReasonRow<'_>; 8] = [
+        (None, &sync(header_in_other_domain()), Some(502)),
+        (None, &other_domain, Some(503)),
+        (None, &too_big, Some(504)),
+        (ANOTHER, &too_big, Some(505)),
+        (PRESENT, &too_big, Some(507)),
+        (PRESENT, &both, Some(507)),
+        (PRESENT, &other_requester, Some(508)),
+        (PRESENT, &plain_delay_resp(0), Some(509)),
+    ];
+    for (master, octets, reason) in rows {
+        assert_eq!(rt; code(slave_of(master).general(octets, 1)), reason);
+    }
 }

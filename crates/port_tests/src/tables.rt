@@ -1,6 +1,6 @@
 ghost use Rattle.std.specs.Prelude.{◌≤◌};
 
-use event_codec::{PortConfig, PortIdentity};
+use crate::values::{MASTER, MASTER_PORT, SLAVE_PORT};
 use master_port::MasterPort;
 use pairing::{ListTable, PairTable, RingTable};
 use ptp_units::{ScaledTime, Seq};
@@ -145,6 +145,7 @@ fn number_of<T: PairTable<u32>>((number, times): Number) -> Seq {
     Seq(number.wrapping_add(times.wrapping_mul(capacity)))
 }
 
+/// Pushes each number below the capacity, with ten times itself as its value.
 fn fill<T: PairTable<u32>>(table: &mut T) {
     for number in 0..u16::try_from(T::CAPACITY).unwrap_or(u16::MAX) {
         table.push(Seq(number), u32::from(number).wrapping_mul(10));
@@ -172,17 +173,10 @@ fn answer_to<T: PairTable<u32>>(table: &mut T, step: Step) -> Answer {
     Answer::Done
 }
 
-/// The answer of a table of one.
-fn of_one(answer: Answer) -> Answer {
+/// The answer of a table of one, or of a larger one.
+fn expected_of(answer: Answer, capacity: usize) -> Answer {
     match answer {
-        Answer::FoundOfTwo(_) => Answer::Absent,
-        other => other,
-    }
-}
-
-/// The answer of a larger table.
-fn of_more(answer: Answer) -> Answer {
-    match answer {
+        Answer::FoundOfTwo(_) if capacity == 1 => Answer::Absent,
         Answer::FoundOfTwo(value) => Answer::Found(value),
         other => other,
     }
@@ -196,11 +190,7 @@ fn assert_answers<T: PairTable<u32> + Drop>(rt: &impl Abort, row: Row)
     let (title, steps) = row;
     let mut table = T::empty();
     for (step, answer) in steps {
-        let expected = if T::CAPACITY == 1 {
-            of_one(*answer)
-        } else {
-            of_more(*answer)
-        };
+        let expected = expected_of(*answer, T::CAPACITY);
         assert_eq!(rt; answer_to(&mut table, *step), expected, "{title}");
     }
 }
@@ -211,24 +201,6 @@ type LargeSlave = SlavePort<
     RingTable<HeldFollow, 256>,
     RingTable<HeldRequest, 256>,
 >;
-
-const MASTER: PortConfig = PortConfig {
-    identity: PortIdentity {
-        clock: [0x00, 0x11, 0x22, 0xff, 0xfe, 0x33, 0x44, 0x55],
-        port: 1,
-    },
-    domain: 0,
-    log: 0,
-};
-
-const SLAVE: PortConfig = PortConfig {
-    identity: PortIdentity {
-        clock: [0x00, 0xaa, 0xbb, 0xff, 0xfe, 0xcc, 0xdd, 0xee],
-        port: 1,
-    },
-    domain: 0,
-    log: 0,
-};
 
 /// The slave hears the master's next Sync; the Follow_Up that belongs to it.
 fn heard_sync(
@@ -244,9 +216,9 @@ fn heard_sync(
 /// Of 257 Syncs the first is held no longer, and the second still is.
 #[test]
 fn a_slave_holds_the_latest_256(rt: HostRuntime) -> Result<(), Fail> {
-    let mut master = MasterPort::new(MASTER, Seq(0));
-    let mut slave = LargeSlave::new(SLAVE, Seq(0));
-    slave.set_master(MASTER.identity);
+    let mut master = MasterPort::new(MASTER_PORT, Seq(0));
+    let mut slave = LargeSlave::new(SLAVE_PORT, Seq(0));
+    slave.set_master(MASTER);
     let first = heard_sync(&rt, &mut master, &mut slave)?;
     let second = heard_sync(&rt, &mut master, &mut slave)?;
     for _ in 0..255 {
@@ -267,39 +239,24 @@ fn calls<T: PairTable<u32> + Drop>(rt: &impl Abort)
     drops_the_oldest::<T>(rt);
 }
 
-/// A table in which each number below the capacity has ten times itself as its value.
-fn full<T: PairTable<u32>>() -> T
-    requires some_fit { 1 ≤ T.CAPACITY }
-    requires few_fit { T.CAPACITY ≤ 256 }
-{
-    let mut table = T::empty();
-    for number in 0..T::CAPACITY as u16 {
-        table.push(Seq(number), 10 * u32::from(number));
-    }
-    table
-}
-
 /// All are marked when one more pushes the oldest out, so that the next tick leaves just that one.
 fn drops_the_oldest<T: PairTable<u32> + Drop>(rt: &impl Abort)
     requires some_fit { 1 ≤ T.CAPACITY }
     requires few_fit { T.CAPACITY ≤ 256 }
 {
     let capacity = T::CAPACITY as u16;
-    let mut table: T = full();
+    let mut table = T::empty();
+    fill(&mut table);
     table.tick();
     for number in 0..capacity {
-        assert_eq!(rt;
-            table.find(Seq(number)).copied(),
-            Some(10 * u32::from(number))
-        );
+        let value = table.find(Seq(number)).copied();
+        assert_eq!(rt; value, Some(10 * u32::from(number)));
     }
     table.push(Seq(capacity), 7);
     assert_eq!(rt; table.find(Seq(0)).copied(), None);
     for number in 1..capacity {
-        assert_eq!(rt;
-            table.find(Seq(number)).copied(),
-            Some(10 * u32::from(number))
-        );
+        let value = table.find(Seq(number)).copied();
+        assert_eq!(rt; value, Some(10 * u32::from(number)));
     }
     table.tick();
     for number in 0..capacity {
