@@ -1,4 +1,4 @@
-//! The checker where memory is withheld, by the script that runs these tests, and its numbers.
+//! The checker where memory is withheld, by the script that runs these tests.
 
 use crate::memory::{LENGTH, REPORT, exchange, played, specs};
 use exchange_check::{CheckFault, Checker, TraceLine, TraceOut, Verdict, Why, check};
@@ -66,22 +66,4 @@ fn is_fed_whatever_memory_there_is(rt: HostRuntime) -> Result<(), Fail> {
     }
     assert_eq!(rt; checker.verdict(), Verdict::Accepted(1));
     Ok(())
-}
-
-#[test]
-fn codes(rt: HostRuntime) {
-    let cases = [
-        (Why::NoSuchLine, 701),
-        (Why::OtherNumber, 702),
-        (Why::OtherMaster, 703),
-        (Why::BrokenJourney, 704),
-        (Why::WrongReading, 705),
-        (Why::WrongValue, 706),
-        (Why::TooBig, 707),
-        (Why::Bytes, 708),
-    ];
-    for (why, code) in cases {
-        assert_eq!(rt; why.code(), code);
-    }
-    assert_eq!(rt; CheckFault::Memory.code(), 709);
 }

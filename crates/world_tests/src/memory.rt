@@ -26,67 +26,6 @@ pub(crate) fn specs() -> Result<[NodeSpec; 3], Fail> {
 /// How many events the exchange has.
 pub(crate) const LENGTH: usize = 14;
 
-/// The event of this tag of an exchange through a clock, with a slave that is 1,000 ns ahead.
-pub(crate) fn event(tag: usize) -> Result<Event, Fail> {
-    let node = name(match tag {
-        2 | 6 | 11 => "M",
-        3 | 4 | 9 | 10 => "T",
-        _ => "S",
-    })?;
-    Ok(match tag {
-        0 => Event::StepClock {
-            node,
-            diff: 65_536_000,
-        },
-        1 => Event::SetMaster {
-            node,
-            master: name("M")?,
-        },
-        2 => Event::Sync {
-            node,
-            at: moment(1, 0, 0)?,
-        },
-        3 => Event::Enter {
-            node,
-            copy: 2,
-            at: moment(1, 500, 0)?,
-        },
-        4 => Event::Leave {
-            node,
-            transit: 3,
-            at: moment(1, 2_500, 0)?,
-        },
-        5 => Event::Arrive {
-            node,
-            copy: 4,
-            at: moment(1, 3_000, 0)?,
-        },
-        6 => Event::Follow { node },
-        7 => Event::Hear { node, copy: 6 },
-        8 => Event::Request {
-            node,
-            at: moment(2, 0, 0)?,
-        },
-        9 => Event::Enter {
-            node,
-            copy: 8,
-            at: moment(2, 500, 0)?,
-        },
-        10 => Event::Leave {
-            node,
-            transit: 9,
-            at: moment(2, 4_000, 16_384)?,
-        },
-        11 => Event::Arrive {
-            node,
-            copy: 10,
-            at: moment(2, 4_500, 16_384)?,
-        },
-        12 => Event::Stamped { node },
-        _ => Event::Hear { node, copy: 11 },
-    })
-}
-
 /// What the slave reports.
 pub(crate) const REPORT: Report = Report {
     offset2: 131_072_000,
@@ -97,16 +36,47 @@ pub(crate) const REPORT: Report = Report {
     response_tag: 13,
 };
 
+/// An exchange through a clock, with a slave that is 1,000 ns ahead: the node of each event, the tag that it names and when
+/// it happens, or zeros where it has none, and what comes of it where there is memory.
+const EXCHANGE: [(&str, u64, (u64, u32, u16), Outcome); LENGTH] = [
+    ("S", 0, (0, 0, 0), Outcome::Done),
+    ("S", 0, (0, 0, 0), Outcome::Done),
+    ("M", 0, (1, 0, 0), Outcome::Made),
+    ("T", 2, (1, 500, 0), Outcome::Entered),
+    ("T", 3, (1, 2_500, 0), Outcome::Made),
+    ("S", 4, (1, 3_000, 0), Outcome::Heard(Heard::Held)),
+    ("M", 0, (0, 0, 0), Outcome::Made),
+    ("S", 6, (0, 0, 0), Outcome::Heard(Heard::Completed)),
+    ("S", 0, (2, 0, 0), Outcome::Made),
+    ("T", 8, (2, 500, 0), Outcome::Entered),
+    ("T", 9, (2, 4_000, 16_384), Outcome::Made),
+    ("M", 10, (2, 4_500, 16_384), Outcome::Made),
+    ("S", 0, (0, 0, 0), Outcome::Done),
+    ("S", 11, (0, 0, 0), Outcome::Heard(Heard::Report(REPORT))),
+];
+
+/// The event of this tag.
+pub(crate) fn event(tag: usize) -> Result<Event, Fail> {
+    let (node, copy, (seconds, nanos, fraction), _) = *EXCHANGE.get(tag).ok_or("no event")?;
+    let (node, at) = (name(node)?, moment(seconds, nanos, fraction)?);
+    let (master, diff, transit) = (name("M")?, 65_536_000, copy);
+    Ok(match tag {
+        0 => Event::StepClock { node, diff },
+        1 => Event::SetMaster { node, master },
+        2 => Event::Sync { node, at },
+        3 | 9 => Event::Enter { node, copy, at },
+        4 | 10 => Event::Leave { node, transit, at },
+        5 | 11 => Event::Arrive { node, copy, at },
+        6 => Event::Follow { node },
+        8 => Event::Request { node, at },
+        12 => Event::Stamped { node },
+        _ => Event::Hear { node, copy },
+    })
+}
+
 /// What comes of it where there is memory.
-pub(crate) fn ample(tag: usize) -> Outcome {
-    match tag {
-        0 | 1 | 12 => Outcome::Done,
-        3 | 9 => Outcome::Entered,
-        5 => Outcome::Heard(Heard::Held),
-        7 => Outcome::Heard(Heard::Completed),
-        13 => Outcome::Heard(Heard::Report(REPORT)),
-        _ => Outcome::Made,
-    }
+pub(crate) fn ample(tag: usize) -> Option<Outcome> {
+    EXCHANGE.get(tag).map(|(_, _, _, outcome)| *outcome)
 }
 
 /// All events of the exchange.
@@ -118,15 +88,21 @@ pub(crate) fn exchange() -> Result<[Event; LENGTH], Fail> {
     Ok(events)
 }
 
+/// A world in which nothing happened, or None where memory was refused.
+fn begun(alloc: Global) -> Result<Option<World>, Fail> {
+    match world(alloc, &specs()?) {
+        Ok(world) => Ok(Some(world)),
+        Err(WorldRefusal::Memory) => Ok(None),
+        Err(why) => Err(why.into()),
+    }
+}
+
 /// A world in which the exchange happened, and its answers, or None where memory was refused.
 pub(crate) fn played(alloc: Global) -> Result<Option<(World, Vec<Stepped>)>, Fail> {
-    let (specs, events) = (specs()?, exchange()?);
-    let mut world = match world(alloc, &specs) {
-        Ok(world) => world,
-        Err(WorldRefusal::Memory) => return Ok(None),
-        Err(why) => return Err(why.into()),
+    let Some(mut world) = begun(alloc)? else {
+        return Ok(None);
     };
-    match run(alloc, &mut world, &events) {
+    match run(alloc, &mut world, &exchange()?) {
         Ok(answers) => Ok(Some((world, answers))),
         Err(stop) if stop.why == WorldRefusal::Memory => Ok(None),
         Err(stop) => Err(stop.into()),
@@ -137,13 +113,8 @@ pub(crate) fn played(alloc: Global) -> Result<Option<(World, Vec<Stepped>)>, Fai
 /// answers as if nothing had been refused.
 #[test]
 fn steps_whatever_memory_there_is(rt: HostRuntime) -> Result<(), Fail> {
-    let specs = specs()?;
-    let mut world = match world(rt.alloc(), &specs) {
-        Ok(world) => world,
-        Err(why) => {
-            assert_eq!(rt; why, WorldRefusal::Memory);
-            return Ok(());
-        }
+    let Some(mut world) = begun(rt.alloc())? else {
+        return Ok(());
     };
     for tag in 0..LENGTH {
         let event = event(tag)?;
@@ -156,7 +127,7 @@ fn steps_whatever_memory_there_is(rt: HostRuntime) -> Result<(), Fail> {
             }
         };
         assert_eq!(rt; stepped.tag, tag as u64);
-        assert_eq!(rt; stepped.outcome, ample(tag));
+        assert_eq!(rt; Some(stepped.outcome), ample(tag));
     }
     Ok(())
 }
@@ -166,13 +137,8 @@ fn steps_whatever_memory_there_is(rt: HostRuntime) -> Result<(), Fail> {
 #[test]
 fn runs_whatever_memory_there_is(rt: HostRuntime) -> Result<(), Fail> {
     let events = exchange()?;
-    let specs = specs()?;
-    let mut world = match world(rt.alloc(), &specs) {
-        Ok(world) => world,
-        Err(why) => {
-            assert_eq!(rt; why, WorldRefusal::Memory);
-            return Ok(());
-        }
+    let Some(mut world) = begun(rt.alloc())? else {
+        return Ok(());
     };
     let (answers, done) = match run(rt.alloc(), &mut world, &events) {
         Ok(answers) => (answers, 0),
@@ -185,7 +151,7 @@ fn runs_whatever_memory_there_is(rt: HostRuntime) -> Result<(), Fail> {
     };
     assert_eq!(rt; done.checked_add(answers.len()), Some(events.len()));
     for (stepped, tag) in answers.iter().zip(done..LENGTH) {
-        assert_eq!(rt; stepped.outcome, ample(tag));
+        assert_eq!(rt; Some(stepped.outcome), ample(tag));
     }
     Ok(())
 }

@@ -1,4 +1,4 @@
-//! The nodes of a network: their names, and that a call succeeds where memory is there, which no contract says.
+//! The nodes of a network, found by name; and that a call succeeds where memory is there, which no contract says.
 
 use event_codec::{PortConfig, PortIdentity};
 use network_model::{Name, NodeKind, NodeSpec, Nodes, WorldRefusal};
@@ -59,55 +59,6 @@ pub(crate) fn clock(text: &str) -> Result<NodeSpec, Fail> {
         name: name(text)?,
         kind: NodeKind::Clock,
     })
-}
-
-#[test]
-fn codes(rt: HostRuntime) {
-    let cases = [
-        (WorldRefusal::SameName, 601),
-        (WorldRefusal::SameIdentity, 602),
-        (WorldRefusal::NoNode, 603),
-        (WorldRefusal::WrongKind, 604),
-        (WorldRefusal::NoCopy, 605),
-        (WorldRefusal::NoTransit, 606),
-        (WorldRefusal::ReadingOutOfRange, 607),
-        (WorldRefusal::NothingWaiting, 608),
-        (WorldRefusal::Memory, 609),
-    ];
-    for (refusal, code) in cases {
-        assert_eq!(rt; refusal.code(), code);
-    }
-}
-
-#[test]
-fn names(rt: HostRuntime) -> Result<(), Fail> {
-    for text in ["M", "0", "_", "-", "azAZ09_-", "sixteen-octets-x"] {
-        assert_eq!(rt; name(text)?.text(), text);
-    }
-    Ok(())
-}
-
-#[test]
-fn texts_that_name_no_node(rt: HostRuntime) {
-    let texts = [
-        "",
-        "seventeen-octets-",
-        "a b",
-        " ",
-        "a.b",
-        "a/",
-        "a:",
-        "@",
-        "[",
-        "`",
-        "{",
-        "é",
-        "a\0",
-        "名",
-    ];
-    for text in texts {
-        assert_eq!(rt; Name::new(text), None, "{text:?}");
-    }
 }
 
 /// The number of nodes of a network, or why there is none.

@@ -60,6 +60,6 @@ fn a_run_stops_at_a_refused_event(rt: HostRuntime) -> Result<(), Fail> {
         }
         assert_eq!(rt; world.len(), (tag as u64).wrapping_add(1));
     }
-    assert_eq!(rt; world.step(&event(last)?)?.outcome, ample(last));
+    assert_eq!(rt; Some(world.step(&event(last)?)?.outcome), ample(last));
     Ok(())
 }
