@@ -1,6 +1,13 @@
 //! Tests by the public calls of the program: devices of all kinds, statuses, and what refusals say.
 #![tactic(auto)]
 
+/// Cases, each with its text.
+macro_rules! texts {
+    ($($case:expr => $text:expr,)*) => {
+        [$(($case, $text)),*]
+    };
+}
+
 #[cfg(test)]
 mod counted;
 #[cfg(test)]

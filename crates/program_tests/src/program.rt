@@ -58,49 +58,29 @@ const NO_REPORT: &[u8] =
 \"log\":0,\"node\":\"S\",\"port\":1}\n{\"ev\":\"tick\",\"n\":0,\"node\":\"S\",\"offset2\":\"0\",\"out\":\"report\",\
 \"path2\":\"0\",\"tags\":[0,0,0,0]}\n";
 
+/// One octet more than a line may have.
+const LONG: [u8; 4097] = [b'0'; 4097];
+
+/// Arguments and an input, and what is said to a person.
+const SAID: [((&str, &[u8]), &[u8]); 7] = texts! {
+    ("ptpx show", SYNC) => b"",
+    ("ptpx show", b"xy\n") => b"ptpx: fault 806 at line 1\n\
+ptpx: 806 is a line that isn't pairs of hexadecimal digits\n",
+    ("ptpx replay", NO_REPORT) => b"ptpx: fault 806 at line 2\n\
+ptpx: 806 is a line that isn't what a schedule asks for; 'ptpx explain' says what is wrong with it\n",
+    ("ptpx replay", SCHEDULE) => b"ptpx: fault 807 (604) at line 2\n\
+ptpx: 807 is a network or an event that can't be; 'ptpx explain' says why\n",
+    ("ptpx check", SCHEDULE) => b"ptpx: fault 806 at line 2\n\
+ptpx: 806 is a line that isn't what a transcript asks for; 'ptpx explain' says what is wrong with it\n",
+    ("ptpx check", SYNC) => b"ptpx: fault 805 at line 1\n\
+ptpx: 805 is a line that isn't UTF-8 or isn't JSON; 'ptpx explain' says where\n",
+    ("ptpx check", &LONG) => b"ptpx: fault 803 at line 1\n\
+ptpx: 803 is a line of more than 4096 octets; 'ptpx explain' says what the input looks like\n",
+};
+
 #[test]
 fn says_more_on_a_terminal(rt: HostRuntime) -> Result<(), Fail> {
-    let long = [b'0'; 4097];
-    let cases: [(&str, &[u8], &[u8]); 7] = [
-        ("ptpx show", SYNC, b""),
-        (
-            "ptpx show",
-            b"xy\n",
-            b"ptpx: fault 806 at line 1\n\
-ptpx: 806 is a line that isn't pairs of hexadecimal digits\n",
-        ),
-        (
-            "ptpx replay",
-            NO_REPORT,
-            b"ptpx: fault 806 at line 2\n\
-ptpx: 806 is a line that isn't what a schedule asks for; 'ptpx explain' says what is wrong with it\n",
-        ),
-        (
-            "ptpx replay",
-            SCHEDULE,
-            b"ptpx: fault 807 (604) at line 2\n\
-ptpx: 807 is a network or an event that can't be; 'ptpx explain' says why\n",
-        ),
-        (
-            "ptpx check",
-            SCHEDULE,
-            b"ptpx: fault 806 at line 2\n\
-ptpx: 806 is a line that isn't what a transcript asks for; 'ptpx explain' says what is wrong with it\n",
-        ),
-        (
-            "ptpx check",
-            SYNC,
-            b"ptpx: fault 805 at line 1\n\
-ptpx: 805 is a line that isn't UTF-8 or isn't JSON; 'ptpx explain' says where\n",
-        ),
-        (
-            "ptpx check",
-            &long,
-            b"ptpx: fault 803 at line 1\n\
-ptpx: 803 is a line of more than 4096 octets; 'ptpx explain' says what the input looks like\n",
-        ),
-    ];
-    for (line, input, said) in cases {
+    for ((line, input), said) in SAID {
         let (output, errors) = (Sink::new(rt.alloc()), Sink::new(rt.alloc()));
         let ended = run(rt.alloc(), line, Source::new(input), output, errors, true)?;
         assert_eq!(rt; ended.errors.as_slice(), said, "{line}");
@@ -109,32 +89,13 @@ ptpx: 803 is a line of more than 4096 octets; 'ptpx explain' says what the input
 }
 
 /// Arguments, and whether the reader, the writer and the writer of errors fail, each once, at the
-/// first call; and what is said. What failed isn't tried again.
-const BROKEN: [(&str, bool, bool, bool, &[u8]); 4] = [
-    (
-        "ptpx show",
-        true,
-        false,
-        false,
-        b"ptpx: fault 801 at line 1\n",
-    ),
-    (
-        "ptpx show",
-        false,
-        true,
-        false,
-        b"ptpx: fault 802 at line 1\n",
-    ),
-    (
-        "ptpx help",
-        false,
-        true,
-        false,
-        b"ptpx: fault 802 at line 0\n",
-    ),
-    // What can't be said is passed over.
-    ("ptpx show", true, true, true, b""),
-];
+/// first call; and what is said. What failed isn't tried again, and what can't be said is passed over.
+const BROKEN: [((&str, bool, bool, bool), &[u8]); 4] = texts! {
+    ("ptpx show", true, false, false) => b"ptpx: fault 801 at line 1\n",
+    ("ptpx show", false, true, false) => b"ptpx: fault 802 at line 1\n",
+    ("ptpx help", false, true, false) => b"ptpx: fault 802 at line 0\n",
+    ("ptpx show", true, true, true) => b"",
+};
 
 /// A reader of a Sync.
 fn source(is_broken: bool) -> Source<'static> {
@@ -151,7 +112,7 @@ fn sink(alloc: Global, is_broken: bool, kind: Option<ErrorKind>) -> Sink {
 
 #[test]
 fn says_which_device_failed(rt: HostRuntime) -> Result<(), Fail> {
-    for (line, reader, writer, of_errors, said) in BROKEN {
+    for ((line, reader, writer, of_errors), said) in BROKEN {
         for kind in WRITE_FAILURES {
             let output = sink(rt.alloc(), writer, kind);
             let errors = sink(rt.alloc(), of_errors, Some(ErrorKind::BrokenPipe));
