@@ -1,6 +1,7 @@
 //! A reader and a writer that fail, that never end, that give little at once, or that keep nothing.
 //! There is one type of each, since what reads and writes is built once for each type.
 
+use schedule_replay::{Fault, FaultKind};
 use std::alloc::Global;
 use std::io;
 use std::io::{Error, ErrorKind, Read, Write};
@@ -8,6 +9,11 @@ use std::io::{Error, ErrorKind, Read, Write};
 /// How many lines end in these octets.
 pub(crate) fn lines_in(octets: &[u8]) -> usize {
     octets.iter().filter(|octet| **octet == b'\n').count()
+}
+
+/// What is answered where this line has a fault.
+pub(crate) fn fault<T>(line: u64, what: FaultKind) -> Result<T, Fault> {
+    Err(Fault { line, what })
 }
 
 /// Gives its octets, fails once if it is to, and goes on with the rest. Counts how often it was asked.

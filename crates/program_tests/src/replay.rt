@@ -1,13 +1,13 @@
 //! `replay` over schedules and devices of all kinds.
 
-use crate::devices::{Sink, Source, WRITE_FAILURES, lines_in};
-use schedule_replay::{Counted, Fault, FaultKind, OctetReader, replay};
+use crate::devices::{Sink, Source, WRITE_FAILURES, fault, lines_in};
+use schedule_replay::{Counted, FaultKind, OctetReader, replay};
 use std::alloc::Global;
 use std::io::ErrorKind;
 use std::test::Fail;
 
 /// One exchange with a slave behind a clock.
-pub(crate) const SCHEDULE: [&str; 17] = [
+const SCHEDULE: [&str; 17] = [
     r#"{"domain":0,"first":0,"id":"001122fffe334455","kind":"master","log":0,"node":"M","port":1}"#,
     r#"{"domain":0,"first":0,"id":"00aabbfffeccddee","kind":"slave","log":0,"node":"S","port":1}"#,
     r#"{"kind":"clock","node":"T"}"#,
@@ -48,15 +48,6 @@ pub(crate) const TRANSCRIPT: [&str; 17] = [
     r#"{"copy":11,"ev":"hear","n":13,"node":"S","offset2":"131072000","out":"report","path2":"131072000","tags":[5,7,8,13]}"#,
 ];
 
-/// What `replay` answers to these octets, what it wrote, and what it left unread.
-fn replayed(alloc: Global, input: &[u8]) -> (Result<u64, Fault>, Vec<u8>, &[u8]) {
-    let mut reader = Counted::new(Source::new(input));
-    let mut writer = Counted::new(Sink::new(alloc));
-    let answer = replay(alloc, &mut reader, &mut writer);
-    let written = writer.into_inner().into_text();
-    (answer, written, reader.into_inner().unread())
-}
-
 /// Lines, each with its LF.
 pub(crate) fn joined(alloc: Global, lines: &[&str]) -> Result<String, Fail> {
     let mut text = String::new(alloc);
@@ -69,87 +60,7 @@ pub(crate) fn joined(alloc: Global, lines: &[&str]) -> Result<String, Fail> {
 
 /// The first lines of the transcript.
 fn begun(alloc: Global, count: usize) -> Result<String, Fail> {
-    let mut text = String::new(alloc);
-    for line in TRANSCRIPT.iter().take(count) {
-        text.push_str(line)?;
-        text.push('\n')?;
-    }
-    Ok(text)
-}
-
-fn fault(line: u64, what: FaultKind) -> Result<u64, Fault> {
-    Err(Fault { line, what })
-}
-
-#[test]
-fn replays_an_exchange(rt: HostRuntime) -> Result<(), Fail> {
-    let schedule = joined(rt.alloc(), &SCHEDULE)?;
-    let (answer, written, unread) = replayed(rt.alloc(), schedule.as_bytes());
-    assert_eq!(rt; answer, Ok(14));
-    assert_eq!(rt;
-        written.as_slice(),
-        joined(rt.alloc(), &TRANSCRIPT)?.as_bytes()
-    );
-    assert_eq!(rt; unread.len(), 0);
-    Ok(())
-}
-
-#[test]
-fn stops_at_a_line_that_is_no_json(rt: HostRuntime) -> Result<(), Fail> {
-    let mut lines = SCHEDULE;
-    lines[5] = "x";
-    let schedule = joined(rt.alloc(), &lines)?;
-    let (answer, written, unread) = replayed(rt.alloc(), schedule.as_bytes());
-    assert_eq!(rt; answer, fault(6, FaultKind::Json));
-    assert_eq!(rt;
-        written.as_slice(),
-        joined(rt.alloc(), &TRANSCRIPT[..5])?.as_bytes()
-    );
-    assert_eq!(rt; unread, joined(rt.alloc(), &SCHEDULE[6..])?.as_bytes());
-    Ok(())
-}
-
-/// Lines that are no JSON.
-const NO_JSON: [&[u8]; 13] = [
-    b"",
-    b"x",
-    b"\r",
-    b"{",
-    b"[1e999]",
-    b"NaN",
-    b"[01]",
-    b"\xff",
-    b"{\"kind\":\"clock\",\"node\":\"\xff\"}",
-    b"\xef\xbb\xbf{\"kind\":\"clock\",\"node\":\"T\"}",
-    b"\"\\ud800\"",
-    b"\"\t\"",
-    b"{\"kind\":\"clock\",\"node\":\"T\"} {}",
-];
-
-#[test]
-fn refuses_what_is_no_json(rt: HostRuntime) -> Result<(), Fail> {
-    for line in NO_JSON {
-        let mut schedule = Vec::from_slice(rt.alloc(), b"{\"kind\":\"clock\",\"node\":\"C\"}\n")?;
-        schedule.extend_from_slice(line)?;
-        schedule.extend_from_slice(b"\n\n\n")?;
-        let (answer, written, unread) = replayed(rt.alloc(), schedule.as_slice());
-        assert_eq!(rt; answer, fault(2, FaultKind::Json), "{line:?}");
-        assert_eq!(rt; written.len(), 0, "{line:?}");
-        assert_eq!(rt; unread.len(), 2, "{line:?}");
-    }
-    Ok(())
-}
-
-/// Nodes alone are no event, and are written at the end.
-#[test]
-fn counts_no_nodes(rt: HostRuntime) -> Result<(), Fail> {
-    for count in 0..=3 {
-        let nodes = begun(rt.alloc(), count)?;
-        let (answer, written, _) = replayed(rt.alloc(), nodes.as_bytes());
-        assert_eq!(rt; answer, Ok(0), "{count}");
-        assert_eq!(rt; written.as_slice(), nodes.as_bytes(), "{count}");
-    }
-    Ok(())
+    joined(alloc, TRANSCRIPT.get(..count).unwrap_or(&[]))
 }
 
 #[test]
@@ -184,13 +95,8 @@ fn stops_where_the_reader_fails(rt: HostRuntime) -> Result<(), Fail> {
             assert_eq!(rt; answer, wanted, "{given}");
             assert_eq!(rt; reader.failures(), 1, "{given}");
             assert_eq!(rt; device.left(), schedule.len().saturating_sub(given));
-            let lines = if ended > 3 { ended } else { 0 };
-            let written = writer.into_inner();
-            assert_eq!(rt;
-                written.text(),
-                begun(rt.alloc(), lines)?.as_bytes(),
-                "{given}"
-            );
+            let lines = begun(rt.alloc(), if ended > 3 { ended } else { 0 })?;
+            assert_eq!(rt; writer.into_inner().text(), lines.as_bytes(), "{given}");
         }
     }
     Ok(())
@@ -211,12 +117,8 @@ fn stops_where_the_writer_fails(rt: HostRuntime) -> Result<(), Fail> {
             };
             assert_eq!(rt; answer, wanted, "{room}");
             assert_eq!(rt; writer.failures(), u64::from(room < 17), "{room}");
-            let written = writer.into_inner();
-            assert_eq!(rt;
-                written.text(),
-                begun(rt.alloc(), room)?.as_bytes(),
-                "{room}"
-            );
+            let lines = begun(rt.alloc(), room)?;
+            assert_eq!(rt; writer.into_inner().text(), lines.as_bytes(), "{room}");
         }
     }
     Ok(())

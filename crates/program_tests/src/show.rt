@@ -1,6 +1,6 @@
 //! `show` over lines and devices of all kinds.
 
-use crate::devices::{Sink, Source, WRITE_FAILURES, lines_in};
+use crate::devices::{Sink, Source, WRITE_FAILURES, fault, lines_in};
 use schedule_replay::{Counted, Fault, FaultKind, show};
 use std::alloc::Global;
 use std::io::ErrorKind;
@@ -15,13 +15,6 @@ fn shown(alloc: Global, input: &[u8]) -> (Result<u64, Fault>, Vec<u8>, &[u8]) {
     (answer, written, reader.into_inner().unread())
 }
 
-fn outcome_of(lines: usize, fault: Option<(u64, FaultKind)>) -> Result<u64, Fault> {
-    match fault {
-        None => Ok(lines as u64),
-        Some((line, what)) => Err(Fault { line, what }),
-    }
-}
-
 /// The answer to so many lines of fewer than 34 octets.
 fn short_answers(alloc: Global, lines: usize) -> Result<Vec<u8>, Fail> {
     let mut text = Vec::new(alloc);
@@ -34,7 +27,7 @@ fn short_answers(alloc: Global, lines: usize) -> Result<Vec<u8>, Fail> {
 #[test]
 fn leaves_the_lines_after_a_fault(rt: HostRuntime) -> Result<(), Fail> {
     let (answer, _, unread) = shown(rt.alloc(), b"00\n0\n0001\n\n");
-    assert_eq!(rt; answer, outcome_of(0, Some((2, FaultKind::Field))));
+    assert_eq!(rt; answer, fault(2, FaultKind::Field));
     assert_eq!(rt; unread, b"0001\n\n".as_slice());
 
     let (answer, written, unread) = shown(rt.alloc(), unread);
@@ -44,97 +37,32 @@ fn leaves_the_lines_after_a_fault(rt: HostRuntime) -> Result<(), Fail> {
     Ok(())
 }
 
-/// So many times an octet, and these after it: what is answered, how many lines were, and how many
-/// octets are unread.
-const LENGTHS: [(u8, usize, &[u8], Result<u64, Fault>, usize); 9] = [
-    (
-        b'x',
-        4096,
-        b"\n",
-        Err(Fault {
-            line: 1,
-            what: FaultKind::Field,
-        }),
-        0,
-    ),
-    (
-        b'x',
-        4097,
-        b"\n",
-        Err(Fault {
-            line: 1,
-            what: FaultKind::LineTooLong,
-        }),
-        1,
-    ),
-    (
-        b'x',
-        4097,
-        b"",
-        Err(Fault {
-            line: 1,
-            what: FaultKind::LineTooLong,
-        }),
-        0,
-    ),
-    (
-        b'x',
-        5000,
-        b"\n\n",
-        Err(Fault {
-            line: 1,
-            what: FaultKind::LineTooLong,
-        }),
-        905,
-    ),
-    (
-        b'x',
-        4096,
-        b"\r\n",
-        Err(Fault {
-            line: 1,
-            what: FaultKind::LineTooLong,
-        }),
-        1,
-    ),
-    (
-        b'0',
-        4096,
-        b"\r\n",
-        Err(Fault {
-            line: 1,
-            what: FaultKind::LineTooLong,
-        }),
-        1,
-    ),
-    (
-        b'0',
-        4095,
-        b"\r\n",
-        Err(Fault {
-            line: 1,
-            what: FaultKind::Field,
-        }),
-        0,
-    ),
-    (b'0', 4094, b"\r\n", Ok(1), 0),
-    (b'0', 4096, b"", Ok(1), 0),
+/// So many times an octet, and these after it: what is wrong with the line, and how many octets are unread.
+const LENGTHS: [(u8, usize, &[u8], Option<FaultKind>, usize); 9] = [
+    (b'x', 4096, b"\n", Some(FaultKind::Field), 0),
+    (b'x', 4097, b"\n", Some(FaultKind::LineTooLong), 1),
+    (b'x', 4097, b"", Some(FaultKind::LineTooLong), 0),
+    (b'x', 5000, b"\n\n", Some(FaultKind::LineTooLong), 905),
+    (b'x', 4096, b"\r\n", Some(FaultKind::LineTooLong), 1),
+    (b'0', 4096, b"\r\n", Some(FaultKind::LineTooLong), 1),
+    (b'0', 4095, b"\r\n", Some(FaultKind::Field), 0),
+    (b'0', 4094, b"\r\n", None, 0),
+    (b'0', 4096, b"", None, 0),
 ];
 
 #[test]
 fn lines_have_at_most_4096_octets(rt: HostRuntime) -> Result<(), Fail> {
-    for (octet, count, end, wanted, left) in LENGTHS {
+    for (octet, count, end, wrong, left) in LENGTHS {
         let mut input = vec![in rt.alloc(); octet; count]?;
         input.extend_from_slice(end)?;
         let (answer, written, unread) = shown(rt.alloc(), input.as_slice());
+        // A datagram of zeros has versionPTP 0.
+        let (wanted, text): (_, &[u8]) = match wrong {
+            Some(what) => (fault(1, what), b""),
+            None => (Ok(1), b"refused 202\n"),
+        };
         assert_eq!(rt; answer, wanted, "{count}");
         assert_eq!(rt; unread.len(), left, "{count}");
-        // A datagram of zeros has versionPTP 0.
-        let text: &[u8] = if wanted.is_ok() {
-            b"refused 202\n"
-        } else {
-            b""
-        };
         assert_eq!(rt; written.as_slice(), text, "{count}");
     }
     Ok(())
@@ -145,7 +73,7 @@ fn ends_at_endless_lines(rt: HostRuntime) -> Result<(), Fail> {
     let mut reader = Counted::new(Source::endless(b'x'));
     let mut writer = Counted::new(Sink::new(rt.alloc()));
     let answer = show(rt.alloc(), &mut reader, &mut writer);
-    assert_eq!(rt; answer, outcome_of(0, Some((1, FaultKind::LineTooLong))));
+    assert_eq!(rt; answer, fault(1, FaultKind::LineTooLong));
     assert_eq!(rt; reader.failures(), 0);
     assert_eq!(rt; reader.into_inner().given(), 4097);
     assert_eq!(rt; writer.into_inner().text(), b"".as_slice());
@@ -153,10 +81,7 @@ fn ends_at_endless_lines(rt: HostRuntime) -> Result<(), Fail> {
     let mut reader = Counted::new(Source::endless(b'\n'));
     let mut writer = Counted::new(Sink::counting(rt.alloc(), b"refused 201\n"));
     let answer = show(rt.alloc(), &mut reader, &mut writer);
-    assert_eq!(rt;
-        answer,
-        outcome_of(0, Some((1_048_577, FaultKind::TooManyLines)))
-    );
+    assert_eq!(rt; answer, fault(1_048_577, FaultKind::TooManyLines));
     assert_eq!(rt; reader.into_inner().given(), 1_048_577);
     assert_eq!(rt; writer.failures(), 0);
     assert_eq!(rt; writer.into_inner().count(), 1_048_576);
@@ -174,20 +99,13 @@ fn stops_where_the_reader_fails(rt: HostRuntime) -> Result<(), Fail> {
             let mut writer = Counted::new(Sink::new(rt.alloc()));
             let answer = show(rt.alloc(), &mut reader, &mut writer);
             let line = (ended as u64).saturating_add(1);
-            assert_eq!(rt;
-                answer,
-                outcome_of(0, Some((line, FaultKind::Read))),
-                "{given}"
-            );
+            assert_eq!(rt; answer, fault(line, FaultKind::Read), "{given}");
             assert_eq!(rt; reader.failures(), 1, "{given}");
             let left = reader.into_inner().left();
             assert_eq!(rt; left, SHORT.len().saturating_sub(given), "{given}");
             assert_eq!(rt; writer.failures(), 0, "{given}");
-            assert_eq!(rt;
-                writer.into_inner().into_text(),
-                short_answers(rt.alloc(), ended)?,
-                "{given}"
-            );
+            let text = writer.into_inner().into_text();
+            assert_eq!(rt; text, short_answers(rt.alloc(), ended)?, "{given}");
         }
     }
     Ok(())
@@ -200,16 +118,16 @@ fn stops_where_the_writer_fails(rt: HostRuntime) -> Result<(), Fail> {
             let mut reader = Counted::new(Source::new(SHORT));
             let mut writer = Counted::new(Sink::full(rt.alloc(), room, kind));
             let answer = show(rt.alloc(), &mut reader, &mut writer);
-            let fault = (room < 5).then_some(((room as u64).saturating_add(1), FaultKind::Write));
-            assert_eq!(rt; answer, outcome_of(5, fault), "{room}");
+            let wanted = if room < 5 {
+                fault((room as u64).saturating_add(1), FaultKind::Write)
+            } else {
+                Ok(5)
+            };
+            assert_eq!(rt; answer, wanted, "{room}");
             assert_eq!(rt; reader.failures(), 0, "{room}");
             assert_eq!(rt; writer.failures(), u64::from(room < 5), "{room}");
-            let written = writer.into_inner();
-            assert_eq!(rt;
-                written.text(),
-                short_answers(rt.alloc(), room)?.as_slice(),
-                "{room}"
-            );
+            let text = writer.into_inner().into_text();
+            assert_eq!(rt; text, short_answers(rt.alloc(), room)?, "{room}");
         }
     }
     Ok(())

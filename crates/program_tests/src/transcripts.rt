@@ -1,44 +1,10 @@
 //! `check_text` over transcripts and devices of all kinds.
 
-use crate::devices::{Sink, Source, WRITE_FAILURES, lines_in};
-use crate::replay::{SCHEDULE, TRANSCRIPT, joined};
-use exchange_check::Verdict;
-use schedule_replay::{Counted, Fault, FaultKind, check_text, replay};
-use std::alloc::Global;
+use crate::devices::{Sink, Source, WRITE_FAILURES, fault, lines_in};
+use crate::replay::{TRANSCRIPT, joined};
+use schedule_replay::{Counted, FaultKind, check_text};
 use std::io::ErrorKind;
 use std::test::Fail;
-
-/// What `check_text` answers to these octets, and what it wrote.
-fn checked(alloc: Global, input: &[u8]) -> (Result<Verdict, Fault>, Vec<u8>) {
-    let mut reader = Counted::new(Source::new(input));
-    let mut writer = Counted::new(Sink::new(alloc));
-    let answer = check_text(alloc, &mut reader, &mut writer);
-    (answer, writer.into_inner().into_text())
-}
-
-fn fault(line: u64, what: FaultKind) -> Result<Verdict, Fault> {
-    Err(Fault { line, what })
-}
-
-#[test]
-fn accepts_an_exchange(rt: HostRuntime) -> Result<(), Fail> {
-    let transcript = joined(rt.alloc(), &TRANSCRIPT)?;
-    let (answer, written) = checked(rt.alloc(), transcript.as_bytes());
-    assert_eq!(rt; answer, Ok(Verdict::Accepted(1)));
-    assert_eq!(rt; written.as_slice(), b"accepted 1\n".as_slice());
-    Ok(())
-}
-
-#[test]
-fn accepts_what_replay_writes(rt: HostRuntime) -> Result<(), Fail> {
-    let schedule = joined(rt.alloc(), &SCHEDULE)?;
-    let mut reader = Counted::new(Source::new(schedule.as_bytes()));
-    let mut writer = Counted::new(Sink::new(rt.alloc()));
-    assert_eq!(rt; replay(rt.alloc(), &mut reader, &mut writer), Ok(14));
-    let (answer, _) = checked(rt.alloc(), writer.into_inner().text());
-    assert_eq!(rt; answer, Ok(Verdict::Accepted(1)));
-    Ok(())
-}
 
 #[test]
 fn stops_where_the_reader_fails(rt: HostRuntime) -> Result<(), Fail> {
