@@ -138,52 +138,48 @@ fn kilobytes(status: &str) -> u64 {
         .unwrap_or(0)
 }
 
+/// Tells it of this process.
+fn tell_memory(rt: &HostRuntime) -> io::Result<()> {
+    let status = fs::read_to_string(rt, "/proc/self/status")?;
+    println!(rt; "{} kB", kilobytes(status.as_str()))
+}
+
 fn main(rt: HostRuntime) -> io::Result<()> {
     let arguments: Vec<String> = env::args(&rt)?.collect(rt.alloc())?;
-    let rounds = arguments
-        .get(2)
-        .and_then(|argument| argument.as_str().parse::<u64>().ok())
+    let word = |place: usize| arguments.get(place).map(|argument| argument.as_str());
+    let measured = word(1).unwrap_or("exchange");
+    let rounds = word(2)
+        .and_then(|word| word.parse::<u64>().ok())
         .unwrap_or(1);
-    let measured = arguments
-        .get(1)
-        .map_or("exchange", |argument| argument.as_str());
-    if measured == "codec" {
-        let mut messages = Vec::new(rt.alloc());
-        rt.reader().read_to_end(&mut messages)?;
-        return println!(rt; "{} octets", coded(&messages, rounds));
-    }
     match measured {
+        "codec" => {
+            let mut messages = Vec::new(rt.alloc());
+            rt.reader().read_to_end(&mut messages)?;
+            println!(rt; "{} octets", coded(&messages, rounds))
+        }
         "world" => {
             let reports = networks::reports_in_world(rt.alloc(), rounds).unwrap_or(0);
             println!(rt; "{reports} reports")?;
-            let status = fs::read_to_string(&rt, "/proc/self/status")?;
-            return println!(rt; "{} kB", kilobytes(status.as_str()));
+            tell_memory(&rt)
         }
         "checked" => {
-            let verdict = checked::mixed(rt.alloc(), rounds);
-            println!(rt; "{verdict:?}")?;
-            let status = fs::read_to_string(&rt, "/proc/self/status")?;
-            return println!(rt; "{} kB", kilobytes(status.as_str()));
+            println!(rt; "{:?}", checked::mixed(rt.alloc(), rounds))?;
+            tell_memory(&rt)
         }
-        "journey" => {
-            let verdict = checked::long_journey(rt.alloc(), rounds);
-            return println!(rt; "{verdict:?}");
+        "journey" => println!(rt; "{:?}", checked::long_journey(rt.alloc(), rounds)),
+        "tree" => println!(rt; "{:?}", checked::broken_tree(rt.alloc(), rounds)),
+        "ports" => println!(rt;
+            "{} reports",
+            networks::reports_of_ports(rounds).unwrap_or(0)
+        ),
+        _ => {
+            if let Some(lines) = meeting::lines_of(rt.alloc(), measured, rounds) {
+                return print!(rt; "{}", lines?);
+            }
+            match tables::found_in(measured, rounds) {
+                Some(found) => println!(rt; "{found} found"),
+                None => println!(rt; "{} reports", exchanges(rounds)),
+            }
         }
-        "tree" => {
-            let verdict = checked::broken_tree(rt.alloc(), rounds);
-            return println!(rt; "{verdict:?}");
-        }
-        "ports" => {
-            let reports = networks::reports_of_ports(rounds).unwrap_or(0);
-            return println!(rt; "{reports} reports");
-        }
-        _ => {}
-    }
-    if let Some(lines) = meeting::lines_of(rt.alloc(), measured, rounds) {
-        return print!(rt; "{}", lines?);
-    }
-    match tables::found_in(measured, rounds) {
-        Some(found) => println!(rt; "{found} found"),
-        None => println!(rt; "{} reports", exchanges(rounds)),
     }
 }

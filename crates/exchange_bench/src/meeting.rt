@@ -14,49 +14,28 @@ fn meets(hash: u64) -> bool {
     (hash ^ (hash >> 32)) & 0xfe00_3c00 == 0
 }
 
-/// Makes it the next text of the letters `a` to `p`.
-fn advance(text: &mut [u8; 16]) {
-    for octet in text.iter_mut().rev() {
-        if *octet < b'p' {
-            *octet += 1;
-            return;
-        }
-        *octet = b'a';
-    }
+/// What is sought in a table.
+#[derive(Clone, Copy)]
+enum Key {
+    Name,
+    Identity,
 }
 
-/// So many names that meet under a hasher, one a line; fewer where the tries run out.
-fn names<H: Hasher + Copy + Drop>(
-    alloc: Global,
-    begun: H,
-    count: u64,
-) -> Result<String, AllocError> {
-    let mut text = String::new(alloc);
-    let mut name = [b'a'; 16];
-    let mut found: u64 = 0;
-    for _ in 0..count.saturating_mul(TRIES) {
-        if found == count {
-            break;
-        }
-        advance(&mut name);
-        // As a text is hashed.
-        let mut hasher = begun;
-        hasher.write(&name);
-        hasher.write_u8(0xff);
-        if meets(hasher.finish()) {
-            for octet in name {
-                text.push(char::from(octet))?;
-            }
-            text.push('\n')?;
-            found = found.saturating_add(1);
-        }
+/// The sixteen hexadecimal digits of a number.
+fn digits(number: u64) -> [u8; 16] {
+    let mut digits = [0; 16];
+    let mut rest = number;
+    for digit in digits.iter_mut().rev() {
+        *digit = b"0123456789abcdef"[(rest % 16) as usize];
+        rest /= 16;
     }
-    Ok(text)
+    digits
 }
 
-/// So many clockIdentities of ports that meet under a hasher, one a line; fewer where the tries run out.
-fn identities<H: Hasher + Copy + Drop>(
+/// So many names, or clockIdentities of ports, that meet under a hasher, one a line; fewer where the tries run out.
+fn lines<H: Hasher + Copy + Drop>(
     alloc: Global,
+    key: Key,
     begun: H,
     count: u64,
 ) -> Result<String, AllocError> {
@@ -66,10 +45,18 @@ fn identities<H: Hasher + Copy + Drop>(
         if found == count {
             break;
         }
-        let clock = number.to_be_bytes();
-        let identity = PortIdentity { clock, port: 1 };
         let mut hasher = begun;
-        identity.hash(&mut hasher);
+        match key {
+            Key::Name => {
+                // As a text is hashed.
+                hasher.write(&digits(number));
+                hasher.write_u8(0xff);
+            }
+            Key::Identity => {
+                let clock = number.to_be_bytes();
+                PortIdentity { clock, port: 1 }.hash(&mut hasher);
+            }
+        }
         if meets(hasher.finish()) {
             write!(text, "{number:016x}\n")?;
             found = found.saturating_add(1);
@@ -89,13 +76,16 @@ fn guessed() -> DefaultHasher {
 /// (`fixed_names`, `fixed_identities`), under SipHash without a key (`unkeyed_..`), or under SipHash with a key that is guessed
 /// (`guessed_..`). None of another word.
 pub fn lines_of(alloc: Global, kind: &str, count: u64) -> Option<Result<String, AllocError>> {
-    match kind {
-        "fixed_names" => Some(names(alloc, FoldHasher::default(), count)),
-        "unkeyed_names" => Some(names(alloc, DefaultHasher::new(), count)),
-        "guessed_names" => Some(names(alloc, guessed(), count)),
-        "fixed_identities" => Some(identities(alloc, FoldHasher::default(), count)),
-        "unkeyed_identities" => Some(identities(alloc, DefaultHasher::new(), count)),
-        "guessed_identities" => Some(identities(alloc, guessed(), count)),
+    let (hasher, keys) = kind.split_once('_')?;
+    let key = match keys {
+        "names" => Key::Name,
+        "identities" => Key::Identity,
+        _ => return None,
+    };
+    match hasher {
+        "fixed" => Some(lines(alloc, key, FoldHasher::default(), count)),
+        "unkeyed" => Some(lines(alloc, key, DefaultHasher::new(), count)),
+        "guessed" => Some(lines(alloc, key, guessed(), count)),
         _ => None,
     }
 }

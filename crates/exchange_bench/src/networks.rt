@@ -1,7 +1,7 @@
 use crate::{MASTER, SLAVE, Slave, moment};
 use master_port::MasterPort;
 use network_model::{Name, NodeKind, NodeSpec, Nodes};
-use ptp_units::Seq;
+use ptp_units::{ScaledTime, Seq};
 use slave_port::Heard;
 use std::alloc::Global;
 use transparent_clock::enter;
@@ -41,23 +41,19 @@ pub fn set_master(names: &Names) -> Event {
 /// The nodes of these names.
 pub fn nodes_of(names: &Names) -> [NodeSpec; 4] {
     let first = Seq(0);
+    let master = NodeKind::Master {
+        config: MASTER,
+        first,
+    };
+    let slave = NodeKind::Slave {
+        config: SLAVE,
+        first,
+    };
     [
-        (
-            names.master,
-            NodeKind::Master {
-                config: MASTER,
-                first,
-            },
-        ),
+        (names.master, master),
         (names.near, NodeKind::Clock),
         (names.far, NodeKind::Clock),
-        (
-            names.slave,
-            NodeKind::Slave {
-                config: SLAVE,
-                first,
-            },
-        ),
+        (names.slave, slave),
     ]
     .map(|(name, kind)| NodeSpec { name, kind })
 }
@@ -72,10 +68,39 @@ fn world_of(alloc: Global, names: &Names) -> Option<World> {
     }
 }
 
-/// One exchange, whose first event has this tag.
+/// What happens in an exchange.
+#[derive(Clone, Copy)]
+enum Kind {
+    Sync,
+    Follow,
+    Enter,
+    Leave,
+    Arrive,
+    Hear,
+    Request,
+    Stamped,
+}
+
+impl Kind {
+    /// The event of this kind, where it takes the copy, or ends the stay, of this tag.
+    fn event(self, node: Name, copy: u64, at: ScaledTime) -> Event {
+        let transit = copy;
+        match self {
+            Kind::Sync => Event::Sync { node, at },
+            Kind::Follow => Event::Follow { node },
+            Kind::Enter => Event::Enter { node, copy, at },
+            Kind::Leave => Event::Leave { node, transit, at },
+            Kind::Arrive => Event::Arrive { node, copy, at },
+            Kind::Hear => Event::Hear { node, copy },
+            Kind::Request => Event::Request { node, at },
+            Kind::Stamped => Event::Stamped { node },
+        }
+    }
+}
+
+/// One exchange, whose first event has this tag. An event names another by its place, and happens so many nanoseconds after the
+/// beginning of the second.
 pub fn exchange(names: &Names, first: u64, second: u64) -> [Event; 16] {
-    let tag = |place: u64| first.wrapping_add(place);
-    let at = |nanoseconds: u32| moment(second, nanoseconds);
     let Names {
         master,
         near,
@@ -83,75 +108,26 @@ pub fn exchange(names: &Names, first: u64, second: u64) -> [Event; 16] {
         slave,
     } = *names;
     [
-        Event::Sync {
-            node: master,
-            at: at(0),
-        },
-        Event::Follow { node: master },
-        Event::Enter {
-            node: near,
-            copy: tag(0),
-            at: at(500),
-        },
-        Event::Leave {
-            node: near,
-            transit: tag(2),
-            at: at(2_500),
-        },
-        Event::Enter {
-            node: far,
-            copy: tag(3),
-            at: at(3_000),
-        },
-        Event::Leave {
-            node: far,
-            transit: tag(4),
-            at: at(5_000),
-        },
-        Event::Arrive {
-            node: slave,
-            copy: tag(5),
-            at: at(5_500),
-        },
-        Event::Hear {
-            node: slave,
-            copy: tag(1),
-        },
-        Event::Request {
-            node: slave,
-            at: at(500_000),
-        },
-        Event::Enter {
-            node: far,
-            copy: tag(8),
-            at: at(500_500),
-        },
-        Event::Leave {
-            node: far,
-            transit: tag(9),
-            at: at(502_500),
-        },
-        Event::Enter {
-            node: near,
-            copy: tag(10),
-            at: at(503_000),
-        },
-        Event::Leave {
-            node: near,
-            transit: tag(11),
-            at: at(505_000),
-        },
-        Event::Arrive {
-            node: master,
-            copy: tag(12),
-            at: at(505_500),
-        },
-        Event::Stamped { node: slave },
-        Event::Hear {
-            node: slave,
-            copy: tag(13),
-        },
+        (Kind::Sync, master, 0, 0),
+        (Kind::Follow, master, 0, 0),
+        (Kind::Enter, near, 0, 500),
+        (Kind::Leave, near, 2, 2_500),
+        (Kind::Enter, far, 3, 3_000),
+        (Kind::Leave, far, 4, 5_000),
+        (Kind::Arrive, slave, 5, 5_500),
+        (Kind::Hear, slave, 1, 0),
+        (Kind::Request, slave, 0, 500_000),
+        (Kind::Enter, far, 8, 500_500),
+        (Kind::Leave, far, 9, 502_500),
+        (Kind::Enter, near, 10, 503_000),
+        (Kind::Leave, near, 11, 505_000),
+        (Kind::Arrive, master, 12, 505_500),
+        (Kind::Stamped, slave, 0, 0),
+        (Kind::Hear, slave, 13, 0),
     ]
+    .map(|(kind, node, place, nanoseconds)| {
+        kind.event(node, first.wrapping_add(place), moment(second, nanoseconds))
+    })
 }
 
 /// How many reports come of so many events of whole exchanges, in one world.
