@@ -138,7 +138,7 @@ fn kilobytes(status: &str) -> u64 {
         .unwrap_or(0)
 }
 
-/// Tells it of this process.
+/// Prints the most memory that this process had at once.
 fn tell_memory(rt: &HostRuntime) -> io::Result<()> {
     let status = fs::read_to_string(rt, "/proc/self/status")?;
     println!(rt; "{} kB", kilobytes(status.as_str()))

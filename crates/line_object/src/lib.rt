@@ -1,5 +1,5 @@
-//! Lines of JSON whose keys are read where they stand, in any order and spelling: objects of up to ten keys of nodes
-//! and events, each once. Of every other line `serde_json` reads the value.
+//! Lines of JSON whose keys are read in place, in any order and spelling: objects of up to ten keys of nodes and events,
+//! each once. Of every other line `serde_json` reads the value.
 #![tactic(auto)]
 
 mod key;

@@ -50,8 +50,8 @@ impl<'a> LineObject<'a> {
         }
     }
 
-    /// Takes the members of the object that begins at an element, in place of those before; None where it isn't one of
-    /// these.
+    /// Takes the members of the object that begins at an element, in place of those before; None where it is no object of
+    /// up to ten such members.
     pub(crate) fn fill(&mut self, element: &Element<'_, 'a>) -> Option<()>
         ensures { (j : Json) → BeginsWith element.now j → OnSome result (Reads j (object_data self.new) 2) }
     {

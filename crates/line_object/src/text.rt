@@ -10,7 +10,7 @@ impl<'a> LineObject<'a> {
     ghost use Rattle.line_object.specs.Object.{object_data};
 
     /// Reads a line as this object, and answers whether it did: else the line's value is to be read, and which lines these
-    /// are no clause says. Memory fails by `AllocError`.
+    /// are no clause says. Memory fails by `AllocError`. Where it didn't, what the object is afterwards has no meaning.
     pub fn parse(
         &mut self,
         alloc: Global,

@@ -38,7 +38,7 @@ pub(crate) fn of_transcript(alloc: Global, line: &[u8]) -> anyhow::Result<String
     Ok(reasoned(alloc, what, transcript_flaw(alloc, line, 0)?)?)
 }
 
-/// Whether a line is read where it stands, or has its value read.
+/// Whether a line is read in place, or has its value read.
 pub(crate) fn way_of_reading(alloc: Global, line: &[u8]) -> anyhow::Result<String> {
     let mut scratch = Scratch::new(alloc);
     let mut members = LineObject::new();

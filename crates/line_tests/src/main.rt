@@ -1,4 +1,4 @@
-//! Answers rows of texts: what a line of a schedule or of a transcript is, whether it is read where it stands, what is said
+//! Answers rows of texts: what a line of a schedule or of a transcript is, whether it is read in place, what is said
 //! of it, and how it is written again. `stdin` has the rows, one a line, and `stdout` what is owed for each, in the same line.
 #![tactic(auto)]
 

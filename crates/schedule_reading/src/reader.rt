@@ -1,5 +1,5 @@
-//! Lines, read one by one. Almost all are objects whose values hold no others but a few in an array, which are read where they stand. Of what
-//! is left the value is read.
+//! Lines, read one by one. Almost all are objects whose values hold no others but a few in an array, and are read in
+//! place. Of what is left the value is read.
 ghost use Rattle.std.specs.Prelude.{◌≡◌, ◌⊎◌, MatchResult, IfOk, IsTrue, Ok, Some};
 ghost use Rattle.line_object.specs.Object.{object_data};
 ghost use Rattle.schedule_lines.specs.Json.{value_in};
@@ -61,7 +61,7 @@ impl LineReader {
         read_recorded(alloc, line)
     }
 
-    /// Reads the members of a line, and answers whether they can be read where they stand.
+    /// Reads the members of a line, and answers whether they are read in place.
     fn parse<'l>(
         &'l mut self,
         line: &'l [u8],

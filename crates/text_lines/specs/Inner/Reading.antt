@@ -24,7 +24,7 @@ StopsAt Failed before after line = Consumes before after line
 abbrev pub octets_of_part : LinePart → List ℕ
 octets_of_part part = take part.size part.octets
 
--- the octets of a part of a line were read, of which there may be so many more, and what stopped that
+-- the octets of a part were read of a line that may have so many more, and what stopped that
 abbrev pub StopsPartAt : ℕ → Stop → (before after : Option (List ℕ)) → List ℕ → Type 0
 StopsPartAt left TooLong before after part =
     (x : ℕ) × (x ≢ 10) × (length part ≡ left) × Consumes before after (part ++ x ∷ [])

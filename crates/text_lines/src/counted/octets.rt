@@ -26,8 +26,8 @@ pub(crate) enum Stop {
 /// How many octets a part of a line has at the most.
 const LINE_PART: usize = 64;
 
-/// Octets of a line in a place of their own, from which they go into its room together. Put there one by one, they would
-/// have the reader's own place read from memory for each: a compiler can't know that the room isn't there.
+/// Octets of a line, gathered before they go into its room together. A store into the room might, for all a compiler
+/// knows, change how far the reader is, which would then be loaded again for each octet.
 #[derive(Drop)]
 struct LinePart {
     octets: [u8; LINE_PART],
@@ -83,7 +83,7 @@ impl<R: Read> Counted<R> {
         }
     }
 
-    /// Reads up to a part of a line, of which there may be so many octets more, one after the other.
+    /// Reads the next part of a line, which may have so many octets more, one octet after the other.
     fn read_line_part(&mut self, left: usize) -> LinePart
         ensures stop { MatchOption result.stop
             (Consumes (R.remaining (device_of self.old)) (R.remaining (device_of self.new)) (octets_of_part result))
