@@ -60,7 +60,12 @@ pub(crate) fn joined(alloc: Global, lines: &[&str]) -> Result<String, Fail> {
 
 /// The first lines of the transcript.
 fn begun(alloc: Global, count: usize) -> Result<String, Fail> {
-    joined(alloc, TRANSCRIPT.get(..count).unwrap_or(&[]))
+    let mut text = String::new(alloc);
+    for line in TRANSCRIPT.iter().take(count) {
+        text.push_str(line)?;
+        text.push('\n')?;
+    }
+    Ok(text)
 }
 
 #[test]
@@ -95,8 +100,13 @@ fn stops_where_the_reader_fails(rt: HostRuntime) -> Result<(), Fail> {
             assert_eq!(rt; answer, wanted, "{given}");
             assert_eq!(rt; reader.failures(), 1, "{given}");
             assert_eq!(rt; device.left(), schedule.len().saturating_sub(given));
-            let lines = begun(rt.alloc(), if ended > 3 { ended } else { 0 })?;
-            assert_eq!(rt; writer.into_inner().text(), lines.as_bytes(), "{given}");
+            let lines = if ended > 3 { ended } else { 0 };
+            let written = writer.into_inner();
+            assert_eq!(rt;
+                written.text(),
+                begun(rt.alloc(), lines)?.as_bytes(),
+                "{given}"
+            );
         }
     }
     Ok(())
@@ -117,8 +127,12 @@ fn stops_where_the_writer_fails(rt: HostRuntime) -> Result<(), Fail> {
             };
             assert_eq!(rt; answer, wanted, "{room}");
             assert_eq!(rt; writer.failures(), u64::from(room < 17), "{room}");
-            let lines = begun(rt.alloc(), room)?;
-            assert_eq!(rt; writer.into_inner().text(), lines.as_bytes(), "{room}");
+            let written = writer.into_inner();
+            assert_eq!(rt;
+                written.text(),
+                begun(rt.alloc(), room)?.as_bytes(),
+                "{room}"
+            );
         }
     }
     Ok(())
