@@ -92,7 +92,7 @@ def clauses_of(lines):
             in_trait_impl = "Model for" not in line and of in public_types
         if line == "}":
             in_public_trait = in_trait_impl = in_model = False
-        seen = r"^\s*ghost (?:Value|also_owns)\b" if in_model else r"^\s*ghost from_gives\b"
+        seen = r"^\s*ghost (?:Value|also_owns)\b" if in_model else r"^\s*ghost (?:from_gives|output)\b"
         if (in_model or in_trait_impl) and re.match(seen, line):
             yield line
         public = re.match(r'^\s*pub (?:const |extern "C" )?fn ', line)

@@ -11,16 +11,4 @@ pub mod Descriptions
 pub mod Headers
 pub mod Starts
 pub mod Names
-pub mod FirstFour
 pub mod Beginnings
-pub mod Next
-pub mod NextHeader
-pub mod NextStart
-pub mod NextOptions
-pub mod NextBlock
-pub mod OneReading
-pub mod OneAnswer
-pub mod Writing
-pub mod WritingBlocks
-pub mod WritingSections
-mod Worked

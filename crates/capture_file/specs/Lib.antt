@@ -7,9 +7,7 @@ pub mod Clock
 pub mod Options
 pub mod Section
 pub mod Parts
-pub mod Writing
 pub mod Wrong
 pub mod Task
-pub mod OneCourse
 pub mod Beginning
 pub mod Inner

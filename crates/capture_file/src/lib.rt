@@ -6,7 +6,6 @@ mod block;
 mod block_reading;
 mod fault;
 mod front;
-pub mod laws;
 mod name;
 mod octets;
 mod options;

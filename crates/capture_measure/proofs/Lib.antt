@@ -1,11 +1,7 @@
-pub mod AsLines
 pub mod Became
 pub mod Bodies
 pub mod Counting
 pub mod Summaries
-pub mod Exact
-pub mod ExactCapture
-pub mod Exchanged
 pub mod Fates
 pub mod Goes
 pub mod Heard
@@ -16,7 +12,6 @@ pub mod Listeners
 pub mod Looking
 pub mod OneCourse
 pub mod OneRow
-pub mod Once
 pub mod Readings
 pub mod Inputs
 pub mod Interfaces
@@ -27,5 +22,5 @@ pub mod Rows
 pub mod Taken
 pub mod Told
 pub mod Watches
-pub mod Worked
-pub mod WorkedCapture
+pub mod LinesRead
+pub mod PacketsRead

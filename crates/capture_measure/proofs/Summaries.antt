@@ -36,8 +36,8 @@ use Rattle.capture_measure.specs.Told.{interface_in, interface_at}
 use Rattle.capture_measure.specs.Inner.Capturing.{IsCapturing, IsCaptureStage}
 use Rattle.capture_measure.specs.Inner.Counting.{CountsSoFar, counts_at}
 use Rattle.capture_measure.specs.Inner.Measuring.{IsMeasuring, IsLeft}
-use Rattle.capture_measure.proofs.Exact as exact
-use Rattle.capture_measure.proofs.ExactCapture as exact_capture
+use Rattle.capture_measure.proofs.LinesRead as lines_read
+use Rattle.capture_measure.proofs.PacketsRead as packets_read
 
 -- ---- lines
 -- of a task that has in it what measures
@@ -47,7 +47,7 @@ module _ {T : Type 0} (of : T → Measuring) (form : Form) (w : WantedPorts) (oc
     told : (those : List (List ℕ)) (read : Recording) (text : List ℕ) → lines.TakesLines measure_rules 1 those (begun form w) read text
         → IsMeasuring (of task) read → IsLinesSummary w summary read.rows
     told those read text taken at = subst (λ (v : WantedPorts). IsLinesSummary v summary read.rows)
-        (exact.read_on 1 those (begun form w) read text taken).wanted (is read at)
+        (lines_read.read_on 1 those (begun form w) read text taken).wanted (is read at)
 
     lines_until : (earlier line : ℕ) (what : Cause LineFault) (state : Recording) (text : List ℕ) → line ≡ earlier + 1
         → lines.TakesLines measure_rules 1 (take earlier (lines_of octets)) (begun form w) state text
@@ -84,7 +84,7 @@ module _ {T : Type 0} (of : T → CaptureMeasuring) (is_left : T → T → LineF
         → packets.HasTaken capture_rules (capture_begun form w) octets parts rest read text
         → IsCapturing (of task) read → IsCaptureSummary w summary read.rows
     captured parts rest read text has at = subst (λ (v : WantedPorts). IsCaptureSummary v summary read.rows)
-        (exact_capture.read_on form w (packets_of parts) read text has.taken).wanted (is read at)
+        (packets_read.read_on form w (packets_of parts) read text has.taken).wanted (is read at)
 
     packets_until : (count : ℕ) (what : CaptureCause LineFault) (parts : List Part) (rest : List ℕ) (state : Capture) (text : List ℕ)
         → packets.HasTaken capture_rules (capture_begun form w) octets parts rest state text → count ≡ length (packets_of parts)

@@ -4,17 +4,12 @@ pub mod Made
 pub mod Exchanged
 pub mod Measured
 pub mod Measure
-pub mod Exact
 pub mod Interfaces
 pub mod Chosen
 pub mod Capture
-pub mod ExactCapture
-pub mod AsLines
 pub mod Input
 pub mod Summary
 pub mod Meetings
 pub mod Counts
 pub mod Told
-pub mod Once
-pub mod EachExchange
 pub mod Inner

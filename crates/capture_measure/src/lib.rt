@@ -5,7 +5,6 @@ mod beware;
 mod input;
 mod interface;
 mod interface_counts;
-pub mod laws;
 mod listener;
 mod measuring;
 mod meetings;

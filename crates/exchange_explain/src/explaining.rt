@@ -19,9 +19,11 @@ ghost use Rattle.exchange_explain.specs.Inner.Explaining.{IsExplaining, IsKeptAl
 use crate::flaws::{Flaws, push_foreign};
 use crate::found::push_found;
 use crate::input::{FoundInput, Input, Taken};
-use exchange_story::{Before, Reported, Story, push_clash};
+use exchange_story::Story;
 use line_flaws::Foreign;
 use network_model::WorldRefusal;
+use obstacle_text::{Before, push_clash};
+use report_journeys::Reported;
 use schedule_lines::TranscriptLine;
 use schedule_reading::{Judged, TaskFault};
 use std::alloc::{AllocError, Global};

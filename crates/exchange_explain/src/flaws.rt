@@ -2,9 +2,9 @@
 ghost use Rattle.std.specs.Prelude.{◌≡◌};
 
 use crate::input::Input;
-use exchange_story::{Before, RefusedEvent, push_clash, push_refused};
 use line_flaws::{FileForm, Flaw, FlawAt, Foreign, schedule_flaw, transcript_flaw};
 use network_model::WorldRefusal;
+use obstacle_text::{Before, RefusedEvent, push_clash, push_refused};
 use schedule_lines::Line;
 use schedule_reading::{TaskFault, read_entry};
 use std::alloc::{AllocError, Global};

@@ -11,9 +11,10 @@ use Rattle.trace_model.specs.declared.verdict.Why.{Why}
 use Rattle.trace_model.specs.declared.verdict.Why.TheVariants.{NoSuchLine, OtherNumber, OtherMaster, BrokenJourney}
 use Rattle.trace_model.specs.declared.verdict.Why.TheVariants.{WrongReading, WrongValue, TooBig, Bytes}
 use Rattle.trace_model.specs.Refusal.{code_of, words_of}
+use Rattle.message_difference.specs.Differing.{TellsMessages, messages_text}
 use Rattle.exchange_story.specs.Counts.{Counts, against, counted, is_sound, is_octets_alone, stands, counts_of, counts_text, failing_lines, failing_text}
-use Rattle.exchange_story.specs.Counts.{has_octets, noun_text, messages_text, aside_text, read_text, other_octets_text, TellsMessages}
-use Rattle.exchange_story.specs.Lines.{are_lines}
+use Rattle.exchange_story.specs.Counts.{has_octets, noun_text, aside_text, read_text}
+use Rattle.story_words.specs.Lines.{are_lines}
 use Rattle.exchange_story.specs.Counts.{TellsCounts, told_reasons, is_by_readings, right_text, of_reports_text, completions_text, unreported_text}
 use Rattle.exchange_story.specs.declared.tally.Failing.{Failing}
 use Rattle.exchange_story.specs.declared.tally.Tally.{Tally}
@@ -221,18 +222,6 @@ pub reports_told : {E : Type 0} (r : Result (Unit {0}) E) (counts : Counts) (by_
 reports_told (Ok x) counts by_messages messages noun old first second third fourth some noun_is first_is second_is third_is fourth_is =
     fourth_is ∙ rw (third_is, second_is, first_is, noun_is, ne_eqb counts.reports 0 some) (simp append_assoc)
 reports_told (Err e) counts by_messages messages noun old first second third fourth some noun_is first_is second_is third_is fourth_is = tt
-
--- lines on messages that have other octets, and between them how many these are
-pub others_told : {E : Type 0} (r : Result (Unit {0}) E) (others messages : ℕ) (old first second new fields : List ℕ)
-    → are_lines (codes "  ") fields ≡ true → first ≡ old ++ fields → second ≡ first ++ other_octets_text others messages
-    → OnOk r ((places : List ℕ) × (are_lines (codes "  ") places ≡ true) × (new ≡ second ++ places))
-    → OnOk r ((told : List ℕ) × TellsMessages true told × (new ≡ old ++ told))
-others_told (Ok x) others messages old first second new fields read first_is second_is (places, differ, is) = (
-  fields ++ (other_octets_text others messages ++ places),
-  (fields, others, messages, places, read, differ, refl),
-  is ∙ rw (second_is, first_is) (simp append_assoc),
-)
-others_told (Err e) others messages old first second new fields read first_is second_is placed = tt
 
 -- and of these, where octets stand against a report
 pub messages_told : {E : Type 0} (r : Result (Unit {0}) E) (octets : Bool) (old new : List ℕ) → octets ≡ true

@@ -7,7 +7,7 @@ use Rattle.trace_model.specs.declared.verdict.Why.{Why}
 use Rattle.trace_model.specs.declared.verdict.Why.TheVariants.{NoSuchLine, OtherNumber, OtherMaster, BrokenJourney}
 use Rattle.trace_model.specs.declared.verdict.Why.TheVariants.{WrongReading, WrongValue, TooBig, Bytes}
 use Rattle.trace_model.specs.Refusal.{code_of, words_of}
-use Rattle.exchange_story.specs.Lines.{are_lines}
+use Rattle.message_difference.specs.Differing.{TellsMessages, messages_text}
 
 -- all reasons, in the order in which they are told
 abbrev pub told_reasons : List Why
@@ -102,10 +102,6 @@ right_text counts by_messages = if counts.sound == counts.reports then [] else
     (codes "right by the messages (the device): " ++ of_reports_text by_messages counts
     ++ codes "right by the readings (device and network): " ++ of_reports_text counts.by_readings counts)
 
--- the word for so many messages
-abbrev pub messages_text : ℕ → List ℕ
-messages_text messages = if messages == 1 then codes "message" else codes "messages"
-
 -- the line that says that octets can't be left aside, since a field that is read differs in so many messages
 abbrev pub read_text : ℕ → List ℕ
 read_text messages =
@@ -128,22 +124,6 @@ counts_text counts by_messages messages =
     if counts.reports == 0 then codes "there is no report, so nothing was judged\n"
     else (reports_text counts ++ (failing_lines (against counts) told_reasons
     ++ (right_text counts by_messages ++ aside_text counts messages)))
-
--- the line that says how many of so many messages have other octets
-abbrev pub other_octets_text : (others messages : ℕ) → List ℕ
-other_octets_text others messages =
-    codes "other octets than a port or a clock writes: " ++ decimal others ++ codes " of " ++ decimal messages
-    ++ codes " messages\n"
-
--- what is told of the messages that have other octets, by whether octets stand against a report: how many they are said to be
--- of how many messages, in front of that lines on fields that are read and behind it lines on where they differ, all of which
--- begin with two blanks; nothing where they don't
-abbrev pub TellsMessages : Bool → List ℕ → Type 0
-TellsMessages true text =
-    (fields : List ℕ) × (others : ℕ) × (messages : ℕ) × (places : List ℕ)
-    × (are_lines (codes "  ") fields ≡ true) × (are_lines (codes "  ") places ≡ true)
-    × (text ≡ fields ++ (other_octets_text others messages ++ places))
-TellsMessages false text = text ≡ []
 
 -- the word for so many completions
 abbrev pub completions_text : ℕ → List ℕ

@@ -1,4 +1,3 @@
-pub mod Lines
 pub mod Report
 pub mod Counts
 pub mod Inner

@@ -7,8 +7,8 @@ use Rattle.slave_port.specs.declared.heard.Report.{Report}
 use Rattle.trace_model.specs.declared.judgement.Results.{Results}
 use Rattle.trace_model.specs.declared.verdict.Why.{Why}
 use Rattle.trace_model.specs.Refusal.{code_of, words_of}
-use Rattle.exchange_story.specs.declared.report.Reported.{Reported}
-use Rattle.exchange_story.specs.Lines.{are_lines}
+use Rattle.report_journeys.specs.declared.reported.Reported.{Reported}
+use Rattle.story_words.specs.Lines.{are_lines}
 
 -- the beginning of a report's first line
 abbrev pub begin_text : Reported → List ℕ

@@ -4,9 +4,9 @@ ghost use Rattle.std.specs.Prelude.{◌≡◌, ◌++◌, OnOk};
 ghost use Rattle.std.specs.String.{string_bytes};
 ghost use Rattle.exchange_story.specs.Counts.{completions_text, unreported_text};
 
-use crate::known::{Known, index_of};
 use exchange_check::KeptLine;
 use network_model::Event;
+use report_journeys::{Known, index_of};
 use std::alloc::{AllocError, Global};
 use std::collections::BTreeMap;
 

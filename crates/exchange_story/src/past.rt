@@ -1,8 +1,8 @@
 //! What reports of a slave were like before, against which results are held that are wrong.
 
-use crate::report::Reported;
 use exchange_check::Results;
 use network_model::Report;
+use report_journeys::Reported;
 use std::alloc::{AllocError, Global};
 use std::collections::BTreeMap;
 

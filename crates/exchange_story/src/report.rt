@@ -6,24 +6,10 @@ ghost use Rattle.exchange_story.specs.Report.{all_rows_text, are_same, as_report
 ghost use Rattle.exchange_story.specs.Report.{row_text, rows_text, side_text, tells_otherwise};
 ghost use Rattle.exchange_story.specs.Counts.{is_sound};
 
-use exchange_check::{Judgement, Results, Why};
-use network_model::{Name, Report};
+use exchange_check::{Results, Why};
+use network_model::Report;
+use report_journeys::Reported;
 use std::alloc::AllocError;
-
-/// A report of a transcript, and what it is judged to be.
-#[derive(Debug, Drop)]
-pub struct Reported {
-    /// The line of the input, counted from 1.
-    pub line: u64,
-    /// The event's place among the events, from 0.
-    pub event: u64,
-    /// The slave.
-    pub node: Name,
-    /// Its report.
-    pub report: Report,
-    /// What the report is judged to be.
-    pub judgement: Judgement,
-}
 
 /// Whether no reason stands against a report.
 pub(crate) fn is_sound(reported: &Reported) -> bool

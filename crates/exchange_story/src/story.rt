@@ -2,18 +2,19 @@
 ghost use Rattle.std.specs.Prelude.{◌≡◌, [], ◌∷◌, ◌++◌, List, ℕ, OnOk};
 ghost use Rattle.std.specs.String.{string_bytes};
 ghost use Rattle.trace_model.specs.declared.verdict.Why.{Why};
-ghost use Rattle.exchange_story.specs.Counts.{counts_of, has_octets, TellsCounts, TellsMessages};
+ghost use Rattle.exchange_story.specs.Counts.{counts_of, has_octets, TellsCounts};
+ghost use Rattle.message_difference.specs.Differing.{TellsMessages};
 ghost use Rattle.exchange_story.specs.Report.{TellsReport};
 
-use crate::case::Case;
 use crate::completing::{Completions, push_unreported};
-use crate::differing::Differing;
-use crate::known::{Known, index_of};
 use crate::past::Pasts;
-use crate::report::{Reported, is_sound, push_sound};
+use crate::refused::Refused;
+use crate::report::{is_sound, push_sound};
 use crate::tally::Tally;
 use exchange_check::{Checker, Evidence, KeptLine, TraceLine, TraceOut};
+use message_difference::{Compared, Differing};
 use network_model::NodeSpec;
+use report_journeys::{Case, Known, Reported, index_of};
 use std::alloc::{AllocError, Global};
 use std::marker::Model;
 
@@ -29,6 +30,22 @@ pub struct Story {
     completions: Completions,
     pasts: Pasts,
     tally: Tally,
+}
+
+/// Counts what a line made that counts: a message, which differs or not, or none.
+fn count_octets(differing: &mut Differing, checker: &Checker, line: &KeptLine, out: &TraceOut) {
+    let TraceOut::Made(octets) = out else {
+        return;
+    };
+    if line.writes_right {
+        return differing.count_right();
+    }
+    let Some(wanted) = checker.message_at(line.number) else {
+        return;
+    };
+    if let Some(compared) = Compared::of(&wanted, octets.as_slice()) {
+        differing.count(&compared);
+    }
 }
 
 impl Model for Story {
@@ -94,7 +111,7 @@ impl Story {
             checker,
             evidence: &self.evidence,
         };
-        self.differing.count(known, line, out);
+        count_octets(&mut self.differing, checker, line, out);
         let reports = matches!(out, TraceOut::Report(_));
         self.completions.count(known, line, reports)
     }
@@ -153,21 +170,23 @@ impl Story {
             return push_sound(text, reported);
         }
         let exchange = checker.exchange(&reported.report);
-        let case = Case {
-            alloc: self.alloc,
-            known: Known {
-                checker,
-                evidence: &self.evidence,
+        let refused = Refused {
+            case: Case {
+                alloc: self.alloc,
+                known: Known {
+                    checker,
+                    evidence: &self.evidence,
+                },
+                reported,
+                exchange: &exchange,
             },
-            reported,
-            exchange: &exchange,
             by_messages: self.evidence.by_messages(checker, &reported.report),
             past: match index_of(checker, &reported.node) {
                 Some(slave) => self.pasts.of(slave),
                 None => None,
             },
         };
-        case.push(text)
+        refused.push(text)
     }
 
     /// Appends what is told of all reports: how many there are, and how many fail which conditions. Where one isn't

@@ -2,12 +2,13 @@
 ghost use Rattle.std.specs.Prelude.{◌≡◌, ◌+◌, ◌==◌, [], ◌∷◌, ◌++◌, List, ℕ, OnOk, if◌then◌else◌};
 ghost use Rattle.std.specs.String.{string_bytes};
 ghost use Rattle.trace_model.specs.declared.verdict.Why.{Why};
-ghost use Rattle.exchange_story.specs.Counts.{aside_text, counted, counts_of, counts_text, failing_lines, failing_text, messages_text, read_text};
+ghost use Rattle.exchange_story.specs.Counts.{aside_text, counted, counts_of, counts_text, failing_lines, failing_text, read_text};
 ghost use Rattle.exchange_story.specs.Counts.{has_octets, is_by_readings, is_octets_alone, is_sound, noun_text, of_reports_text};
 ghost use Rattle.exchange_story.specs.Counts.{right_text, stands, told_reasons};
 ghost use Rattle.exchange_story.specs.Inner.Tally.{counts_in, failing_in};
 
 use exchange_check::{Reasons, Why};
+use message_difference::messages_noun;
 use std::alloc::AllocError;
 
 /// All reasons, in the order in which they are told.
@@ -267,13 +268,6 @@ fn push_read(text: &mut String, messages: u64) -> Result<(), AllocError>
         "octets can't be left aside (708): a field that a slave or a master reads differs in {messages} {}\n",
         messages_noun(messages)
     )
-}
-
-/// The word for so many messages.
-pub(crate) fn messages_noun(messages: u64) -> &'static str
-    ensures { result.now ≡ messages_text messages }
-{
-    if messages == 1 { "message" } else { "messages" }
 }
 
 /// The word for so many reports.

@@ -1,7 +1,7 @@
 //! Results that are wrong in a way that is known.
 
-use crate::case::Case;
 use crate::past::{Past, PastReport, results_of};
+use crate::refused::Refused;
 use crate::report::tells_otherwise;
 use exchange_check::Results;
 use std::alloc::AllocError;
@@ -71,14 +71,14 @@ impl Display for Way {
     }
 }
 
-impl Case<'_> {
+impl Refused<'_> {
     /// Appends in which known way the results are wrong: against those by the readings or else by the messages, or as those
     /// of the report before or of another pair of halves. Nothing where they are those by the messages.
     pub(crate) fn push_values(&self, text: &mut String) -> Result<(), AllocError> {
-        let Some(by_readings) = self.reported.judgement.by_readings else {
+        let Some(by_readings) = self.case.reported.judgement.by_readings else {
             return Ok(());
         };
-        let reported = results_of(&self.reported.report);
+        let reported = results_of(&self.case.reported.report);
         if self.by_messages == Some(reported) {
             return Ok(());
         }
@@ -110,15 +110,15 @@ impl Case<'_> {
             return write!(
                 text,
                 "    these are the results of the report before, {}, {whose}\n",
-                self.known.place(before.event)
+                self.case.known.place(before.event)
             );
         }
         match past.pair_giving(reported) {
             Some((sync, response)) => write!(
                 text,
                 "    these are the results by the readings of another pair: of the Sync of {} and of the Delay_Resp of {}\n",
-                self.known.place(sync.heard),
-                self.known.place(response.heard)
+                self.case.known.place(sync.heard),
+                self.case.known.place(response.heard)
             ),
             None => Ok(()),
         }

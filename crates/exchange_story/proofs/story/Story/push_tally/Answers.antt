@@ -1,6 +1,7 @@
 use Rattle.std.proofs.Common.{◌≡◌, ◌++◌, ℕ, List, subst, sym}
 use Rattle.std.specs.Prelude.{OnOk, string_bytes}
-use Rattle.exchange_story.specs.Counts.{Counts, TellsCounts, TellsMessages, has_octets}
+use Rattle.exchange_story.specs.Counts.{Counts, TellsCounts, has_octets}
+use Rattle.message_difference.specs.Differing.{TellsMessages}
 use Rattle.exchange_story.specs.Inner.Tally.{counts_in}
 use Rattle.exchange_story.proofs.Counted.{counts_told}
 use Rattle.exchange_story.proofs.story.Story.push_tally.Goals as goal

@@ -1,9 +1,0 @@
-use Rattle.capture_file.proofs.Writing.{pcap_is_read}
-use Rattle.capture_file.proofs.WritingSections.{pcapng_is_read}
-use Rattle.capture_file.proofs.laws.whatever_is_written_is_read.Goals as goal
-
-pub returns-clause-pcap : goal.returns-clause-pcap
-returns-clause-pcap c = pcap_is_read
-
-pub returns-clause-pcapng : goal.returns-clause-pcapng
-returns-clause-pcapng c = pcapng_is_read

@@ -1,0 +1,12 @@
+pub mod FirstFour
+pub mod Next
+pub mod NextHeader
+pub mod NextStart
+pub mod NextOptions
+pub mod NextBlock
+pub mod OneReading
+pub mod OneAnswer
+pub mod Writing
+pub mod WritingBlocks
+pub mod WritingSections
+mod Worked

@@ -1,6 +1,0 @@
--- Each datagram is counted once.
-use Rattle.capture_measure.proofs.Once.{each_once}
-use Rattle.capture_measure.proofs.laws.each_datagram_is_counted_once.Goals as goal
-
-pub returns : goal.returns
-returns c = each_once

@@ -1,0 +1,100 @@
+//! A report that is refused, with what each reason against it met.
+ghost use Rattle.std.specs.Prelude.{◌≡◌, ◌++◌, List, ℕ, OnOk, codes, true};
+ghost use Rattle.std.specs.String.{string_bytes};
+ghost use Rattle.story_words.specs.Lines.{are_lines};
+ghost use Rattle.exchange_story.specs.Report.{tells_otherwise, TellsReasons, TellsRefused, TellsWhich};
+
+use crate::past::Past;
+use crate::report::{push_begin, push_reason, push_results, tells_otherwise};
+use exchange_check::{Results, Why};
+use exchange_table::push_exchange;
+use reasons_met::{push_met, push_otherwise};
+use report_journeys::Case;
+use std::alloc::AllocError;
+use story_words::push_lines;
+use tags_met::{push_broken, push_tags};
+
+/// A report that is refused, and the transcript up to it.
+#[derive(Clone, Copy)]
+pub(crate) struct Refused<'a> {
+    pub(crate) case: Case<'a>,
+    /// Its results by the messages.
+    pub(crate) by_messages: Option<Results>,
+    /// What reports of the slave were like, up to this one.
+    pub(crate) past: Option<&'a Past>,
+}
+
+impl Refused<'_> {
+    /// Appends the reasons against the report, each with what it met, and then the report's lines and results, and which
+    /// message tells otherwise than the readings.
+    pub(crate) fn push(&self, text: &mut String) -> Result<(), AllocError>
+        ensures { OnOk result ((told : List ℕ) × TellsRefused self.now.case.reported.now self.now.by_messages told
+            × (string_bytes text.new ≡ string_bytes text.old ++ told)) }
+    {
+        push_begin(text, self.case.reported)?;
+        self.push_reasons(text)?;
+        self.push_moments(text)?;
+        push_results(text, self.case.reported, self.by_messages)?;
+        self.push_which(text)
+    }
+
+    /// Appends the reasons, each with what it met.
+    fn push_reasons(&self, text: &mut String) -> Result<(), AllocError>
+        ensures { OnOk result ((reasons : List ℕ)
+            × TellsReasons (codes "refused, ") self.now.case.reported.now.judgement.reasons reasons
+            × (string_bytes text.new ≡ string_bytes text.old ++ reasons)) }
+    {
+        let reasons = self.case.reported.judgement.reasons.as_slice();
+        let mut met = String::new(self.case.alloc);
+        let mut lead = "refused, ";
+        for why in reasons {
+            push_reason(text, lead, *why)?;
+            lead = "  and ";
+            met.clear();
+            self.push_met(&mut met, *why)?;
+            push_lines(text, "    ", met.as_str())?;
+        }
+        Ok(())
+    }
+
+    /// Appends the moments and the stays of the report's exchange, where there is one.
+    fn push_moments(&self, text: &mut String) -> Result<(), AllocError>
+        ensures { OnOk result ((lines : List ℕ) × (are_lines (codes "  t") lines ≡ true)
+            × (string_bytes text.new ≡ string_bytes text.old ++ lines)) }
+    {
+        let Some(exchange) = self.case.exchange else {
+            return Ok(());
+        };
+        let mut lines = String::new(self.case.alloc);
+        let nodes = self.case.known.checker.nodes().len() as u64;
+        push_exchange(&mut lines, nodes, exchange)?;
+        push_lines(text, "  t", lines.as_str())
+    }
+
+    /// Appends which message tells otherwise than the readings, where the results by the messages aren't those by these.
+    fn push_which(&self, text: &mut String) -> Result<(), AllocError>
+        ensures { OnOk result ((which : List ℕ) × (are_lines (codes "    ") which ≡ true)
+            × TellsWhich (tells_otherwise self.now.case.reported.now.judgement.by_readings self.now.by_messages) which
+            × (string_bytes text.new ≡ string_bytes text.old ++ which)) }
+    {
+        if !tells_otherwise(self.case.reported.judgement.by_readings, self.by_messages) {
+            return Ok(());
+        }
+        let mut lines = String::new(self.case.alloc);
+        if let Some(exchange) = self.case.exchange {
+            push_otherwise(&self.case, &mut lines, exchange)?;
+        }
+        push_lines(text, "    ", lines.as_str())
+    }
+
+    /// Appends what a reason met.
+    fn push_met(&self, text: &mut String, why: Why) -> Result<(), AllocError> {
+        match (why, self.case.exchange) {
+            (Why::NoSuchLine, _) => push_tags(&self.case, text),
+            (Why::BrokenJourney, _) => push_broken(&self.case, text),
+            (Why::WrongValue, _) => self.push_values(text),
+            (_, Some(exchange)) => push_met(&self.case, text, why, exchange),
+            (_, None) => Ok(()),
+        }
+    }
+}

@@ -1,0 +1,7 @@
+pub mod AsLines
+pub mod Exact
+pub mod ExactCapture
+pub mod Exchanged
+pub mod Once
+pub mod Worked
+pub mod WorkedCapture

@@ -1,0 +1,69 @@
+-- A worked capture of two interfaces, at one of which alone a slave asks: which is measured, which of its rows are heard, and what
+-- is written of them.
+use Rattle.std.proofs.Common.{◌≡◌, refl, List, [], ◌∷◌, map, codes, Some, None}
+use Rattle.ptp_units.specs.Moment.{stamp}
+use Rattle.event_codec.specs.declared.message.Body.TheVariants.{Sync, DelayReq, DelayResp}
+use Rattle.ptp_units.specs.Nanoseconds.{decimals}
+use Rattle.std.specs.Fmt.{digits}
+use Rattle.capture_file.specs.Packet.{InterfaceOf}
+use Rattle.capture_measure.specs.declared.measuring.Form.TheVariants.{Table}
+use Rattle.capture_measure.specs.Row.{Row}
+use Rattle.capture_measure.specs.Interfaces.{InterfaceRow, interfaces_in}
+use Rattle.capture_measure.specs.Chosen.{chosen, heard_at, capture_written}
+use Rattle.capture_measure.specs.Counts.{capture_fates}
+use Rattle.capture_measure.specs.declared.tally.NoReport.TheVariants.{OfSlave, Alone}
+use Rattle.measure_laws.proofs.Worked.{port, said, a_line, anybody}
+
+-- an interface without a name, and one that has one
+abbrev first : InterfaceOf
+first = record { place = 0; name = None }
+
+abbrev tap : InterfaceOf
+tap = record { place = 1; name = Some (codes "tap") }
+
+abbrev at : InterfaceOf → Row → InterfaceRow
+at interface it = record { interface = interface; row = it }
+
+abbrev sync : Row
+sync = a_line 2 (codes "7.000005") 7000005000 (said (port 1 0) 9 (Sync (stamp 7 0)))
+
+abbrev request : Row
+request = a_line 6 (codes "8") 8000000000 (said (port 2 0) 5 (DelayReq (stamp 0 0)))
+
+abbrev response : Row
+response = a_line 8 (codes "8.1") 8100000000 (said (port 1 0) 5 (DelayResp (stamp 8 3000) (port 2 0).identity))
+
+-- a Sync of another master at the first interface before that at the tap, and one more behind the slave's Delay_Req
+abbrev rows : List InterfaceRow
+rows =
+    at tap response
+    ∷ at first (a_line 7 (codes "8.05") 8050000000 (said (port 5 0) 8 (Sync (stamp 8 0))))
+    ∷ at tap request
+    ∷ at tap sync
+    ∷ at first (a_line 1 (codes "7") 7000000000 (said (port 5 0) 7 (Sync (stamp 7 0)))) ∷ []
+
+both : interfaces_in rows ≡ first ∷ tap ∷ []
+both = refl
+
+measured : chosen anybody rows ≡ Some tap
+measured = refl
+
+those_at_the_tap : heard_at anybody rows ≡ response ∷ request ∷ sync ∷ []
+those_at_the_tap = refl
+
+-- of a domain that was met nowhere nothing is measured
+not_met : chosen (record { slave = None; master = None; domain = Some 4; interface = None }) rows ≡ None
+not_met = refl
+
+-- the slave that is asked for sent nothing, though it is told to whom the tap's response goes
+no_slave : chosen (record { slave = Some (port 9 0).identity; master = None; domain = None; interface = None }) rows ≡ None
+no_slave = refl
+
+-- (5,000 - 3,000) / 2 ns and (5,000 + 3,000) / 2 ns
+row_written : capture_written Table anybody rows ≡ codes "8.1,1000,4000,response,8\n"
+unfolding digits decimals
+row_written = refl
+
+-- of those at the tap the Delay_Resp brings the report, and those at the first interface aren't counted
+why_not : map (λ fate. fate.why) (capture_fates anybody tap rows) ≡ None ∷ Some OfSlave ∷ Some Alone ∷ []
+why_not = refl

@@ -1,0 +1,11 @@
+//! How messages differ from those that ports and clocks write, and how many do.
+#![tactic(auto)]
+
+mod compared;
+mod difference;
+mod differing;
+mod field;
+mod wrong_field;
+
+pub use compared::Compared;
+pub use differing::{Differing, messages_noun};
