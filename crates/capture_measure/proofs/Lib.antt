@@ -22,5 +22,7 @@ pub mod Rows
 pub mod Taken
 pub mod Told
 pub mod Watches
+pub mod Worked
+pub mod WorkedCapture
 pub mod LinesRead
 pub mod PacketsRead

@@ -14,7 +14,6 @@ use Rattle.trace_model.specs.Refusal.{code_of, words_of}
 use Rattle.message_difference.specs.Differing.{TellsMessages, messages_text}
 use Rattle.exchange_story.specs.Counts.{Counts, against, counted, is_sound, is_octets_alone, stands, counts_of, counts_text, failing_lines, failing_text}
 use Rattle.exchange_story.specs.Counts.{has_octets, noun_text, aside_text, read_text}
-use Rattle.story_words.specs.Lines.{are_lines}
 use Rattle.exchange_story.specs.Counts.{TellsCounts, told_reasons, is_by_readings, right_text, of_reports_text, completions_text, unreported_text}
 use Rattle.exchange_story.specs.declared.tally.Failing.{Failing}
 use Rattle.exchange_story.specs.declared.tally.Tally.{Tally}

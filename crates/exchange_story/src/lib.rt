@@ -1,4 +1,4 @@
-//! What is wrong with the reports of a transcript, told in sentences: with each one, and with how many.
+//! What is told of each report of a transcript, and of all of them.
 #![tactic(auto)]
 
 mod completing;

@@ -92,7 +92,7 @@ impl Refused<'_> {
         match (why, self.case.exchange) {
             (Why::NoSuchLine, _) => push_tags(&self.case, text),
             (Why::BrokenJourney, _) => push_broken(&self.case, text),
-            (Why::WrongValue, _) => self.push_values(text),
+            (Why::WrongValue, Some(_)) => self.push_values(text),
             (_, Some(exchange)) => push_met(&self.case, text, why, exchange),
             (_, None) => Ok(()),
         }

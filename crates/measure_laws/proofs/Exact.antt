@@ -1,14 +1,12 @@
 -- What is written of lines is the texts of reports that are exact.
 use Rattle.std.proofs.Common.{◌≡◌, ◌∙◌, ◌≤◌, ◌+◌, ℕ, suc, Bool, true, false, List, [], ◌∷◌, ◌++◌, length}
 use Rattle.std.proofs.Common.{Option, Some, None}
-use Rattle.std.proofs.Common.{refl, sym, ap, subst, arith}
+use Rattle.std.proofs.Common.{refl, sym, ap, arith}
 use Rattle.std.specs.Prelude.{⊤, not, nat_le, if◌then◌else◌, option_map, option_to_list}
 use Rattle.std.specs.List.{All}
 use Rattle.std.specs.Option.{option_map_or}
-use Rattle.std.proofs.lemmas.List.{append_assoc, append-nil}
 use Rattle.std.proofs.lemmas.List.Elements.{All-nil, All-cons, All-head, All-tail}
 use Rattle.slave_port.specs.declared.heard.Report.{Report}
-use Rattle.text_lines.specs.Task.{TakesLines}
 use Rattle.capture_model.specs.declared.watched.Watched.{Watched}
 use Rattle.capture_model.specs.Recorded.{Recorded}
 use Rattle.capture_model.specs.Listening.{reports, report_at}
@@ -20,7 +18,7 @@ use Rattle.capture_measure.specs.declared.watch.WantedPorts.{WantedPorts}
 use Rattle.capture_measure.specs.Watch.{watched_in}
 use Rattle.capture_measure.specs.Row.{Row, datagrams, is_known, heard, kept_most}
 use Rattle.capture_measure.specs.Measured.{texts_as, measurements, written}
-use Rattle.capture_measure.specs.Measure.{Recording, begun, written_of, measure_rules}
+use Rattle.capture_measure.specs.Measure.{Recording, begun}
 use Rattle.capture_measure.proofs.LinesRead.{AreCounted, IsReadOn, read_on}
 use Rattle.measure_laws.specs.Exact.{EachMeasurementIsExact}
 

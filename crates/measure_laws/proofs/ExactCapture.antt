@@ -1,12 +1,9 @@
 -- What is written of the packets of a capture is the texts of reports that are exact.
-use Rattle.std.proofs.Common.{◌≡◌, ◌∙◌, inl, inr, ℕ, suc, ◌+◌, ◌-◌, ◌≤◌, nat_le, Bool, true, false, List, [], ◌∷◌, ◌++◌, length}
-use Rattle.std.proofs.Common.{Option, Some, None, sym, ap, subst, arith}
+use Rattle.std.proofs.Common.{◌≡◌, ◌∙◌, ℕ, ◌-◌, ◌≤◌, nat_le, Bool, true, false, List, [], ◌∷◌, length}
+use Rattle.std.proofs.Common.{Option, Some, None, sym, ap, arith}
 use Rattle.std.specs.Prelude.{⊤, if◌then◌else◌}
 use Rattle.std.specs.Option.{option_map_or}
-use Rattle.std.proofs.lemmas.List.{append-nil}
-use Rattle.capture_file.specs.declared.name.InterfaceName.{InterfaceName}
-use Rattle.capture_file.specs.Packet.{InterfaceOf, PacketOf, Captured}
-use Rattle.capture_file.specs.Task.{TakesPackets}
+use Rattle.capture_file.specs.Packet.{InterfaceOf}
 use Rattle.capture_model.specs.declared.watched.Watched.{Watched}
 use Rattle.capture_model.specs.Told.{AreNumbered}
 use Rattle.capture_model.specs.Exact.{IsExact, EachReportIsExact}
@@ -16,8 +13,8 @@ use Rattle.capture_measure.specs.Row.{Row, datagrams, kept_most}
 use Rattle.capture_measure.specs.Measured.{texts_as, measurements}
 use Rattle.capture_measure.specs.Interfaces.{InterfaceRow, is_same_interface, rows_at}
 use Rattle.capture_measure.specs.Chosen.{chosen, heard_with, heard_at, capture_watched, capture_written}
-use Rattle.capture_measure.specs.Capture.{Capture, IsPacketRow, capture_begun, capture_text, capture_rules}
-use Rattle.capture_measure.proofs.PacketsRead.{ArePackets, HasReadOn, packets_more, read_on}
+use Rattle.capture_measure.specs.Capture.{Capture, capture_begun}
+use Rattle.capture_measure.proofs.PacketsRead.{ArePackets, HasReadOn, read_on}
 use Rattle.measure_laws.specs.ExactCapture.{EachMeasurementOfACaptureIsExact}
 use Rattle.measure_laws.proofs.Exact.{all_measured}
 

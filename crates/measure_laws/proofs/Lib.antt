@@ -3,5 +3,3 @@ pub mod Exact
 pub mod ExactCapture
 pub mod Exchanged
 pub mod Once
-pub mod Worked
-pub mod WorkedCapture

@@ -1,4 +1,4 @@
-//! What the reasons against a report met among its lines: by how much, and what is wanted there.
+//! What 702, 703, 705, 707 and 708 met among the lines of a report, and which message tells otherwise than the clocks read.
 #![tactic(auto)]
 
 mod met;

@@ -9,7 +9,7 @@ use std::alloc::{AllocError, Global};
 /// A report against which reasons stand, and the transcript up to it.
 #[derive(Clone, Copy)]
 pub struct Case<'a> {
-    /// Where texts are made.
+    /// Where texts and journeys get memory.
     pub alloc: Global,
     /// The transcript.
     pub known: Known<'a>,

@@ -1,4 +1,4 @@
-//! How the messages of a report came: their journeys, followed back, and where these break off.
+//! A report, what is known of the lines before it, and the journeys of its messages, followed back.
 #![tactic(auto)]
 
 mod case;

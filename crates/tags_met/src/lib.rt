@@ -1,4 +1,4 @@
-//! What the tags of a report name, and where its messages came from, where they can't be followed.
+//! What the tags of a report name, where 701 stands against it, and where the journeys of its messages stop, where 704 does.
 #![tactic(auto)]
 
 mod naming;

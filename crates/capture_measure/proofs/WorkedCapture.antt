@@ -12,7 +12,7 @@ use Rattle.capture_measure.specs.Interfaces.{InterfaceRow, interfaces_in}
 use Rattle.capture_measure.specs.Chosen.{chosen, heard_at, capture_written}
 use Rattle.capture_measure.specs.Counts.{capture_fates}
 use Rattle.capture_measure.specs.declared.tally.NoReport.TheVariants.{OfSlave, Alone}
-use Rattle.measure_laws.proofs.Worked.{port, said, a_line, anybody}
+use Rattle.capture_measure.proofs.Worked.{port, said, a_line, anybody}
 
 -- an interface without a name, and one that has one
 abbrev first : InterfaceOf
