@@ -2,7 +2,7 @@
 """Finds the definitions of specs/ that the clauses of public functions reach, and fails where one of these stands in specs/Inner, or another doesn't.
 
 A definition is reached where a clause of a public function or of a public trait, the value of a public type's model, the
-memory that it owns, which a caller in C owes, or what a public conversion gives names it, or where a definition that is
+memory that it owns, which a caller in C owes, what a public conversion gives or how a public type shows names it, or where a definition that is
 reached names it. Views and invariants don't count: no caller sees them.
 
 'list' lists the definitions that are reached, 'rests NAME ..' those that the definitions of these names rest on.
