@@ -6,8 +6,8 @@
  * Numbers. Each call answers 0, or the number of the first refusal that applies, in the order in which its comment
  * names them (enum ptpx_refusal). On a refusal nothing is written, and ports and stays are as before, unless the
  * comment says otherwise: so look at the number first. 901 is answered before all others, where a pointer is null or a
- * slave is still {0} and was never made, and then 902, where a length is more than PTRDIFF_MAX; the comments don't
- * repeat these two.
+ * slave or a watch is still {0} and was never made, and then 902, where a length is more than PTRDIFF_MAX; the comments
+ * don't repeat these two.
  *
  * Times. A moment is a whole number of 2^-16 ns since the beginning of the timescale, below 2^48 s, in two words
  * (struct ptpx_time). ptpx_time_join makes one of seconds and nanoseconds. The comments say whose clock each time is
@@ -25,11 +25,12 @@
  *   - Each pointer leads to an object of its type, which is that long where a length is passed, and aligned as its
  *     type is.
  *   - What lies behind each pointer is initialised, also where a call only writes it, and a bool there is 0 or 1:
- *     struct ptpx_heard heard = {0} (`= {}` in C++); uint8_t octets[44] = {0}. A slave's memory alone needs no value. A
- *     master, a slave or a stay was made by its init or enter before any other call.
- *   - The objects of one call don't overlap, nor does one lie in a slave's memory. So no call works in place.
- *   - A slave's memory is left alone, and stays where it is, as long as the slave is used. Two slaves don't share it,
- *     and a slave isn't copied and used twice. A stay that was copied would leave twice.
+ *     struct ptpx_heard heard = {0} (`= {}` in C++); uint8_t octets[44] = {0}. The memory of a slave or a watch alone
+ *     needs no value. A master, a slave, a watch or a stay was made by its init or enter before any other call.
+ *   - The objects of one call don't overlap, nor does one lie in the memory of a slave or a watch. So no call works in
+ *     place.
+ *   - The memory of a slave or a watch is left alone, and stays where it is, as long as that is used. Two of them don't
+ *     share it, and a slave or a watch isn't copied and used twice. A stay that was copied would leave twice.
  *   - A call isn't cut off half way, by longjmp or by ending its task; what it was writing to is of no use then.
  *   - One call at a time uses an object. Where another thread goes on with it, a lock or a join orders the two. Calls
  *     with different objects may run at the same time.
