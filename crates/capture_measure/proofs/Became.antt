@@ -17,7 +17,7 @@ use Rattle.capture_model.specs.Listening.{ready_judged, answer_in}
 use Rattle.capture_measure.specs.declared.listener.Became.{Became}
 use Rattle.capture_measure.specs.declared.listener.Became.TheVariants as became
 use Rattle.capture_measure.specs.declared.listener.Reply.{Reply}
-use Rattle.capture_measure.specs.declared.tally.NoReport.TheVariants as whys
+use Rattle.measure_summary.specs.declared.no_report.NoReport.TheVariants as whys
 use Rattle.capture_measure.specs.Counts.{why_answered, why_heard, is_next, is_last, slave_begins, master_begins, begins_judged}
 use Rattle.capture_measure.specs.Counts.{sync_begins}
 use Rattle.capture_measure.specs.Inner.Counting.{why_by, is_slave_anew, is_master_anew}

@@ -21,15 +21,16 @@ use Rattle.recording_quality.specs.Others.{AreOthers}
 use Rattle.recording_quality.specs.Quality.{IsQuality}
 use Rattle.capture_measure.specs.declared.listener.Became.{Became}
 use Rattle.capture_measure.specs.declared.listener.Became.TheVariants as became
-use Rattle.capture_measure.specs.declared.tally.Counts.{Counts}
-use Rattle.capture_measure.specs.declared.tally.Kind.{Kind}
-use Rattle.capture_measure.specs.declared.tally.Kind.TheVariants as kinds
-use Rattle.capture_measure.specs.declared.tally.NoReport.{NoReport}
-use Rattle.capture_measure.specs.declared.tally.NoReport.TheVariants as whys
-use Rattle.capture_measure.specs.Counts.{kind_number, why_number, kind_of, kind_of_refused, why_refused, place_of, at_most}
+use Rattle.measure_summary.specs.declared.counts.Counts.{Counts}
+use Rattle.measure_summary.specs.declared.kind.Kind.{Kind}
+use Rattle.measure_summary.specs.declared.kind.Kind.TheVariants as kinds
+use Rattle.measure_summary.specs.declared.no_report.NoReport.{NoReport}
+use Rattle.measure_summary.specs.declared.no_report.NoReport.TheVariants as whys
+use Rattle.measure_summary.specs.Counts.{AreNone, kind_number, why_number, place_of, with_one, with_unreported}
+use Rattle.capture_measure.specs.Counts.{kind_of, kind_of_refused, why_refused, at_most}
 use Rattle.capture_measure.specs.Counts.{Fate, fate_in, early_fate, noted_of, meeting_of, is_so, IsCounts}
 use Rattle.capture_measure.specs.Meetings.{meeting_at}
-use Rattle.capture_measure.specs.Inner.Counting.{with_one, with_unreported, with_why, with_anew, why_by, is_slave_anew, is_master_anew}
+use Rattle.capture_measure.specs.Inner.Counting.{with_why, with_anew, why_by, is_slave_anew, is_master_anew}
 use Rattle.capture_measure.specs.Inner.Listener.{became_of}
 use Rattle.capture_measure.proofs.Became.{why-became, slave-became, master-became}
 
@@ -279,15 +280,14 @@ written_quality fate all line time m before after unmeasured of_line of_time so 
     (notes refusal (map noted_of all) noted)
 
 -- ---- none
-pub no_counts : (counts : Counts) → counts.reports ≡ 0 → counts.slave_anew ≡ 0 → counts.master_anew ≡ 0
-    → counts.unreported ≡ replicate 140 0 → IsQuality [] counts.quality → AreOthers [] counts.others → IsCounts [] counts
-no_counts counts reports slave master unreported quality others = record {
-  reports = reports;
-  slave_anew = slave;
-  master_anew = master;
-  unreported = λ kind why. ap (λ (there : List ℕ). get_or there (place_of kind why) 0) unreported
+pub no_counts : (counts : Counts) → AreNone counts → IsCounts [] counts
+no_counts counts none = record {
+  reports = none.reports;
+  slave_anew = none.slave_anew;
+  master_anew = none.master_anew;
+  unreported = λ kind why. ap (λ (there : List ℕ). get_or there (place_of kind why) 0) none.unreported
       ∙ get_or-replicate 140 (place_of kind why) 0 0 (place_few kind why);
-  places = ap length unreported ∙ length-replicate {A = ℕ} 140 0;
-  quality = quality;
-  others = others;
+  places = ap length none.unreported ∙ length-replicate {A = ℕ} 140 0;
+  quality = none.quality;
+  others = none.others;
 }

@@ -23,7 +23,7 @@ use Rattle.capture_measure.specs.declared.packets.CaptureMeasuring.{CaptureMeasu
 use Rattle.capture_measure.specs.declared.packets.PacketStage.{PacketStage}
 use Rattle.capture_measure.specs.declared.packets.PacketStage.TheVariants.{Looking, Hearing}
 use Rattle.capture_measure.specs.declared.recording.Recording as recordings
-use Rattle.capture_measure.specs.declared.tally.Counts.{Counts}
+use Rattle.measure_summary.specs.declared.counts.Counts.{Counts}
 use Rattle.capture_measure.specs.declared.watch.WantedPorts.{WantedPorts}
 use Rattle.capture_measure.specs.Row.{datagrams}
 use Rattle.capture_measure.specs.Interfaces.{InterfaceRow, rows_at}

@@ -15,7 +15,7 @@ use Rattle.event_codec.specs.Packet.{Contents}
 use Rattle.capture_model.specs.declared.watched.Watched.{Watched}
 use Rattle.capture_model.specs.Recorded.{Recorded}
 use Rattle.capture_model.specs.Told.{is_sync}
-use Rattle.capture_measure.specs.declared.watch.Known.{Known}
+use Rattle.measure_summary.specs.declared.whom.Known.{Known}
 use Rattle.capture_measure.specs.declared.watch.WantedPorts.{WantedPorts}
 use Rattle.capture_measure.specs.declared.watch.Watch.{Watch}
 use Rattle.capture_measure.specs.Watch.{is_request, header_in, first_told, source_in, source_told, domain_from}

@@ -17,8 +17,8 @@ use Rattle.capture_measure.specs.Row.{Row, datagrams, heard}
 use Rattle.capture_measure.specs.Measured.{written}
 use Rattle.capture_measure.specs.Summary.{whom_in}
 use Rattle.capture_measure.specs.Counts.{fates_in}
-use Rattle.capture_measure.specs.declared.tally.Kind.TheVariants as kinds
-use Rattle.capture_measure.specs.declared.tally.NoReport.TheVariants.{OfSlave, Alone, OtherDomain, NoPart, TooEarly}
+use Rattle.measure_summary.specs.declared.kind.Kind.TheVariants as kinds
+use Rattle.measure_summary.specs.declared.no_report.NoReport.TheVariants.{OfSlave, Alone, OtherDomain, NoPart, TooEarly}
 
 -- a port of this number and domain
 abbrev pub port : (number domain : ℕ) → PortConfig

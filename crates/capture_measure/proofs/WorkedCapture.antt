@@ -11,7 +11,7 @@ use Rattle.capture_measure.specs.Row.{Row}
 use Rattle.capture_measure.specs.Interfaces.{InterfaceRow, interfaces_in}
 use Rattle.capture_measure.specs.Chosen.{chosen, heard_at, capture_written}
 use Rattle.capture_measure.specs.Counts.{capture_fates}
-use Rattle.capture_measure.specs.declared.tally.NoReport.TheVariants.{OfSlave, Alone}
+use Rattle.measure_summary.specs.declared.no_report.NoReport.TheVariants.{OfSlave, Alone}
 use Rattle.capture_measure.proofs.Worked.{port, said, a_line, anybody}
 
 -- an interface without a name, and one that has one

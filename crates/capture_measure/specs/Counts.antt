@@ -33,11 +33,12 @@ use Rattle.recording_quality.specs.Noted.{Noted}
 use Rattle.recording_quality.specs.declared.others.Meeting.{Meeting}
 use Rattle.recording_quality.specs.Others.{AreOthers}
 use Rattle.recording_quality.specs.Quality.{IsQuality}
-use Rattle.capture_measure.specs.declared.tally.Counts.{Counts}
-use Rattle.capture_measure.specs.declared.tally.Kind.{Kind}
-use Rattle.capture_measure.specs.declared.tally.Kind.TheVariants as kinds
-use Rattle.capture_measure.specs.declared.tally.NoReport.{NoReport}
-use Rattle.capture_measure.specs.declared.tally.NoReport.TheVariants as whys
+use Rattle.measure_summary.specs.declared.counts.Counts.{Counts}
+use Rattle.measure_summary.specs.declared.kind.Kind.{Kind}
+use Rattle.measure_summary.specs.declared.kind.Kind.TheVariants as kinds
+use Rattle.measure_summary.specs.declared.no_report.NoReport.{NoReport}
+use Rattle.measure_summary.specs.declared.no_report.NoReport.TheVariants as whys
+use Rattle.measure_summary.specs.Counts.{place_of, count_at}
 use Rattle.capture_measure.specs.declared.watch.WantedPorts.{WantedPorts}
 use Rattle.capture_measure.specs.Watch.{watched_in}
 use Rattle.capture_measure.specs.Row.{Row, datagrams, heard}
@@ -45,39 +46,6 @@ use Rattle.capture_measure.specs.Measured.{measured_at}
 use Rattle.capture_measure.specs.Meetings.{meeting_at}
 use Rattle.capture_measure.specs.Interfaces.{InterfaceRow, rows_at}
 use Rattle.capture_measure.specs.Chosen.{heard_at, watched_at, capture_watched}
-
--- the places of kinds and of reasons, in the order in which they are told
-abbrev pub kind_number : Kind → ℕ
-kind_number kinds.Sync = 0
-kind_number kinds.FollowUp = 1
-kind_number kinds.DelayReq = 2
-kind_number kinds.DelayResp = 3
-kind_number kinds.Pdelay = 4
-kind_number kinds.Announce = 5
-kind_number kinds.Signaling = 6
-kind_number kinds.Management = 7
-kind_number kinds.Reserved = 8
-kind_number kinds.Malformed = 9
-
-abbrev pub why_number : NoReport → ℕ
-why_number whys.Held = 0
-why_number whys.Alone = 1
-why_number whys.OfSlave = 2
-why_number whys.Again = 3
-why_number whys.Before = 4
-why_number whys.OtherDomain = 5
-why_number whys.OtherMaster = 6
-why_number whys.OtherSlave = 7
-why_number whys.TooBig = 8
-why_number whys.NotNewer = 9
-why_number whys.Unrecorded = 10
-why_number whys.PeerDelay = 11
-why_number whys.TooEarly = 12
-why_number whys.NoPart = 13
-
--- where the count of a kind and a reason stands: kind by kind, of each those of its fourteen reasons
-abbrev pub place_of : Kind → NoReport → ℕ
-place_of kind why = kind_number kind * 14 + why_number why
 
 -- ---- what a datagram is
 abbrev pub kind_of : Body → Kind
@@ -302,10 +270,6 @@ meeting_of fate = meeting_said fate.datagram.line fate.datagram.time fate.why fa
 -- so many, as far as is counted
 abbrev pub at_most : ℕ → ℕ
 at_most count = min count (2 ^ 64 - 1)
-
--- the count of a kind and a reason
-abbrev pub count_at : Counts → Kind → NoReport → ℕ
-count_at counts kind why = slice_index counts.unreported (place_of kind why)
 
 -- a datagram of this kind gave no report for this reason
 abbrev pub is_so : Kind → NoReport → Fate → Bool

@@ -8,8 +8,8 @@ use Rattle.recording_quality.specs.declared.others.MessageKind.{MessageKind}
 use Rattle.recording_quality.specs.declared.others.MessageKind.TheVariants.{Sync, FollowUp, DelayReq, DelayResp}
 use Rattle.recording_quality.specs.declared.others.Met.{Met}
 use Rattle.recording_quality.specs.declared.others.Met.TheVariants.{First, Repeat, Master, Slave, Domain}
-use Rattle.capture_measure.specs.declared.tally.NoReport.{NoReport}
-use Rattle.capture_measure.specs.declared.tally.NoReport.TheVariants as whys
+use Rattle.measure_summary.specs.declared.no_report.NoReport.{NoReport}
+use Rattle.measure_summary.specs.declared.no_report.NoReport.TheVariants as whys
 
 -- which message it is
 abbrev pub message_kind : Body → MessageKind

@@ -23,9 +23,9 @@ use Rattle.capture_measure.specs.declared.measuring.Form.{Form}
 use Rattle.capture_measure.specs.declared.packets.PacketStage.{PacketStage}
 use Rattle.capture_measure.specs.declared.packets.PacketStage.TheVariants.{Looking, Hearing}
 use Rattle.capture_measure.specs.declared.recording.Recording.{Recording as Known}
-use Rattle.capture_measure.specs.declared.tally.Counts.{Counts}
+use Rattle.measure_summary.specs.declared.counts.Counts.{Counts}
 use Rattle.capture_measure.specs.declared.watch.WantedPorts.{WantedPorts}
-use Rattle.capture_measure.specs.declared.watch.Whom.{Whom}
+use Rattle.measure_summary.specs.declared.whom.Whom.{Whom}
 use Rattle.capture_measure.specs.Row.{Row, datagrams}
 use Rattle.capture_measure.specs.Interfaces.{InterfaceRow}
 use Rattle.capture_measure.specs.Chosen.{chosen}

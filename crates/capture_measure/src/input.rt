@@ -16,9 +16,9 @@ ghost use Rattle.capture_measure.specs.Inner.Outcomes.{LinesAnswer, PacketsAnswe
 
 use crate::measuring::{Form, Measuring, Telling, write_head};
 use crate::packets::{CaptureMeasuring, CaptureTelling};
-use crate::tally::Counts;
-use crate::watch::{WantedPorts, Whom};
+use crate::watch::WantedPorts;
 use capture_file::{Beginning, CaptureStop, Interface, answer_packets_behind};
+use measure_summary::{Counts, Whom};
 use std::alloc::Global;
 use std::io::{Read, Write};
 use text_lines::{Cause, Counted, LineFault, ReadingFault, Stopped, answer_lines_behind};

@@ -25,10 +25,11 @@ ghost use Rattle.capture_measure.specs.Inner.Counting.{stays};
 
 use crate::listener::Listener;
 use crate::reports::{Completed, Datagram, Made, Reports, message_in};
-use crate::tally::{Counts, Tally};
-use crate::watch::{WantedPorts, Watch, Whom};
+use crate::tally::Tally;
+use crate::watch::{WantedPorts, Watch};
 use capture_lines::{Timed, read_timed, table_head};
 use capture_model::Watched;
+use measure_summary::{Counts, Whom};
 use std::alloc::Global;
 use std::io::Write;
 use text_lines::{Counted, LINE_LIMIT, LineFault, LineTask, write_text};

@@ -5,8 +5,8 @@ ghost use Rattle.std.specs.List.{cons_option};
 ghost use Rattle.recording_quality.specs.Others.{AreOthers};
 ghost use Rattle.capture_measure.specs.Meetings.{message_kind, met_as, met_by, meeting_at};
 
-use crate::tally::NoReport;
 use event_codec::{Body, Header, Message};
+use measure_summary::NoReport;
 use ptp_units::ScaledTime;
 use recording_quality::{Meeting, MessageKind, Met, Others};
 

@@ -20,16 +20,17 @@ use Rattle.slave_port.specs.declared.heard.Report.{Report}
 use Rattle.capture_model.specs.declared.watched.Watched.{Watched}
 use Rattle.capture_model.specs.Listening.{Listening, after_all, answered, report_in}
 use Rattle.capture_measure.specs.Made.{Measured}
-use Rattle.capture_measure.specs.declared.tally.Counts.{Counts}
-use Rattle.capture_measure.specs.declared.tally.Kind.{Kind}
-use Rattle.capture_measure.specs.declared.tally.Kind.TheVariants as kinds
-use Rattle.capture_measure.specs.declared.tally.NoReport.{NoReport}
-use Rattle.capture_measure.specs.declared.tally.NoReport.TheVariants as whys
+use Rattle.measure_summary.specs.declared.counts.Counts.{Counts}
+use Rattle.measure_summary.specs.declared.kind.Kind.{Kind}
+use Rattle.measure_summary.specs.declared.kind.Kind.TheVariants as kinds
+use Rattle.measure_summary.specs.declared.no_report.NoReport.{NoReport}
+use Rattle.measure_summary.specs.declared.no_report.NoReport.TheVariants as whys
+use Rattle.measure_summary.specs.Counts.{kind_number, why_number, place_of}
 use Rattle.capture_measure.specs.declared.watch.WantedPorts.{WantedPorts}
 use Rattle.capture_measure.specs.Watch.{watched_in}
 use Rattle.capture_measure.specs.Row.{Row, datagrams, is_known, heard, kept_most}
 use Rattle.capture_measure.specs.Counts.{Fate, fate_at, fates, early_fate, early_fates, fates_in, why_heard, why_said, why_answered}
-use Rattle.capture_measure.specs.Counts.{kind_number, why_number, place_of, at_most, IsCounts}
+use Rattle.capture_measure.specs.Counts.{at_most, IsCounts}
 use Rattle.measure_laws.specs.Once.{EachDatagramIsCountedOnce}
 use Rattle.capture_measure.proofs.Counting.{place_few}
 use Rattle.capture_measure.proofs.Rows.{heard-unknown}

@@ -1,7 +1,7 @@
 -- The law: each datagram is counted once. `laws::each_datagram_is_counted_once` promises it.
 use Rattle.std.specs.Prelude.{◌≡◌, ◌+◌, ◌^◌, ◌<◌, not, List, length, sum, is_some}
 use Rattle.capture_model.specs.declared.watched.Watched.{Watched}
-use Rattle.capture_measure.specs.declared.tally.Counts.{Counts}
+use Rattle.measure_summary.specs.declared.counts.Counts.{Counts}
 use Rattle.capture_measure.specs.declared.watch.WantedPorts.{WantedPorts}
 use Rattle.capture_measure.specs.Row.{Row}
 use Rattle.capture_measure.specs.Counts.{fate_at, fates_in, IsCounts}

@@ -1,5 +1,5 @@
 -- What is counted by one datagram more.
-use Rattle.std.specs.Prelude.{ℕ, ◌+◌, ◌-◌, ◌^◌, min, ◌==◌, Bool, true, false, List, [], slice_index, slice_set, if◌then◌else◌}
+use Rattle.std.specs.Prelude.{ℕ, ◌==◌, Bool, true, false, List, [], if◌then◌else◌}
 use Rattle.std.specs.Prelude.{Option, Some, None}
 use Rattle.event_codec.specs.declared.message.Header.{Header}
 use Rattle.capture_file.specs.Packet.{InterfaceOf}
@@ -9,13 +9,14 @@ use Rattle.capture_measure.specs.declared.measuring.LineStage.{LineStage}
 use Rattle.capture_measure.specs.declared.measuring.LineStage.TheVariants as stages
 use Rattle.capture_measure.specs.declared.packets.PacketStage.{PacketStage}
 use Rattle.capture_measure.specs.declared.packets.PacketStage.TheVariants.{Looking, Hearing}
-use Rattle.capture_measure.specs.declared.tally.Counts.{Counts}
-use Rattle.capture_measure.specs.declared.tally.Kind.{Kind}
-use Rattle.capture_measure.specs.declared.tally.NoReport.{NoReport}
-use Rattle.capture_measure.specs.declared.tally.NoReport.TheVariants as whys
+use Rattle.measure_summary.specs.declared.counts.Counts.{Counts}
+use Rattle.measure_summary.specs.declared.kind.Kind.{Kind}
+use Rattle.measure_summary.specs.declared.no_report.NoReport.{NoReport}
+use Rattle.measure_summary.specs.declared.no_report.NoReport.TheVariants as whys
+use Rattle.measure_summary.specs.Counts.{with_one, with_unreported}
 use Rattle.capture_measure.specs.declared.watch.WantedPorts.{WantedPorts}
 use Rattle.capture_measure.specs.Interfaces.{InterfaceRow}
-use Rattle.capture_measure.specs.Counts.{place_of, why_answered, Fate, capture_fates, IsCounts}
+use Rattle.capture_measure.specs.Counts.{why_answered, Fate, capture_fates, IsCounts}
 
 -- what is counted of a capture so far: nothing until it is known which interface is measured
 abbrev pub CountsSoFar : WantedPorts → (measured : Option InterfaceOf) → List InterfaceRow → Counts → Type 0
@@ -27,18 +28,7 @@ abbrev pub counts_at : PacketStage → Counts → Option Counts
 counts_at (Looking count) counts = None
 counts_at (Hearing place listener) counts = Some counts
 
--- one more, as far as is counted
-abbrev pub with_one : ℕ → ℕ
-with_one count = min (count + 1) (2 ^ 64 - 1)
-
--- one more of a kind that gave no report for a reason
-abbrev pub with_unreported : Kind → NoReport → Counts → Counts
-with_unreported kind why counts = record counts {
-  unreported = slice_set counts.unreported (place_of kind why)
-      (with_one (slice_index counts.unreported (place_of kind why)));
-}
-
--- the same, where there is a reason
+-- one more of a kind that gave no report, where there is a reason
 abbrev pub with_why : Kind → Option NoReport → Counts → Counts
 with_why kind None counts = counts
 with_why kind (Some why) counts = with_unreported kind why counts

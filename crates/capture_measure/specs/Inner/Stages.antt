@@ -3,7 +3,7 @@ use Rattle.std.specs.Prelude.{List, Option, None, option_map, slice_get}
 use Rattle.capture_measure.specs.declared.packets.PacketStage.{PacketStage}
 use Rattle.capture_measure.specs.declared.packets.PacketStage.TheVariants.{Looking, Hearing}
 use Rattle.capture_measure.specs.declared.recording.Recording.{Recording}
-use Rattle.capture_measure.specs.declared.watch.Whom.{Whom}
+use Rattle.measure_summary.specs.declared.whom.Whom.{Whom}
 use Rattle.capture_measure.specs.Inner.Watching.{whom_of}
 
 -- what is known at the interface that is measured

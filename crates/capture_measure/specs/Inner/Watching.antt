@@ -4,10 +4,10 @@ use Rattle.std.specs.Option.{option_or}
 use Rattle.event_codec.specs.declared.port.PortIdentity.{PortIdentity}
 use Rattle.capture_model.specs.Recorded.{Recorded}
 use Rattle.capture_model.specs.Told.{is_sync}
-use Rattle.capture_measure.specs.declared.watch.Known.{Known}
+use Rattle.measure_summary.specs.declared.whom.Known.{Known}
 use Rattle.capture_measure.specs.declared.watch.WantedPorts.{WantedPorts}
 use Rattle.capture_measure.specs.declared.watch.Watch.{Watch}
-use Rattle.capture_measure.specs.declared.watch.Whom.{Whom}
+use Rattle.measure_summary.specs.declared.whom.Whom.{Whom}
 use Rattle.capture_measure.specs.Watch.{is_request, first_told, source_told, domain_told, domain_in, port_in}
 use Rattle.capture_measure.specs.Summary.{told_at, known_domain, known_port}
 

@@ -4,7 +4,7 @@ use Rattle.capture_model.specs.declared.watched.Watched.{Watched}
 use Rattle.capture_model.specs.Listening.{Listening, after_all}
 use Rattle.capture_model.specs.Recorded.{Recorded}
 use Rattle.capture_measure.specs.declared.listener.Became.{Became}
-use Rattle.capture_measure.specs.declared.tally.Counts.{Counts}
+use Rattle.measure_summary.specs.declared.counts.Counts.{Counts}
 use Rattle.capture_measure.specs.Counts.{kind_of, fate_in, meeting_of, IsCounts}
 use Rattle.capture_measure.specs.Meetings.{meeting_at}
 use Rattle.recording_quality.specs.declared.others.Others.{Others}

@@ -1,10 +1,10 @@
 use Rattle.std.proofs.Common.{◌∙◌, ◌∷◌, refl, sym, ap, subst}
 use Rattle.event_codec.specs.Packet.{contents}
 use Rattle.capture_model.specs.Recorded.{Recorded}
-use Rattle.capture_measure.specs.declared.tally.Kind.{Kind}
-use Rattle.capture_measure.specs.declared.tally.NoReport.TheVariants.{TooEarly}
+use Rattle.measure_summary.specs.declared.kind.Kind.{Kind}
+use Rattle.measure_summary.specs.declared.no_report.NoReport.TheVariants.{TooEarly}
 use Rattle.capture_measure.specs.Counts.{early_fate, IsCounts}
-use Rattle.capture_measure.specs.Inner.Counting.{with_unreported}
+use Rattle.measure_summary.specs.Counts.{with_unreported}
 use Rattle.capture_measure.specs.Inner.Hearing.{reading_of, recorded_of}
 use Rattle.capture_measure.proofs.Counting.{early_counts, early_refused_counts, noted_counts}
 use Rattle.capture_measure.proofs.tally.Tally.count_early.Goals as goal
@@ -13,7 +13,7 @@ pub returns-in-Ok : goal.returns-in-Ok
 returns-in-Ok c = λ all so.
     let d : Recorded = recorded_of c.args.datagram.now in
     subst (IsCounts (early_fate d ∷ all))
-    (sym (c.count.ensures ∙ ap (λ (k : Kind). with_unreported k TooEarly c.note.new.self.counts) c.of.ensures))
+    (sym (c.count.ensures ∙ ap (λ (k : Kind). with_unreported k TooEarly c.note.new.self.counts) c.kind_of.ensures))
     (early_counts d (contents c.in-Ok.message) all c.note.new.self.counts (ap reading_of c.in-Ok.is)
     (noted_counts (early_fate d) all c.args.self.now.counts c.note.new.self.counts so c.note.ensures.others
     (c.note.ensures.quality (early_fate d) all refl refl so.quality)))

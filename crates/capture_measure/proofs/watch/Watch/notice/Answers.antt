@@ -1,7 +1,7 @@
 use Rattle.std.proofs.Common.{subst, sym, Option}
 use Rattle.event_codec.specs.declared.port.PortIdentity.{PortIdentity}
 use Rattle.event_codec.specs.Packet.{Contents, contents}
-use Rattle.capture_measure.specs.declared.watch.Known.{Known}
+use Rattle.measure_summary.specs.declared.whom.Known.{Known}
 use Rattle.capture_measure.specs.declared.watch.Watch.{Watch}
 use Rattle.capture_measure.specs.Inner.Watching.{Notices}
 use Rattle.capture_measure.proofs.Watches.{IsWatch-notices, Notices-takes, Takes, Takes-sync, Takes-request}

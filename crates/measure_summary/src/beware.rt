@@ -1,7 +1,9 @@
 //! What is told of the numbers of reports, and of what they are worth.
 
+use crate::counts::Counts;
+use crate::kind::Kind;
+use crate::no_report::NoReport;
 use crate::others::{doubt_others, doubt_repeats, doubt_turn};
-use crate::tally::{Counts, Kind, NoReport};
 use ptp_units::{Nanoseconds, ScaledTime};
 use recording_quality::{Point, Series, Spread, Statistics, Times};
 use rounded_series::{Signed, Thousandths, deviation, mean, slope};
