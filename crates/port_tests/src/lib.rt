@@ -1,15 +1,8 @@
-//! Tests by the public calls of the units, the codec, the tables and the ports: worked values and
-//! datagrams.
+//! Tests by the public calls of the units, the tables and the slave: worked values, and what is answered call by call.
 #![tactic(auto)]
 
 #[cfg(test)]
-mod clock;
-#[cfg(test)]
-mod codec;
-#[cfg(test)]
 mod last_exchange;
-#[cfg(test)]
-mod master;
 #[cfg(test)]
 mod slave;
 #[cfg(test)]

@@ -1,11 +1,8 @@
 //! What a slave answers, call by call.
 
-use crate::values::{
-    DELAY_REQ, FORWARDED_SYNC, MASTER, MASTER_PORT, Moment, ONE_STEP_SYNC, SLAVE, SLAVE_PORT,
-    changed, moment,
-};
+use crate::values::{MASTER, MASTER_PORT, Moment, SLAVE, SLAVE_PORT, moment};
 use SyncKind::{Forwarded, ForwardedOneStep, OneStep, TwoStep};
-use event_codec::{DecodeRefusal, Header, PortConfig, PortIdentity, TWO_STEP};
+use event_codec::{DecodeRefusal, Header, NO_FLAGS, PortConfig, PortIdentity, TWO_STEP};
 use pairing::{ListTable, PairTable};
 use ptp_units::{Interval, ScaledTime, Seq, Timestamp};
 use slave_port::{Heard, HeldFollow, HeldRequest, HeldSync, Reason, SlavePort};
@@ -86,7 +83,7 @@ const SECOND: Moment = (1, 0, 0);
 enum SyncKind {
     TwoStep(u16),
     OneStep(u16),
-    /// These have number 0, and were in a clock for 131,072,000 units.
+    /// These have number 0, and were in a clock for 131,072,000 units. The one-step Sync left a quarter of a nanosecond after 1 s.
     Forwarded,
     ForwardedOneStep,
 }
@@ -142,20 +139,28 @@ fn answer_of(heard: Heard) -> Answer {
     }
 }
 
-/// The number of a Delay_Req that was drawn. Its octets are those of the first, but for that number.
+/// The slave's Delay_Req of this number.
+fn delay_req(number: Seq) -> [u8; 44] {
+    SLAVE_PORT
+        .header(NO_FLAGS, Interval(0), number, 1, 127)
+        .delay_req(Timestamp::default())
+}
+
+/// The number of a Delay_Req that was drawn.
 fn drawn(rt: &impl Abort, octets: [u8; 44], number: Seq) -> Answer {
-    let [high, low] = number.0.to_be_bytes();
-    assert_eq!(rt; octets, changed(DELAY_REQ, &[(30, high), (31, low)]));
+    assert_eq!(rt; octets, delay_req(number));
     Answer::Drawn(number.0)
 }
 
-fn octets_of(sync: SyncKind) -> [u8; 44] {
-    match sync {
+fn octets_of(kind: SyncKind) -> Result<[u8; 44], Fail> {
+    Ok(match kind {
         SyncKind::TwoStep(number) => plain_sync(number),
         SyncKind::OneStep(number) => one_step_sync(0, number),
-        SyncKind::Forwarded => FORWARDED_SYNC,
-        SyncKind::ForwardedOneStep => changed(ONE_STEP_SYNC, &[(12, 0x07), (13, 0xd0)]),
-    }
+        SyncKind::Forwarded => sync(header(131_072_000, 0)),
+        SyncKind::ForwardedOneStep => MASTER_PORT
+            .header(NO_FLAGS, Interval(131_088_384), Seq(0), 0, 0)
+            .sync(Timestamp::new(1, 0)?),
+    })
 }
 
 /// What a slave answers to a step of this tag.
@@ -191,7 +196,7 @@ where
         }
         Step::Sync(sync, (seconds, nanos, fraction)) => {
             let arrival = moment(seconds, nanos, fraction)?;
-            answer_of(slave.sync(&octets_of(sync), arrival, tag))
+            answer_of(slave.sync(&octets_of(sync)?, arrival, tag))
         }
         Step::FollowUp(number, correction, (seconds, nanos)) => {
             let precise = Timestamp::new(seconds, nanos)?;
@@ -521,7 +526,8 @@ fn octets_that_are_no_message_are_ignored(rt: HostRuntime) {
         (1, 0x01, DecodeRefusal::Version),
         (0, 0x0b, DecodeRefusal::OtherType(11)),
     ] {
-        let octets = changed(plain_sync(0), &[(place, octet)]);
+        let mut octets = plain_sync(0);
+        octets[place] = octet;
         let ignored = Heard::Ignored(Reason::Decode(refusal));
         let heard = slave_of(None).sync(&octets, ScaledTime::default(), 1);
         assert_eq!(rt; heard, ignored);
@@ -558,7 +564,7 @@ fn header_in_other_domain() -> Header {
 fn reasons_of_the_event_port_in_order(rt: HostRuntime) {
     let too_big = sync(header(i64::MAX, 0));
     let rows: [ReasonRow<'_>; 10] = [
-        (None, &DELAY_REQ, Some(502)),
+        (None, &delay_req(Seq(0)), Some(502)),
         (None, &plain_follow_up(0), Some(502)),
         (None, &sync(header_in_other_domain()), Some(503)),
         (None, &one_step_sync(0, 0), Some(504)),
