@@ -1,4 +1,4 @@
-//! Tests by the public calls of the program: devices of all kinds, statuses, and what refusals say.
+//! Tests by the public calls of the program: devices of all kinds, and statuses.
 #![tactic(auto)]
 
 /// Cases, each with its text.
@@ -14,8 +14,6 @@ mod counted;
 mod devices;
 #[cfg(test)]
 mod program;
-#[cfg(test)]
-mod refusals;
 #[cfg(test)]
 mod replay;
 #[cfg(test)]

@@ -5,12 +5,12 @@ use exchange_check::CheckFault;
 use master_port::MasterRefusal;
 use network_model::{RunStop, WorldRefusal};
 use ptp_units::UnitRefusal;
-use schedule_replay::{Fault, FaultKind};
 use slave_port::{Reason, SlaveRefusal};
 use std::error::Error;
 use std::process::Abort;
 use std::test::Fail;
 use trace_model::Why;
+use transcript_text::{Fault, FaultKind};
 use transparent_clock::ClockRefusal;
 
 /// Each of these errors says its text.
