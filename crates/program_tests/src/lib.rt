@@ -9,14 +9,8 @@ macro_rules! texts {
 }
 
 #[cfg(test)]
-mod counted;
-#[cfg(test)]
-mod devices;
-#[cfg(test)]
 mod program;
 #[cfg(test)]
 mod replay;
-#[cfg(test)]
-mod show;
 #[cfg(test)]
 mod transcripts;

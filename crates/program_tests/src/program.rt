@@ -1,6 +1,6 @@
 //! The whole program: statuses, and where its texts go.
 
-use crate::devices::{Sink, Source, WRITE_FAILURES};
+use failing_devices::{Sink, Source, WRITE_FAILURES};
 use schedule_replay::{Counted, command};
 use std::alloc::Global;
 use std::io::ErrorKind;

@@ -1,7 +1,7 @@
 //! `replay` over schedules and devices of all kinds.
 
-use crate::devices::{Sink, Source, WRITE_FAILURES, fault, lines_in};
-use schedule_replay::{Counted, FaultKind, OctetReader, replay};
+use failing_devices::{Sink, Source, WRITE_FAILURES, lines_in};
+use schedule_replay::{Counted, Fault, FaultKind, OctetReader, replay};
 use std::alloc::Global;
 use std::io::ErrorKind;
 use std::test::Fail;
@@ -47,6 +47,11 @@ pub(crate) const TRANSCRIPT: [&str; 17] = [
     r#"{"ev":"stamped","n":12,"node":"S","out":"done"}"#,
     r#"{"copy":11,"ev":"hear","n":13,"node":"S","offset2":"131072000","out":"report","path2":"131072000","tags":[5,7,8,13]}"#,
 ];
+
+/// What is answered where this line has a fault.
+pub(crate) fn fault<T>(line: u64, what: FaultKind) -> Result<T, Fault> {
+    Err(Fault { line, what })
+}
 
 /// Lines, each with its LF.
 pub(crate) fn joined(alloc: Global, lines: &[&str]) -> Result<String, Fail> {

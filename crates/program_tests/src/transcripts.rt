@@ -1,7 +1,7 @@
 //! `check_text` over transcripts and devices of all kinds.
 
-use crate::devices::{Sink, Source, WRITE_FAILURES, fault, lines_in};
-use crate::replay::{TRANSCRIPT, joined};
+use crate::replay::{TRANSCRIPT, fault, joined};
+use failing_devices::{Sink, Source, WRITE_FAILURES, lines_in};
 use schedule_replay::{Counted, FaultKind, check_text};
 use std::io::ErrorKind;
 use std::test::Fail;

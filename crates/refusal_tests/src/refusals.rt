@@ -134,3 +134,21 @@ fn refusals_say_why(rt: HostRuntime) -> Result<(), Fail> {
     assert_said(&rt, &CHECKING)?;
     assert_said(&rt, &LINES)
 }
+
+#[test]
+fn faults_print_their_number(rt: HostRuntime) -> Result<(), Fail> {
+    for (kind, number, text) in [
+        (FaultKind::Read, 801, "801"),
+        (FaultKind::Write, 802, "802"),
+        (FaultKind::LineTooLong, 803, "803"),
+        (FaultKind::TooManyLines, 804, "804"),
+        (FaultKind::Json, 805, "805"),
+        (FaultKind::Field, 806, "806"),
+        (FaultKind::World(WorldRefusal::NoNode), 807, "807"),
+        (FaultKind::Memory, 808, "808"),
+    ] {
+        assert_eq!(rt; kind.code(), number);
+        assert_eq!(rt; kind.to_string(rt.alloc())?.as_str(), text);
+    }
+    Ok(())
+}

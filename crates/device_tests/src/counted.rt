@@ -1,10 +1,9 @@
-//! Devices that count their failures, the reader that reads ahead, and the numbers of faults.
+//! Devices that count their failures, and the reader that reads ahead.
 
-use crate::devices::{Sink, Source, WRITE_FAILURES};
-use network_model::WorldRefusal;
-use schedule_replay::{Counted, FaultKind, OctetReader};
+use failing_devices::{Sink, Source, WRITE_FAILURES};
 use std::io::{ErrorKind, Read, Write};
 use std::test::Fail;
+use text_lines::{Counted, OctetReader};
 
 #[test]
 fn devices_count_their_failures(rt: HostRuntime) -> Result<(), Fail> {
@@ -111,23 +110,5 @@ fn fills_a_long_buffer_with_what_was_read_ahead(rt: HostRuntime) -> Result<(), F
     }
     assert_eq!(rt; given, octets);
     assert_eq!(rt; pieces.asked(), 3);
-    Ok(())
-}
-
-#[test]
-fn faults_print_their_number(rt: HostRuntime) -> Result<(), Fail> {
-    for (kind, number, text) in [
-        (FaultKind::Read, 801, "801"),
-        (FaultKind::Write, 802, "802"),
-        (FaultKind::LineTooLong, 803, "803"),
-        (FaultKind::TooManyLines, 804, "804"),
-        (FaultKind::Json, 805, "805"),
-        (FaultKind::Field, 806, "806"),
-        (FaultKind::World(WorldRefusal::NoNode), 807, "807"),
-        (FaultKind::Memory, 808, "808"),
-    ] {
-        assert_eq!(rt; kind.code(), number);
-        assert_eq!(rt; kind.to_string(rt.alloc())?.as_str(), text);
-    }
     Ok(())
 }
