@@ -27,7 +27,7 @@ pub(crate) fn specs() -> Result<[NodeSpec; 3], Fail> {
 pub(crate) const LENGTH: usize = 14;
 
 /// What the slave reports.
-const REPORT: Report = Report {
+pub(crate) const REPORT: Report = Report {
     offset2: 131_072_000,
     path2: 131_072_000,
     sync_tag: 5,
@@ -80,7 +80,7 @@ pub(crate) fn ample(tag: usize) -> Option<Outcome> {
 }
 
 /// All events of the exchange.
-fn exchange() -> Result<[Event; LENGTH], Fail> {
+pub(crate) fn exchange() -> Result<[Event; LENGTH], Fail> {
     let mut events = [event(0)?; LENGTH];
     for tag in 0..LENGTH {
         events[tag] = event(tag)?;
@@ -94,6 +94,18 @@ fn begun(alloc: Global) -> Result<Option<World>, Fail> {
         Ok(world) => Ok(Some(world)),
         Err(WorldRefusal::Memory) => Ok(None),
         Err(why) => Err(why.into()),
+    }
+}
+
+/// A world in which the exchange happened, and its answers, or None where memory was refused.
+pub(crate) fn played(alloc: Global) -> Result<Option<(World, Vec<Stepped>)>, Fail> {
+    let Some(mut world) = begun(alloc)? else {
+        return Ok(None);
+    };
+    match run(alloc, &mut world, &exchange()?) {
+        Ok(answers) => Ok(Some((world, answers))),
+        Err(stop) if stop.why == WorldRefusal::Memory => Ok(None),
+        Err(stop) => Err(stop.into()),
     }
 }
 

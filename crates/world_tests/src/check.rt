@@ -1,0 +1,69 @@
+//! The checker where memory is withheld, by the script that runs these tests.
+
+use crate::memory::{LENGTH, REPORT, exchange, played, specs};
+use exchange_check::{CheckFault, Checker, TraceLine, TraceOut, Verdict, Why, check};
+use network_model::{Nodes, Report};
+use std::test::Fail;
+
+/// The verdict is that of ample memory, or memory was refused, and the same lines get it then: of the
+/// exchange, and where a result is one unit more.
+#[test]
+fn checks_whatever_memory_there_is(rt: HostRuntime) -> Result<(), Fail> {
+    let Ok(nodes) = Nodes::new(rt.alloc(), &specs()?) else {
+        return Ok(());
+    };
+    let Some((world, answers)) = played(rt.alloc())? else {
+        return Ok(());
+    };
+    let Ok(mut lines) = Vec::with_capacity(rt.alloc(), LENGTH) else {
+        return Ok(());
+    };
+    for (event, stepped) in exchange()?.iter().zip(answers.iter()) {
+        lines.push(TraceLine::of(event, stepped, &world))?;
+    }
+    let wrong = Verdict::Refused {
+        line: 13,
+        why: Why::WrongValue,
+    };
+    for (offset2, wanted) in [(131_072_000, Verdict::Accepted(1)), (131_072_001, wrong)] {
+        let last = lines.last_mut().ok_or("no line")?;
+        last.out = TraceOut::Report(Report { offset2, ..REPORT });
+        let verdict = match check(rt.alloc(), &nodes, &lines) {
+            Ok(verdict) => verdict,
+            Err(fault) => {
+                assert_eq!(rt; fault, CheckFault::Memory);
+                check(rt.alloc(), &nodes, &lines)?
+            }
+        };
+        assert_eq!(rt; verdict, wanted);
+    }
+    Ok(())
+}
+
+/// A line that is refused for want of memory changes nothing, and can be fed again.
+#[test]
+fn is_fed_whatever_memory_there_is(rt: HostRuntime) -> Result<(), Fail> {
+    let Ok(nodes) = Nodes::new(rt.alloc(), &specs()?) else {
+        return Ok(());
+    };
+    let mut checker = match Checker::new(rt.alloc(), nodes) {
+        Ok(checker) => checker,
+        Err(fault) => {
+            assert_eq!(rt; fault, CheckFault::Memory);
+            return Ok(());
+        }
+    };
+    let Some((world, answers)) = played(rt.alloc())? else {
+        return Ok(());
+    };
+    for (event, stepped) in exchange()?.iter().zip(answers.iter()) {
+        let before = checker.verdict();
+        if let Err(fault) = checker.feed(TraceLine::of(event, stepped, &world)) {
+            assert_eq!(rt; fault, CheckFault::Memory);
+            assert_eq!(rt; checker.verdict(), before);
+            checker.feed(TraceLine::of(event, stepped, &world))?;
+        }
+    }
+    assert_eq!(rt; checker.verdict(), Verdict::Accepted(1));
+    Ok(())
+}
