@@ -6,7 +6,6 @@ pub mod Lookup
 pub mod Machine
 pub mod Stays
 pub mod Telling
-pub mod History
 pub mod Noting
 pub mod Found
 pub mod Finding

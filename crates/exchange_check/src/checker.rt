@@ -77,7 +77,7 @@ impl Checker {
     {
         Ok(Checker {
             nodes,
-            fed: History::new(),
+            fed: History::new(alloc),
             kept: Kept::new(alloc),
         })
     }
@@ -103,9 +103,14 @@ impl Checker {
         ensures judged { IfOk result (λ answer. answer
             ≡ line_judgement self.old.network (line_place line.now (reverse self.old.lines))) }
     {
-        let answer = self.kept.step(&self.nodes, line)?;
-        self.fed.push(line);
-        Ok(answer)
+        self.fed.push(line)?;
+        match self.kept.step(&self.nodes, line) {
+            Ok(answer) => Ok(answer),
+            Err(fault) => {
+                self.fed.pop();
+                Err(fault)
+            }
+        }
     }
 
     /// The lines that a report of the line which was fed last is of (IEEE 1588-2019, 11.3), where they are all there

@@ -1,59 +1,57 @@
 //! The lines that a checker was fed, for contracts alone.
 
-ghost use Rattle.std.specs.Prelude.{◌≡◌, ◌∷◌, []};
+ghost use Rattle.std.specs.Prelude.{◌≡◌, ◌∷◌, [], MatchResult};
+ghost use Rattle.trace_model.specs.declared.line.TraceLine.{TraceLine};
+ghost use Rattle.trace_model.specs.Line.{Lines};
+ghost use Rattle.exchange_check.specs.declared.refusal.CheckFault.TheVariants.{Memory};
 
+use crate::refusal::CheckFault;
+use std::alloc::Global;
 use std::marker::Model;
 use std::snapshot::Snapshot;
 use trace_model::TraceLine;
 
 /// Lines, newest first. Contracts alone read them: a value of this type has none of their octets.
-#[cycle(history)]
 #[derive(Drop)]
 pub(crate) struct History {
-    newest: Newest,
-}
-
-#[cycle(history)]
-#[derive(Drop)]
-enum Newest {
-    /// There is no line.
-    Start,
-    /// A line, and those before it.
-    After(Snapshot<TraceLine>, Snapshot<History>),
+    oldest_first: Vec<Snapshot<TraceLine>>,
 }
 
 impl Model for History {
-    ghost use Rattle.std.specs.Prelude.{length};
+    ghost use Rattle.std.specs.Prelude.{reverse, map};
     ghost use Rattle.trace_model.specs.Line.{Lines};
 
     ghost Value = { Lines };
 
-    ghost use Rattle.exchange_check.specs.Inner.History.{lines_of};
-
-    ghost view = { λ h. lines_of h.newest };
-
-    ghost size = { length };
-
-    ghost use Rattle.std.proofs.Common.{arith};
-
-    ghost size_decreases = { λ h _. Prim.grind (arith) };
+    ghost view = { λ h. reverse (map (λ line. line.value) h.oldest_first.items) };
 }
 
 impl History {
     /// No line.
-    pub(crate) fn new() -> History
+    pub(crate) fn new(alloc: Global) -> History
         ensures { result ≡ [] }
     {
         History {
-            newest: Newest::Start,
+            oldest_first: Vec::new(alloc),
         }
     }
 
-    /// One more line.
-    pub(crate) fn push(&mut self, line: &TraceLine)
-        ensures { self.new ≡ line.now ∷ self.old }
+    /// One more line. Refused where there is no room for it.
+    pub(crate) fn push(&mut self, line: &TraceLine) -> Result<(), CheckFault>
+        ensures { MatchResult result
+            (λ _. self.new ≡ line.now ∷ self.old)
+            (λ fault. (fault ≡ Memory) × (self.new ≡ self.old)) }
     {
-        let newest = Newest::After(Snapshot::of(line), Snapshot::of(self));
-        self.newest = newest;
+        match self.oldest_first.push(Snapshot::of(line)) {
+            Ok(()) => Ok(()),
+            Err(_) => Err(CheckFault::Memory),
+        }
+    }
+
+    /// Forgets the last line.
+    pub(crate) fn pop(&mut self)
+        ensures { (line : TraceLine) (earlier : Lines) → self.old ≡ line ∷ earlier → self.new ≡ earlier }
+    {
+        let _ = self.oldest_first.pop();
     }
 }
