@@ -10,7 +10,7 @@ use network_model::{Event, Name};
 use ptp_units::{ScaledTime, Seq};
 
 /// What is kept of the journey of a copy of an event message, from the line that sent it.
-#[derive(Clone, Copy, Debug, PartialEq, Eq)]
+#[derive(Clone, Copy)]
 pub(crate) struct KeptJourney {
     /// How long it was in clocks.
     pub(crate) residence: Residence,
@@ -24,7 +24,7 @@ pub(crate) struct KeptJourney {
 
 /// A line that counts, as far as later lines ask. What is kept of a line, this and its place in the tables, takes
 /// some 204 octets (`bench/check` measures it).
-#[derive(Clone, Copy, Debug, PartialEq, Eq)]
+#[derive(Clone, Copy)]
 pub(crate) struct Fact {
     /// The line's number.
     pub(crate) line: u64,
@@ -91,7 +91,7 @@ impl Fact {
 }
 
 /// What the lines so far say of a node.
-#[derive(Clone, Copy, Debug, Default, PartialEq, Eq)]
+#[derive(Clone, Copy, Default)]
 pub(crate) struct Site {
     /// How far its clock is ahead of the true time, in units of 2^-16 ns.
     pub(crate) difference: i128,
@@ -110,7 +110,7 @@ pub(crate) struct Site {
 }
 
 /// What is known of a line from the line itself and from its node.
-#[derive(Clone, Copy, Debug)]
+#[derive(Clone, Copy)]
 pub(crate) struct Known {
     /// The line's number.
     pub(crate) line: u64,
@@ -125,14 +125,14 @@ pub(crate) struct Known {
 }
 
 /// The journey of a copy, with the line that sent it.
-#[derive(Clone, Copy, Debug)]
+#[derive(Clone, Copy)]
 pub(crate) struct FoundJourney {
     pub(crate) kept: KeptJourney,
     pub(crate) origin: Fact,
 }
 
 /// The lines of a report.
-#[derive(Clone, Copy, Debug)]
+#[derive(Clone, Copy)]
 pub(crate) struct Found {
     /// The Sync's arrival at the slave.
     pub(crate) sync_arrival: Fact,

@@ -10,7 +10,7 @@ use std::marker::Model;
 const BOUND: u128 = 1 << 125;
 
 /// How long a message was in clocks, in units of 2^-16 ns.
-#[derive(Clone, Copy, Debug, PartialEq, Eq)]
+#[derive(Clone, Copy)]
 pub(crate) struct Residence {
     units: u128,
 }

@@ -19,7 +19,7 @@ use std::alloc::Global;
 use std::collections::BTreeMap;
 
 /// What is kept of a copy of an event message.
-#[derive(Clone, Copy, Debug)]
+#[derive(Clone, Copy)]
 pub(crate) struct CopyState {
     /// Whether each stay of its journey was left once.
     pub(crate) once: bool,

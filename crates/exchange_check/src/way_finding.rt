@@ -19,7 +19,7 @@ use network_model::Report;
 use trace_model::{Finding, Part};
 
 /// A stay that was left twice.
-#[derive(Clone, Copy, Debug)]
+#[derive(Clone, Copy)]
 pub(crate) struct Twice {
     /// The number of the line by which it began.
     pub(crate) entered: u64,

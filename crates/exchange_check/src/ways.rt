@@ -17,7 +17,7 @@ use std::collections::BTreeMap;
 use trace_model::Lack;
 
 /// Where a journey stops.
-#[derive(Clone, Copy, Debug)]
+#[derive(Clone, Copy)]
 pub(crate) struct Stop {
     /// The number of the line that names the one where it ends.
     pub(crate) by: u64,

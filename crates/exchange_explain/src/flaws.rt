@@ -14,7 +14,7 @@ use world_model::obstacle_to;
 const TOLD_MOST: u64 = 20;
 
 /// The first fault of an input.
-#[derive(Clone, Copy, Debug)]
+#[derive(Clone, Copy)]
 pub(crate) struct FirstFault {
     /// Its line, counted from 1.
     pub(crate) line: u64,
@@ -23,14 +23,14 @@ pub(crate) struct FirstFault {
 }
 
 /// The first fault of an input, and what was seen of lines from there on.
-#[derive(Clone, Copy, Debug)]
+#[derive(Clone, Copy)]
 pub(crate) struct Flaws {
     pub(crate) first: FirstFault,
     seen: LinesSeen,
 }
 
 /// What was seen of the lines of an input from that of its first fault on.
-#[derive(Clone, Copy, Debug)]
+#[derive(Clone, Copy)]
 struct LinesSeen {
     /// Whether the input is of another kind, so that flaws of lines say nothing.
     foreign: bool,
