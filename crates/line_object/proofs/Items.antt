@@ -1,8 +1,5 @@
 -- Items, one after the other.
-use Rattle.std.proofs.Common.{◌≡◌, ℕ, zero, suc, List, [], ◌∷◌, ◌++◌, length, get_or, ltb, is_some, IfSome, slice_get, Option, Some, None, option_map, option_and_then, refl, sym, ap, ◌∙◌, ltb-true, ltb-false}
-use Rattle.std.specs.Option.{option_copied}
-use Rattle.std.specs.Borrow.{Bor}
-use Rattle.std.proofs.lemmas.Option.{slice_get_past, slice_get_read}
+use Rattle.std.proofs.Common.{◌≡◌, ℕ, zero, suc, List, [], ◌∷◌, ◌++◌, length, slice_get, Option, Some, None, option_map, option_and_then, refl, ap, ◌∙◌}
 use Rattle.json.specs.Json as json
 use Rattle.serde_json.specs.Data.{Items, no_items, item}
 use Rattle.serde_json.specs.Events.{items_len}
@@ -42,9 +39,3 @@ pub item_at : (ns : List (Option ℕ)) (i : ℕ) → option_map item_data (slice
 item_at [] i = refl
 item_at (n ∷ ns) zero = refl
 item_at (n ∷ ns) (suc i) = item_at ns i
-
--- what is copied from an index is the item there
-pub copied_at : (ns : List (Option ℕ)) (i : ℕ) (r : Option (Bor (Option ℕ))) → is_some r ≡ ltb i (length ns) → IfSome r (λ x. x.now ≡ get_or ns i x.now)
-    → option_copied r ≡ slice_get ns i
-copied_at ns i None some value = sym (slice_get_past ns i (ltb-false i (length ns) (sym some)))
-copied_at ns i (Some x) some value = sym (slice_get_read ns (length ns) i x.now refl (ltb-true i (length ns) (sym some)) value)

@@ -5,11 +5,13 @@
 mod key;
 mod number;
 mod object;
+mod plain_item;
 mod plain_value;
 mod text;
 mod value;
 
 pub use key::Key;
 pub use object::LineObject;
+pub use plain_item::PlainItem;
 pub use plain_value::PlainValue;
 pub use value::{LineMembers, LineValue};

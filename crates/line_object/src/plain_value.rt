@@ -9,12 +9,13 @@ ghost use Rattle.line_object.specs.PlainValue.{plain_data, item_data, items_data
 ghost use Rattle.line_object.specs.Inner.Reads.{IsNumber, Reads};
 
 use crate::number::{negative_in, whole_in};
+use crate::plain_item::PlainItem;
 use crate::value::LineValue;
 use arrayvec::ArrayVec;
 use json::{Element, Items};
 
 /// What a key's value is: null, a text, a whole number of 64 bits, or an array of up to four items, each null or a
-/// whole number from 0 to 2^64 - 1.
+/// whole number from 0 to 2^64 - 2.
 #[derive(Debug, Default, Drop)]
 pub enum PlainValue<'a> {
     /// `null`.
@@ -26,23 +27,23 @@ pub enum PlainValue<'a> {
     Negative(i64),
     /// A text, with its escapes read.
     Text(&'a str),
-    /// The items of an array; `None` is null.
-    Several(ArrayVec<Option<u64>, 4>),
+    /// The items of an array.
+    Several(ArrayVec<PlainItem, 4>),
 }
 
-/// The item that begins at an element, where it is null or a whole number from 0 on.
-fn read_item(element: &Element<'_, '_>) -> Option<Option<u64>>
+/// The item that begins at an element, where it is null or a whole number from 0 to 2^64 - 2.
+fn read_item(element: &Element<'_, '_>) -> Option<PlainItem>
     ensures { (j : Json) → BeginsWith element.now j → IfSome result (λ n. Reads j (item_data n) 0) }
 {
     match element.as_number() {
-        Some(text) => Some(Some(whole_in(text)?)),
-        None if element.is_null() => Some(None),
+        Some(text) => Some(PlainItem::of(whole_in(text)?)?),
+        None if element.is_null() => Some(PlainItem::null()),
         None => None,
     }
 }
 
 /// The items of an array, where they are up to four such.
-fn read_items(items: Items<'_, '_>) -> Option<ArrayVec<Option<u64>, 4>>
+fn read_items(items: Items<'_, '_>) -> Option<ArrayVec<PlainItem, 4>>
     ensures { (js : spec.Items) → InItems items.entry js
         → IfSome result (λ found. (of_items js ≡ Some (items_data found.items)) × (items_depth js ≤ 0)) }
 {
@@ -95,7 +96,7 @@ impl PlainValue<'_> {
         ensures { option_map item_data result ≡ at index (plain_data self.now) }
     {
         match self {
-            PlainValue::Several(items) => items.as_slice().get(index).copied(),
+            PlainValue::Several(items) => Some(items.as_slice().get(index)?.number()),
             _ => None,
         }
     }
