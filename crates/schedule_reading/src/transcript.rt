@@ -148,14 +148,26 @@ impl Transcript {
             (λ fault. (self.new ≡ self.old) × HasNoChecker fault self.old) }
     {
         match &mut self.stage {
-            Stage::Nodes(nodes) => {
-                let mut checker = begin(self.alloc, nodes.as_slice())?;
-                let judgement = checker.feed_judged(line)?;
-                self.stage = Stage::Events(checker);
-                Ok(judgement)
-            }
+            Stage::Nodes(_) => self.judge_first(line),
             Stage::Events(checker) => Ok(checker.feed_judged(line)?),
         }
+    }
+
+    /// The same of the first event. It stands apart since room for a whole checker would else be cleared for each line.
+    #[inline(never)]
+    fn judge_first(&mut self, line: &TraceLine) -> Result<Option<Judgement>, TaskFault>
+        requires { self.old.lines ≡ [] }
+        ensures { MatchResult result
+            (λ judgement. Judges line.now self.old self.new judgement)
+            (λ fault. (self.new ≡ self.old) × HasNoChecker fault self.old) }
+    {
+        let Stage::Nodes(nodes) = &self.stage else {
+            unreachable!()
+        };
+        let mut checker = begin(self.alloc, nodes.as_slice())?;
+        let judgement = checker.feed_judged(line)?;
+        self.stage = Stage::Events(checker);
+        Ok(judgement)
     }
 
     /// How many nodes there were.

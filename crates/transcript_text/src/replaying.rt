@@ -87,14 +87,39 @@ impl Replaying {
             (λ fault. HasFailedIf (is_write fault) output.old output.new) }
     {
         match &mut self.stage {
-            Stage::Nodes(nodes) => {
-                let mut world = begin(self.alloc, nodes.as_slice(), &mut self.text, output)?;
-                happen(&mut world, event, &mut self.text, output)?;
-                self.stage = Stage::Events(world);
-                Ok(())
-            }
+            Stage::Nodes(_) => self.happen_first(event, output),
             Stage::Events(world) => happen(world, event, &mut self.text, output),
         }
+    }
+
+    /// The same of the first event, before which the nodes' lines are written. It stands apart since room for a whole world would
+    /// else be cleared for each line.
+    #[inline(never)]
+    fn happen_first<W: Write>(
+        &mut self,
+        event: &Event,
+        output: &mut Counted<W>,
+    ) -> Result<(), TaskFault>
+        requires { (state_of self.old.stage).run ≡ [] }
+        requires replaying { IsReplaying self.old.stage }
+        ensures happens { let state = state_of self.old.stage in
+            let before = W.contents (device_of output.old) in
+            let after = W.contents (device_of output.new) in
+            MatchResult result
+            (λ _. (written : List ℕ) × IsReplaying self.new.stage
+            × Follows (entries.Event event.now) state (state_of self.new.stage) written × Appends before after written)
+            (λ fault. StopsAt fault state (entries.Event event.now) before after) }
+        ensures failures { MatchResult result
+            (λ _. HasNotFailed output.old output.new)
+            (λ fault. HasFailedIf (is_write fault) output.old output.new) }
+    {
+        let Stage::Nodes(nodes) = &self.stage else {
+            unreachable!()
+        };
+        let mut world = begin(self.alloc, nodes.as_slice(), &mut self.text, output)?;
+        happen(&mut world, event, &mut self.text, output)?;
+        self.stage = Stage::Events(world);
+        Ok(())
     }
 }
 
