@@ -1,8 +1,6 @@
-//! Tests by the public calls of networks, worlds and the checker: what no schedule and no transcript can tell.
+//! Tests by the public calls of networks and worlds: what no schedule can tell.
 #![tactic(auto)]
 
-#[cfg(test)]
-mod check;
 #[cfg(test)]
 mod memory;
 #[cfg(test)]

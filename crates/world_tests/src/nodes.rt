@@ -1,65 +1,9 @@
 //! The nodes of a network, found by name; and that a call succeeds where memory is there, which no contract says.
 
-use event_codec::{PortConfig, PortIdentity};
-use network_model::{Name, NodeKind, NodeSpec, Nodes, WorldRefusal};
-use ptp_units::Seq;
+use network_model::{NodeSpec, Nodes, WorldRefusal};
 use std::alloc::Global;
 use std::test::Fail;
-
-/// The identity of a master.
-pub(crate) const MASTER: PortIdentity = PortIdentity {
-    clock: [0x00, 0x11, 0x22, 0xff, 0xfe, 0x33, 0x44, 0x55],
-    port: 1,
-};
-
-/// The identity of a slave.
-pub(crate) const SLAVE: PortIdentity = PortIdentity {
-    clock: [0x00, 0xaa, 0xbb, 0xff, 0xfe, 0xcc, 0xdd, 0xee],
-    port: 1,
-};
-
-/// The name that this text is.
-pub(crate) fn name(text: &str) -> Result<Name, Fail> {
-    Ok(Name::new(text).ok_or("no name")?)
-}
-
-fn config(identity: PortIdentity, domain: u8) -> PortConfig {
-    PortConfig {
-        identity,
-        domain,
-        log: 0,
-    }
-}
-
-/// A master whose first number is 0.
-pub(crate) fn master(text: &str, identity: PortIdentity, domain: u8) -> Result<NodeSpec, Fail> {
-    Ok(NodeSpec {
-        name: name(text)?,
-        kind: NodeKind::Master {
-            config: config(identity, domain),
-            first: Seq(0),
-        },
-    })
-}
-
-/// A slave whose first number is 0.
-pub(crate) fn slave(text: &str, identity: PortIdentity, domain: u8) -> Result<NodeSpec, Fail> {
-    Ok(NodeSpec {
-        name: name(text)?,
-        kind: NodeKind::Slave {
-            config: config(identity, domain),
-            first: Seq(0),
-        },
-    })
-}
-
-/// A transparent clock.
-pub(crate) fn clock(text: &str) -> Result<NodeSpec, Fail> {
-    Ok(NodeSpec {
-        name: name(text)?,
-        kind: NodeKind::Clock,
-    })
-}
+use worked_exchange::{MASTER, SLAVE, clock, master, name, slave};
 
 /// The number of nodes of a network, or why there is none.
 fn size(alloc: Global, nodes: &[NodeSpec]) -> Result<usize, WorldRefusal> {

@@ -1,8 +1,7 @@
 //! That a world goes on after an event that it refuses, where `replay` ends.
 
-use crate::memory::{LENGTH, ample, event, moment, specs, world};
-use crate::nodes::name;
 use std::test::Fail;
+use worked_exchange::{LENGTH, ample, event, moment, name, specs, world};
 use world_model::{Event, RunStop, WorldRefusal, run};
 
 /// Events that a world refuses in which nothing happened, and why.

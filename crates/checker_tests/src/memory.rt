@@ -1,9 +1,9 @@
-//! The checker where memory is withheld, by the script that runs these tests.
+//! The checker where memory is withheld: each growth in turn, by the script that runs these tests.
 
-use crate::memory::{LENGTH, REPORT, exchange, played, specs};
 use exchange_check::{CheckFault, Checker, TraceLine, TraceOut, Verdict, Why, check};
 use network_model::{Nodes, Report};
 use std::test::Fail;
+use worked_exchange::{LENGTH, REPORT, exchange, played, specs};
 
 /// The verdict is that of ample memory, or memory was refused, and the same lines get it then: of the
 /// exchange, and where a result is one unit more.
