@@ -22,15 +22,16 @@ use Rattle.schedule_reading.specs.Schedule.{FaultsIn}
 use Rattle.schedule_reading.specs.Transcript as transcripts
 use Rattle.schedule_reading.specs.Transcript.{Recorded}
 use Rattle.schedule_reading.proofs.OneFault.{in_text}
-use Rattle.exchange_explain.specs.declared.input.FoundInput.{FoundInput}
-use Rattle.exchange_explain.specs.declared.input.FoundInput.TheVariants as found
-use Rattle.exchange_explain.specs.declared.input.Input.{Input}
-use Rattle.exchange_explain.specs.declared.input.Input.TheVariants.{Transcript, Schedule}
-use Rattle.exchange_explain.specs.Input.{nothing, is_schedule, Faults, IsFound, FaultsAtEnd}
+use Rattle.explain_input.specs.declared.input.FoundInput.{FoundInput}
+use Rattle.explain_input.specs.declared.input.FoundInput.TheVariants as found
+use Rattle.explain_input.specs.declared.input.Input.{Input}
+use Rattle.explain_input.specs.declared.input.Input.TheVariants.{Transcript, Schedule}
+use Rattle.explain_input.specs.Input.{nothing, is_schedule, Faults, IsFound, FaultsAtEnd}
+use Rattle.explain_input.proofs.OneInput.{of_transcript, of_schedule}
+use Rattle.explain_input.proofs.Read.{transcript_rules, schedule_rules}
+use Rattle.explain_input.proofs.AsRead.{input_rules, as_transcript, transcript_faults, AsSchedule, as_schedule, schedule_faults}
 use Rattle.exchange_explain.specs.Judgements.{Told, judgement_rules, Judges}
-use Rattle.exchange_explain.proofs.OneRead.{of_transcript, of_schedule, of_line}
-use Rattle.exchange_explain.proofs.Read.{transcript_rules, schedule_rules}
-use Rattle.exchange_explain.proofs.AsRead.{input_rules, as_transcript, transcript_faults, AsSchedule, as_schedule, schedule_faults}
+use Rattle.exchange_explain.proofs.OneRead.{of_line}
 
 -- ---- what `write_judgements` answers
 

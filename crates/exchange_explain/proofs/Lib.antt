@@ -1,6 +1,4 @@
 pub mod Codes
-pub mod Events
-pub mod Faults
 pub mod Untold
 pub mod Joined
 pub mod Times
@@ -8,8 +6,6 @@ pub mod Noting
 pub mod Seen
 pub mod Reports
 pub mod OneRead
-pub mod Read
-pub mod AsRead
 pub mod Answered
 pub mod Looked
 pub mod Worked

@@ -1,5 +1,5 @@
 -- What was noted of the events of an input, behind one more line.
-use Rattle.std.proofs.Common.{◌≡◌, ◌∙◌, ◌++◌, List, [], ◌∷◌, ℕ, Option, Some, None, Ok, refl, sym, ap, subst}
+use Rattle.std.proofs.Common.{◌≡◌, ◌∙◌, ◌++◌, List, [], ◌∷◌, ℕ, Option, Some, None, refl, sym, ap, subst}
 use Rattle.std.specs.Prelude.{reverse}
 use Rattle.std.proofs.lemmas.List.{reverse-append, reverse-reverse}
 use Rattle.slave_port.specs.declared.heard.Report.{Report}
@@ -13,17 +13,14 @@ use Rattle.exchange_check.specs.Evidence.{Evidences, IsWithLine, last_by_message
 use Rattle.exchange_check.specs.declared.evidence.Evidence.{Evidence}
 use Rattle.schedule_lines.specs.declared.reading.transcript.TranscriptLine.{TranscriptLine}
 use Rattle.schedule_lines.specs.declared.reading.transcript.TranscriptLine.TheVariants as recorded
-use Rattle.schedule_reading.specs.declared.fault.TaskFault.{TaskFault}
-use Rattle.schedule_reading.specs.declared.transcript.Judged.{Judged}
-use Rattle.schedule_reading.specs.Entry.{recorded_in}
-use Rattle.schedule_reading.specs.Transcript.{Recorded, FaultsInTranscript, StopsAt, Takes, TakesAt}
-use Rattle.schedule_reading.proofs.Taking.{stops_line}
+use Rattle.schedule_reading.specs.Transcript.{Recorded}
+use Rattle.explain_input.specs.declared.input.Input.{Input}
+use Rattle.explain_input.specs.declared.input.Input.TheVariants.{Transcript, Schedule}
+use Rattle.explain_input.specs.Input.{Enters}
 use Rattle.exchange_explain.specs.Details.{details_of, last_time, octets_of}
 use Rattle.exchange_explain.specs.declared.details.Details.{Details}
 use Rattle.exchange_explain.specs.declared.details.Octets.{Octets}
-use Rattle.exchange_explain.specs.declared.input.Input.{Input}
-use Rattle.exchange_explain.specs.declared.input.Input.TheVariants.{Transcript, Schedule}
-use Rattle.exchange_explain.specs.Inner.Noting.{Enters, IsNotedOf, IsNotedIn, fed_of}
+use Rattle.exchange_explain.specs.Inner.Noting.{IsNotedOf, IsNotedIn, fed_of}
 
 -- of lines of this network
 pub noted_of : (evidence : Evidence) (nodes : Network) (lines : Lines) → IsNotedOf evidence nodes lines
@@ -37,21 +34,6 @@ pub fed_same : (fed : Fed) (nodes : Network) (lines : Lines) → (fed.network �
 fed_same fed nodes lines (same_nodes, same_lines) =
     let all : fed.lines ≡ reverse lines = sym (reverse-reverse fed.lines) ∙ ap reverse same_lines in
     λ i. record { network = same_nodes i; lines = all i }
-
--- a line is taken as what it was read as
-pub line_entered : (line : List ℕ) (entry : TranscriptLine) (judged : Option Judged) (state before later : Recorded)
-    → recorded_in line ≡ Ok entry → before ≡ state → TakesAt entry before later judged
-    → Takes line state later judged × Enters (Some entry) (Transcript state) (Transcript later)
-line_entered line entry judged state before later read same takes =
-    let at : TakesAt entry state later judged = subst (λ (s : Recorded). TakesAt entry s later judged) same takes in
-    ((entry, read, at), at.0)
-
--- or has the fault for which it isn't taken
-pub line_stopped : (fault : TaskFault) (line : List ℕ) (entry : TranscriptLine) (state before later : Recorded)
-    → recorded_in line ≡ Ok entry → before ≡ state → (later ≡ before) × StopsAt fault before entry
-    → (later ≡ state) × FaultsInTranscript fault state.nodes state.lines line
-line_stopped fault line entry state before later read same (still, stops) =
-    (still ∙ same, stops_line fault state entry line read (subst (λ (s : Recorded). StopsAt fault s entry) same stops))
 
 -- behind a node
 pub node_noted : (evidence : Evidence) (before : Input) (later : Recorded) (entry : Option TranscriptLine)

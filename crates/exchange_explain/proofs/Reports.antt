@@ -12,11 +12,11 @@ use Rattle.schedule_reading.specs.Transcript.{Recorded}
 use Rattle.report_journeys.specs.declared.reported.Reported.{Reported}
 use Rattle.exchange_story.specs.Counts.{Counts, counts_of, TellsCounts}
 use Rattle.exchange_story.specs.Report.{TellsReport}
+use Rattle.explain_input.specs.declared.input.FoundInput.TheVariants as found
+use Rattle.explain_input.specs.declared.input.Input.{Input}
+use Rattle.explain_input.specs.declared.input.Input.TheVariants.{Transcript, Schedule}
+use Rattle.explain_input.specs.Input.{lines_in, Takes, Faults}
 use Rattle.exchange_explain.specs.declared.explaining.Explaining.{Explaining}
-use Rattle.exchange_explain.specs.declared.input.FoundInput.TheVariants as found
-use Rattle.exchange_explain.specs.declared.input.Input.{Input}
-use Rattle.exchange_explain.specs.declared.input.Input.TheVariants.{Transcript, Schedule}
-use Rattle.exchange_explain.specs.Input.{lines_in, Takes, Faults}
 use Rattle.exchange_explain.specs.Explained.{Seen, Sees, TellsFound, TellsIf, TellsLine, found_text, with_report}
 use Rattle.exchange_explain.specs.Inner.Explaining.{IsExplaining, IsSeenAlike, HasEventFor, fault_kept}
 

@@ -8,10 +8,10 @@ use Rattle.schedule_reading.specs.declared.fault.TaskFault.{TaskFault}
 use Rattle.schedule_reading.specs.declared.fault.TaskFault.TheVariants.{Write}
 use Rattle.schedule_reading.specs.declared.transcript.Judged.{Judged}
 use Rattle.schedule_reading.specs.Fault.{is_write}
+use Rattle.explain_input.specs.declared.input.Input.{Input}
+use Rattle.explain_input.specs.Input.{Takes}
 use Rattle.exchange_explain.specs.declared.details.Details.{Details}
-use Rattle.exchange_explain.specs.declared.input.Input.{Input}
 use Rattle.exchange_explain.specs.Details.{details_of}
-use Rattle.exchange_explain.specs.Input.{Takes}
 use Rattle.exchange_explain.specs.Judged.{judged_text}
 use Rattle.exchange_explain.specs.Judgements.{Told, StopsJudging, is_told, told_text}
 

@@ -15,10 +15,10 @@ use Rattle.schedule_reading.specs.declared.fault.TaskFault.TheVariants.{Json, Wo
 use Rattle.schedule_reading.specs.Entry.{entry_in, recorded_in}
 use Rattle.schedule_reading.specs.Schedule.{refusal_of}
 use Rattle.schedule_reading.specs.Transcript.{Recorded}
+use Rattle.explain_input.specs.declared.input.Input.TheVariants.{Transcript}
+use Rattle.explain_input.specs.Input.{is_schedule, BeginsSchedule, Faults}
 use Rattle.exchange_explain.specs.declared.explaining.Explained.TheVariants.{Flawed}
-use Rattle.exchange_explain.specs.declared.input.Input.TheVariants.{Transcript}
 use Rattle.exchange_explain.specs.Explained.{Explains}
-use Rattle.exchange_explain.specs.Input.{is_schedule, BeginsSchedule, Faults}
 use Rattle.exchange_explain.specs.Judgements.{Judges}
 
 abbrev pub clock : NodeSpec

@@ -10,11 +10,11 @@ use Rattle.trace_model.specs.Line.{Lines}
 use Rattle.trace_model.specs.Record.{LinePlace, line_number, line_place, reading, site}
 use Rattle.trace_model.specs.Sound.{Exchange, exchange_of, unbroken}
 use Rattle.exchange_check.specs.Evidence.{last_by_messages, last_finding, last_otherwise}
+use Rattle.explain_input.specs.declared.input.Input.{Input}
+use Rattle.explain_input.specs.declared.input.Input.TheVariants.{Transcript, Schedule}
 use Rattle.exchange_explain.specs.declared.details.Details.{Details}
 use Rattle.exchange_explain.specs.declared.details.Octets.{Octets}
 use Rattle.exchange_explain.specs.declared.details.Octets.TheVariants.{Told, Other}
-use Rattle.exchange_explain.specs.declared.input.Input.{Input}
-use Rattle.exchange_explain.specs.declared.input.Input.TheVariants.{Transcript, Schedule}
 
 -- what the slave read at the last of the two event messages of an exchange: as the Sync came, or as the Delay_Req left
 abbrev pub last_reading : Exchange → ℕ

@@ -22,12 +22,12 @@ use Rattle.schedule_reading.specs.Verdict.{verdict_text}
 use Rattle.report_journeys.specs.declared.reported.Reported.{Reported}
 use Rattle.exchange_story.specs.Counts.{counts_of, TellsCounts}
 use Rattle.exchange_story.specs.Report.{TellsReport}
+use Rattle.explain_input.specs.declared.input.FoundInput.{FoundInput}
+use Rattle.explain_input.specs.declared.input.FoundInput.TheVariants.{Transcript, Schedule}
+use Rattle.explain_input.specs.declared.input.Input.{Input}
+use Rattle.explain_input.specs.Input.{nothing, lines_in, Takes, Faults, IsFound, FaultsAtEnd}
 use Rattle.exchange_explain.specs.declared.explaining.Explained.{Explained}
 use Rattle.exchange_explain.specs.declared.explaining.Explained.TheVariants.{Whole, Flawed}
-use Rattle.exchange_explain.specs.declared.input.FoundInput.{FoundInput}
-use Rattle.exchange_explain.specs.declared.input.FoundInput.TheVariants.{Transcript, Schedule}
-use Rattle.exchange_explain.specs.declared.input.Input.{Input}
-use Rattle.exchange_explain.specs.Input.{nothing, lines_in, Takes, Faults, IsFound, FaultsAtEnd}
 use Rattle.exchange_explain.specs.Judgements.{is_told}
 
 -- whether only the first report that is refused is told; the lines up to the first that has a fault; the reasons against

@@ -1,9 +1,6 @@
 -- What `write_judgements` answers and writes, by the input that it reads.
-use Rattle.std.specs.Prelude.{◌≡◌, ◌≢◌, ℕ, ◌==◌, Bool, true, false, List, [], if◌then◌else◌, Option, Some, None, Result}
+use Rattle.std.specs.Prelude.{◌≡◌, ◌≢◌, ℕ, Bool, true, List, [], if◌then◌else◌, Option, Some, None, Result}
 use Rattle.std.specs.Option.{ForSome}
-use Rattle.trace_model.specs.declared.verdict.Verdict.{Verdict}
-use Rattle.trace_model.specs.declared.verdict.Verdict.TheVariants as verdicts
-use Rattle.trace_model.specs.Verdict.{verdict}
 use Rattle.text_lines.specs.declared.counted.Counted.{Counted}
 use Rattle.text_lines.specs.declared.fault.Cause.{Cause}
 use Rattle.text_lines.specs.declared.fault.Stopped.{Stopped}
@@ -14,10 +11,9 @@ use Rattle.schedule_reading.specs.declared.fault.TaskFault.TheVariants.{Write}
 use Rattle.schedule_reading.specs.declared.transcript.Judged.{Judged}
 use Rattle.text_lines.specs.Lines.{lines_limit}
 use Rattle.schedule_reading.specs.Fault.{is_write}
-use Rattle.exchange_explain.specs.declared.input.FoundInput.{FoundInput}
-use Rattle.exchange_explain.specs.declared.input.Input.{Input}
-use Rattle.exchange_explain.specs.declared.input.Input.TheVariants.{Transcript, Schedule}
-use Rattle.exchange_explain.specs.Input.{nothing, Takes, Faults, IsFound, FaultsAtEnd}
+use Rattle.explain_input.specs.declared.input.FoundInput.{FoundInput}
+use Rattle.explain_input.specs.declared.input.Input.{Input}
+use Rattle.explain_input.specs.Input.{nothing, is_first_refused, Takes, Faults, IsFound, FaultsAtEnd}
 use Rattle.exchange_explain.specs.Details.{details_of}
 use Rattle.exchange_explain.specs.Judged.{judged_text}
 
@@ -25,16 +21,6 @@ use Rattle.exchange_explain.specs.Judged.{judged_text}
 pub record Told : Type 0 where
   pub first : Bool
   pub input : Input
-
--- whether a verdict names the line of this number
-abbrev pub names_line : ℕ → Verdict → Bool
-names_line number (verdicts.Accepted count) = false
-names_line number (verdicts.Refused line why) = line == number
-
--- whether the event of this number gave the first report that is refused, by an input up to that event
-abbrev pub is_first_refused : ℕ → Input → Bool
-is_first_refused number (Transcript state) = names_line number (verdict state.nodes state.lines)
-is_first_refused number (Schedule state) = false
 
 -- whether a report is told: each, or the first that is refused
 abbrev pub is_told : Bool → ℕ → Input → Bool

@@ -1,4 +1,3 @@
-pub mod Input
 pub mod Judged
 pub mod Details
 pub mod Judgements

@@ -3,12 +3,13 @@ ghost use Rattle.std.specs.Prelude.{◌≡◌, MatchResult, reverse};
 ghost use Rattle.trace_model.specs.declared.verdict.Why.TheVariants.{Bytes};
 ghost use Rattle.exchange_check.specs.Evidence.{Evidences, last_finding, last_otherwise};
 ghost use Rattle.schedule_reading.specs.declared.fault.TaskFault.TheVariants.{Memory};
+ghost use Rattle.explain_input.specs.Input.{Enters};
 ghost use Rattle.exchange_explain.specs.Details.{details_of, fields_of, last_time, octets_of};
-ghost use Rattle.exchange_explain.specs.Inner.Noting.{Enters, IsNotedIn};
+ghost use Rattle.exchange_explain.specs.Inner.Noting.{IsNotedIn};
 ghost use Rattle.exchange_explain.specs.Inner.Times.{later_reading};
 
-use crate::input::{Input, Taken};
 use exchange_check::{Checker, Evidence, ExchangeLine, Finding, Results, Why};
+use explain_input::{Input, Taken};
 use network_model::Report;
 use ptp_units::ScaledTime;
 use schedule_lines::TranscriptLine;

@@ -6,20 +6,20 @@ ghost use Rattle.schedule_reading.specs.declared.fault.TaskFault.TheVariants.{Wo
 ghost use Rattle.schedule_reading.specs.Fault.{is_write};
 ghost use Rattle.exchange_story.specs.Counts.{counts_of};
 ghost use Rattle.exchange_story.specs.Report.{TellsReport};
+ghost use Rattle.explain_input.specs.Input.{lines_in};
 ghost use Rattle.exchange_explain.specs.declared.explaining.Explained.TheVariants.{Flawed};
 ghost use Rattle.text_lines.specs.Counted.{device_of, failures_of, HasFailedIf, HasNotFailed};
 ghost use Rattle.text_lines.specs.Lines.{input_limit, lines_limit, GivesWithin};
 ghost use Rattle.exchange_explain.specs.Explained.{Seen, Sees, EndsIn, TellsEnd, TellsFound, TellsIf, TellsLine};
 ghost use Rattle.exchange_explain.specs.Explained.{explain_rules, reported_of, with_report};
 ghost use Rattle.exchange_explain.specs.Explained.{ExplainsAnswer, ExplainFailedWith, WritesMore};
-ghost use Rattle.exchange_explain.specs.Input.{lines_in};
 ghost use Rattle.exchange_explain.specs.Judgements.{is_told};
 ghost use Rattle.exchange_explain.specs.Inner.Explaining.{IsExplaining, IsKeptAlike, IsSeenAlike, HasEvent, HasEventFor};
 
 use crate::flaws::{Flaws, push_foreign};
 use crate::found::push_found;
-use crate::input::{FoundInput, Input, Taken};
 use exchange_story::Story;
+use explain_input::{FoundInput, Input, Taken};
 use line_flaws::Foreign;
 use network_model::WorldRefusal;
 use obstacle_text::{Before, push_clash};

@@ -1,7 +1,7 @@
 //! The lines of an input that aren't what is asked for.
 ghost use Rattle.std.specs.Prelude.{◌≡◌};
 
-use crate::input::Input;
+use explain_input::Input;
 use line_flaws::{FileForm, Flaw, FlawAt, Foreign, schedule_flaw, transcript_flaw};
 use network_model::WorldRefusal;
 use obstacle_text::{Before, RefusedEvent, push_clash, push_refused};

@@ -2,7 +2,7 @@
 ghost use Rattle.std.specs.Prelude.{◌≡◌, ◌++◌, OnOk, string_bytes};
 ghost use Rattle.exchange_explain.specs.Explained.{found_text, happening_text};
 
-use crate::input::FoundInput;
+use explain_input::FoundInput;
 use schedule_reading::push_verdict;
 use std::alloc::AllocError;
 

@@ -7,9 +7,9 @@ ghost use Rattle.exchange_explain.specs.Judgements.{Told, is_told, judgement_rul
 ghost use Rattle.exchange_explain.specs.Inner.Noting.{IsNotedIn};
 
 use crate::details::{details_of, note};
-use crate::input::{FoundInput, Input};
 use crate::json::push_judged;
 use exchange_check::Evidence;
+use explain_input::{FoundInput, Input};
 use schedule_reading::TaskFault;
 use std::alloc::Global;
 use std::io::{Read, Write};

@@ -6,12 +6,10 @@ mod details;
 mod explaining;
 mod flaws;
 mod found;
-mod input;
 mod json;
 mod judgements;
-mod schedule;
 
 pub use details::{Details, Octets};
+pub use explain_input::FoundInput;
 pub use explaining::{Explained, explain};
-pub use input::FoundInput;
 pub use judgements::write_judgements;

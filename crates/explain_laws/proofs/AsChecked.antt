@@ -21,12 +21,12 @@ use Rattle.transcript_text.specs.OneAnswer.{IsOfInput}
 use Rattle.transcript_text.specs.Replay as replays
 use Rattle.transcript_text.specs.Replay.{replay_rules}
 use Rattle.transcript_text.proofs.OneAnswer.{IsDevices, sure_cause, told_as, IsTold, is_told}
+use Rattle.explain_input.specs.declared.input.FoundInput.{FoundInput}
+use Rattle.explain_input.specs.declared.input.FoundInput.TheVariants.{Transcript, Schedule}
+use Rattle.explain_input.proofs.Read.{transcript_rules, transcript_course, Does, schedule_rules, schedule_course}
 use Rattle.exchange_explain.specs.declared.explaining.Explained.{Explained}
 use Rattle.exchange_explain.specs.declared.explaining.Explained.TheVariants.{Whole, Flawed}
-use Rattle.exchange_explain.specs.declared.input.FoundInput.{FoundInput}
-use Rattle.exchange_explain.specs.declared.input.FoundInput.TheVariants.{Transcript, Schedule}
 use Rattle.exchange_explain.proofs.OneRead.{judges_one}
-use Rattle.exchange_explain.proofs.Read.{transcript_rules, transcript_course, Does, schedule_rules, schedule_course}
 use Rattle.exchange_explain.proofs.Answered.{judged_read, IsReadAs, transcript_read, schedule_read}
 use Rattle.exchange_explain.proofs.Looked.{IsBeside as IsReadBeside, explained}
 use Rattle.explain_laws.specs.AsChecked.{JudgementsHaveOneAnswer, fault_told, IsSame, JudgesAsChecked}

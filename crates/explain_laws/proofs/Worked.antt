@@ -17,13 +17,13 @@ use Rattle.schedule_reading.specs.declared.fault.TaskFault.TheVariants.{Json, Wo
 use Rattle.trace_model.specs.declared.verdict.Why.TheVariants.{WrongValue, Bytes}
 use Rattle.schedule_lines.proofs.Names.{IsName-from_test}
 use Rattle.schedule_reading.specs.declared.transcript.Judged.{Judged}
+use Rattle.explain_input.specs.declared.input.FoundInput.{FoundInput}
+use Rattle.explain_input.specs.declared.input.FoundInput.TheVariants.{Transcript, Schedule}
+use Rattle.explain_input.specs.Input.{is_schedule}
 use Rattle.exchange_explain.specs.declared.details.Details.{Details}
 use Rattle.exchange_explain.specs.declared.details.Octets.TheVariants.{Told}
 use Rattle.exchange_explain.specs.Judged.{judged_text}
 use Rattle.exchange_explain.specs.declared.explaining.Explained.TheVariants.{Flawed}
-use Rattle.exchange_explain.specs.declared.input.FoundInput.{FoundInput}
-use Rattle.exchange_explain.specs.declared.input.FoundInput.TheVariants.{Transcript, Schedule}
-use Rattle.exchange_explain.specs.Input.{is_schedule}
 use Rattle.exchange_explain.specs.Judgements.{Judges}
 use Rattle.exchange_explain.proofs.Worked.{clock, clock_recorded, clock_scheduled, no_json, x_recorded, no_json_is, no_json_judged, no_json_explained}
 use Rattle.exchange_explain.proofs.Worked.{clock_ticks, tick_scheduled, tick_refused, clock_ticks_is, clock_ticks_judged}

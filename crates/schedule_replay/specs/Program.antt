@@ -12,10 +12,10 @@ use Rattle.command_line.specs.declared.commands.Subcommand.TheVariants.{Show, Re
 use Rattle.command_line.specs.declared.commands.extract.ExtractOptions.{ExtractOptions}
 use Rattle.command_line.specs.declared.commands.measure.MeasureOptions.{MeasureOptions}
 use Rattle.command_line.specs.declared.commands.explain.ExplainOptions.{ExplainOptions}
+use Rattle.explain_input.specs.declared.input.FoundInput.{FoundInput}
+use Rattle.explain_input.specs.declared.input.FoundInput.TheVariants.{Transcript, Schedule}
 use Rattle.exchange_explain.specs.declared.explaining.Explained.{Explained}
 use Rattle.exchange_explain.specs.declared.explaining.Explained.TheVariants.{Whole, Flawed}
-use Rattle.exchange_explain.specs.declared.input.FoundInput.{FoundInput}
-use Rattle.exchange_explain.specs.declared.input.FoundInput.TheVariants.{Transcript, Schedule}
 use Rattle.schedule_reading.specs.declared.fault.TaskFault.{TaskFault}
 use Rattle.exchange_explain.specs.Explained.{ExplainsAnswer, ExplainFailedWith}
 use Rattle.exchange_explain.specs.Judgements.{JudgesAnswer, judgement_rules}

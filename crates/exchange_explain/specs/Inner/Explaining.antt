@@ -3,10 +3,10 @@ use Rattle.std.specs.Prelude.{◌≡◌, ◌≢◌, ℕ, [], Option, Some, None,
 use Rattle.schedule_reading.specs.declared.fault.TaskFault.{TaskFault}
 use Rattle.schedule_reading.specs.declared.transcript.Judged.{Judged}
 use Rattle.exchange_story.specs.Counts.{counts_of}
+use Rattle.explain_input.specs.declared.input.Input.{Input}
+use Rattle.explain_input.specs.declared.input.Input.TheVariants.{Transcript, Schedule}
 use Rattle.exchange_explain.specs.declared.explaining.Explaining.{Explaining}
 use Rattle.exchange_explain.specs.declared.flaws.Flaws.{Flaws}
-use Rattle.exchange_explain.specs.declared.input.Input.{Input}
-use Rattle.exchange_explain.specs.declared.input.Input.TheVariants.{Transcript, Schedule}
 use Rattle.exchange_explain.specs.Explained.{Seen}
 
 -- the first fault of an input, as it is kept

@@ -1,20 +1,12 @@
 -- What was noted of the events of an input.
-use Rattle.std.specs.Prelude.{[], ◌∷◌, reverse, Option, Some, None, ⊤}
+use Rattle.std.specs.Prelude.{[], ◌∷◌, reverse, ⊤}
 use Rattle.network_model.specs.Network.{Network}
 use Rattle.trace_model.specs.Line.{Lines}
 use Rattle.exchange_check.specs.Evidence.{Evidences, unbegun}
 use Rattle.exchange_check.specs.Transcript.{Transcript as Fed}
 use Rattle.exchange_check.specs.declared.evidence.Evidence.{Evidence}
-use Rattle.schedule_lines.specs.declared.reading.transcript.TranscriptLine.{TranscriptLine}
-use Rattle.schedule_reading.specs.Transcript.{Follows}
-use Rattle.exchange_explain.specs.declared.input.Input.{Input}
-use Rattle.exchange_explain.specs.declared.input.Input.TheVariants.{Transcript, Schedule}
-
--- one more line of a transcript is this entry; of a schedule there is none
-abbrev pub Enters : Option TranscriptLine → (input later : Input) → Type 0
-Enters (Some entry) (Transcript state) (Transcript later) = Follows entry state later
-Enters None input (Schedule later) = ⊤
-Enters _ _ _ = ⊥
+use Rattle.explain_input.specs.declared.input.Input.{Input}
+use Rattle.explain_input.specs.declared.input.Input.TheVariants.{Transcript, Schedule}
 
 -- nodes, and lines on what happened, of which the newest is in front
 abbrev pub fed_of : Network → Lines → Fed

@@ -1,11 +1,11 @@
 //! A schedule, replayed event by event.
-ghost use Rattle.std.specs.Prelude.{◌≡◌, ◌≢◌, MatchOption, MatchResult, None, length};
+ghost use Rattle.std.specs.Prelude.{◌≡◌, ◌≢◌, [], ◌∷◌, IfOk, MatchOption, MatchResult, None, length, reverse};
 ghost use Rattle.network_model.specs.declared.event.Event.{Event};
 ghost use Rattle.network_model.specs.Clash.{first_clash};
 ghost use Rattle.world_model.specs.State.{new_state};
 ghost use Rattle.schedule_reading.specs.Schedule.{FaultsIn};
-ghost use Rattle.exchange_explain.specs.Input.{Happens, TakesEvent};
-ghost use Rattle.exchange_explain.specs.Inner.Schedule.{Refuses};
+ghost use Rattle.explain_input.specs.Input.{Happens, TakesEvent};
+ghost use Rattle.explain_input.specs.Inner.Schedule.{Refuses};
 
 use network_model::{Event, NodeSpec, Nodes};
 use schedule_lines::Line;
@@ -14,9 +14,9 @@ use std::alloc::{AllocError, Global};
 use std::marker::Model;
 use world_model::World;
 
-/// The world in which the events of a schedule happened so far.
+/// The world in which the events of a schedule happened so far. There is one event at least.
 #[derive(Drop)]
-pub(crate) struct Scheduled {
+pub struct Scheduled {
     world: World,
     /// How many nodes it has.
     nodes: u64,
@@ -25,7 +25,7 @@ pub(crate) struct Scheduled {
 }
 
 impl Model for Scheduled {
-    ghost use Rattle.std.specs.Prelude.{◌≡◌, ◌≢◌, [], length, None};
+    ghost use Rattle.std.specs.Prelude.{◌≡◌, ◌≢◌, [], length, reverse, None};
     ghost use Rattle.network_model.specs.Clash.{first_clash};
     ghost use Rattle.world_model.specs.State.{State};
 
@@ -34,7 +34,7 @@ impl Model for Scheduled {
     ghost view = { λ s. s.world };
 
     ghost invariant = { λ s. (first_clash s.world.network ≡ None) × (s.world.run ≢ [])
-        × (s.nodes ≡ length s.world.network) };
+        × (s.nodes ≡ length s.world.network) × (reverse s.events.items ≡ s.world.run) };
 }
 
 impl Scheduled {
@@ -88,7 +88,7 @@ impl Scheduled {
     }
 
     /// How many events happened.
-    pub(crate) fn len(&self) -> u64
+    pub fn len(&self) -> u64
         ensures { result ≡ length self.now.run }
     {
         self.world.len()
@@ -102,7 +102,9 @@ impl Scheduled {
     }
 
     /// These events, the oldest first.
-    pub(crate) fn events(&self) -> &[Event] {
+    pub(crate) fn events(&self) -> &[Event]
+        ensures { reverse result.now ≡ self.now.run }
+    {
         self.events.as_slice()
     }
 }
@@ -144,7 +146,9 @@ fn step(world: &mut World, event: &Event) -> Option<TaskFault>
 }
 
 /// One event alone.
-fn one_event(alloc: Global, event: Event) -> Result<Vec<Event>, AllocError> {
+fn one_event(alloc: Global, event: Event) -> Result<Vec<Event>, AllocError>
+    ensures { IfOk result (λ events. events.items ≡ event ∷ []) }
+{
     let mut events: Vec<Event> = Vec::new(alloc);
     events.push(event)?;
     Ok(events)

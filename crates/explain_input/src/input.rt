@@ -1,13 +1,12 @@
 //! What the lines of an input are: a transcript or a schedule.
-ghost use Rattle.std.specs.Prelude.{◌≡◌, ◌≢◌, ◌⊎◌, ◌+◌, [], MatchOption, MatchResult, None};
+ghost use Rattle.std.specs.Prelude.{◌≡◌, ◌≢◌, ◌⊎◌, ◌+◌, [], reverse, MatchOption, MatchResult, None};
 ghost use Rattle.network_model.specs.declared.event.Event.{Event};
 ghost use Rattle.world_model.specs.State.{new_state};
 ghost use Rattle.schedule_reading.specs.Schedule.{FaultsIn};
 ghost use Rattle.schedule_reading.specs.Transcript as transcripts;
-ghost use Rattle.exchange_explain.specs.declared.input.Input.TheVariants as inputs;
-ghost use Rattle.exchange_explain.specs.Judgements.{is_first_refused};
-ghost use Rattle.exchange_explain.specs.Input.{nothing, BeginsSchedule, Happens, Takes, Faults, IsFound, FaultsAtEnd, lines_in};
-ghost use Rattle.exchange_explain.specs.Inner.Noting.{Enters};
+ghost use Rattle.explain_input.specs.declared.input.Input.TheVariants as inputs;
+ghost use Rattle.explain_input.specs.Input.{nothing, lines_in, run_in, is_first_refused, BeginsSchedule, Happens};
+ghost use Rattle.explain_input.specs.Input.{Takes, Enters, Faults, IsFound, FaultsAtEnd};
 
 use crate::schedule::Scheduled;
 use exchange_check::Verdict;
@@ -25,22 +24,23 @@ pub enum FoundInput {
     Schedule(u64),
 }
 
-/// What the lines of an input are so far. Nodes alone are a transcript.
+/// What the lines of an input are so far. Nodes alone are a transcript; where the first event has no record of what came
+/// of it, the input is a schedule from there on.
 #[derive(Drop)]
-pub(crate) enum Input {
-    /// A transcript.
+pub enum Input {
+    /// A transcript, whose reports are judged.
     Transcript(Transcript),
-    /// A schedule.
+    /// A schedule, whose events happen.
     Schedule(Scheduled),
 }
 
 /// A line that was taken.
 #[derive(Drop)]
-pub(crate) struct Taken {
+pub struct Taken {
     /// What a line of a transcript is; none of a schedule.
-    pub(crate) entry: Option<TranscriptLine>,
+    pub entry: Option<TranscriptLine>,
     /// The report of the line with what it is judged to be; none where it has none.
-    pub(crate) judged: Option<Judged>,
+    pub judged: Option<Judged>,
 }
 
 impl Taken {
@@ -57,15 +57,20 @@ impl Taken {
 
 impl Input {
     /// No line was read.
-    pub(crate) fn new(alloc: Global) -> Input
+    pub fn new(alloc: Global) -> Input
         ensures { result ≡ nothing }
     {
         Input::Transcript(Transcript::new(alloc))
     }
 
-    /// One more line. Answers what it is, and the report of the line with what it is judged to be; none where the line has
-    /// no report.
-    pub(crate) fn take(&mut self, alloc: Global, line: &[u8]) -> Result<Taken, TaskFault>
+    /// Takes one more line, given without its end. Answers what it is, and the report of the line with what it is judged to
+    /// be; none where the line has no report.
+    ///
+    /// Refused with `Json` (805) for a line that is no JSON; `Field` (806) for one that is neither a node nor an event, a
+    /// node after an event, a recorded event whose number isn't its place among the events, from 0, or one of the other
+    /// kind than the events before; `World` (807) where the nodes are no network, or an event of a schedule can't happen
+    /// in it; and `Memory` (808). The input is then as it was.
+    pub fn take(&mut self, alloc: Global, line: &[u8]) -> Result<Taken, TaskFault>
         ensures { MatchResult result
             (λ taken. Takes line.now self.old self.new taken.judged × Enters taken.entry self.old self.new)
             (λ fault. (self.new ≡ self.old) × Faults fault self.old line.now) }
@@ -90,8 +95,8 @@ impl Input {
         }
     }
 
-    /// Whether the event of this number, which is the last, gave the first report that is refused.
-    pub(crate) fn is_first_refused(&self, event: u64) -> bool
+    /// Whether the event of this number, counted from 0, gave the first report that is refused. No event of a schedule did.
+    pub fn is_first_refused(&self, event: u64) -> bool
         ensures { result ≡ is_first_refused event self.now }
     {
         match self {
@@ -103,8 +108,8 @@ impl Input {
         }
     }
 
-    /// The number of the next line, counted from 1. More lines than can be counted are refused as want of memory.
-    pub(crate) fn next_line(&self) -> Result<u64, TaskFault>
+    /// The number of the next line, counted from 1. More lines than can be counted are refused as want of memory (808).
+    pub fn next_line(&self) -> Result<u64, TaskFault>
         ensures { MatchResult result
             (λ line. line ≡ lines_in self.now + 1)
             (λ fault. fault ≡ TaskFault.Memory) }
@@ -118,15 +123,18 @@ impl Input {
     }
 
     /// The events of a schedule so far, the oldest first; none of a transcript.
-    pub(crate) fn events(&self) -> &[Event] {
+    pub fn events(&self) -> &[Event]
+        ensures { reverse result.now ≡ run_in self.now }
+    {
         match self {
             Input::Transcript(_) => &[],
             Input::Schedule(scheduled) => scheduled.events(),
         }
     }
 
-    /// What the whole input is.
-    pub(crate) fn found(&self) -> Result<FoundInput, TaskFault>
+    /// What the whole input is. Refused with `World` (807) where there was no event and the nodes are no network, and with
+    /// `Memory` (808).
+    pub fn found(&self) -> Result<FoundInput, TaskFault>
         ensures { MatchResult result
             (λ found. IsFound self.now found)
             (λ fault. FaultsAtEnd fault self.now) }

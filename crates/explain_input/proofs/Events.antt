@@ -10,7 +10,7 @@ use Rattle.network_model.specs.Clash.{first_clash}
 use Rattle.world_model.specs.State.{State, new_state, IsRefused}
 use Rattle.schedule_reading.specs.Fault.{fault_of}
 use Rattle.schedule_reading.specs.Schedule.{refusal_of}
-use Rattle.exchange_explain.specs.Inner.Schedule.{Refuses}
+use Rattle.explain_input.specs.Inner.Schedule.{Refuses}
 
 -- where it is known by what an event is refused, it is known of the fault by which that is told
 told : (why : WorldRefusal) (state : State) (event : Event) → refusal_of state.network state.run event ≡ Some why

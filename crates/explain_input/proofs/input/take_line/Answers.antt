@@ -1,5 +1,5 @@
-use Rattle.exchange_explain.proofs.Noting.{line_entered}
-use Rattle.exchange_explain.proofs.input.take_line.Goals as goal
+use Rattle.explain_input.proofs.Entered.{line_entered}
+use Rattle.explain_input.proofs.input.take_line.Goals as goal
 
 pub returns : goal.returns
 returns c =

@@ -6,9 +6,9 @@ use Rattle.world_model.specs.State.{State}
 use Rattle.schedule_reading.specs.declared.fault.TaskFault.{TaskFault}
 use Rattle.schedule_reading.specs.declared.fault.TaskFault.TheVariants.{Write, Json, Field, World, Memory}
 use Rattle.schedule_reading.specs.Transcript.{Recorded, FaultsInTranscript}
-use Rattle.exchange_explain.specs.declared.input.Input.{Input}
-use Rattle.exchange_explain.specs.declared.input.Input.TheVariants.{Transcript}
-use Rattle.exchange_explain.specs.Input.{BeginsSchedule, Faults}
+use Rattle.explain_input.specs.declared.input.Input.{Input}
+use Rattle.explain_input.specs.declared.input.Input.TheVariants.{Transcript}
+use Rattle.explain_input.specs.Input.{BeginsSchedule, Faults}
 
 -- a line of a transcript
 pub transcript_fault : (fault : TaskFault) (state : Recorded) (line : List ℕ)

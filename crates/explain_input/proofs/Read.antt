@@ -19,7 +19,7 @@ use Rattle.schedule_reading.specs.Schedule.{FaultsIn, FaultsAtEnd}
 use Rattle.schedule_reading.specs.Transcript.{Recorded, Follows, FaultsInTranscript, HasNoChecker}
 use Rattle.schedule_reading.proofs.OneFault.{in_text, of_writer, same_fault, where_begun, entry_fault, the_fault, happens_well, clash_at_end}
 use Rattle.schedule_reading.proofs.OneFault.{no_clash, record_fault, the_record_fault, no_record_fault, one_recorded, no_checker}
-use Rattle.exchange_explain.specs.Input.{Happens}
+use Rattle.explain_input.specs.Input.{Happens}
 
 -- ---- a transcript
 

@@ -1,5 +1,5 @@
-use Rattle.exchange_explain.proofs.Faults.{not_taken}
-use Rattle.exchange_explain.proofs.input.Input.take.Goals as goal
+use Rattle.explain_input.proofs.Faults.{not_taken}
+use Rattle.explain_input.proofs.input.Input.take.Goals as goal
 
 pub returns-in-Ok-None : goal.returns-in-Ok-None
 returns-in-Ok-None c =

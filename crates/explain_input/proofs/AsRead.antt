@@ -1,4 +1,4 @@
--- Octets are read as a transcript or as a schedule, by what `write_judgements` answers over them.
+-- Lines are read as a transcript or as a schedule, whatever is told of them.
 use Rattle.std.proofs.Common.{◌≡◌, ◌≢◌, ◌∙◌, ◌⊎◌, inl, inr, ℕ, ◌+◌, Bool, true, false, List, [], ◌∷◌, ◌++◌}
 use Rattle.std.proofs.Common.{Option, Some, None, Result, Ok, Err, refl, sym, ap}
 use Rattle.network_model.specs.Clash.{first_clash}
@@ -18,14 +18,14 @@ use Rattle.schedule_reading.specs.Schedule.{FaultsIn}
 use Rattle.schedule_reading.specs.Transcript.{Recorded, Follows}
 use Rattle.schedule_reading.proofs.OneFault.{IsInText, where_begun, record_fault, the_record_fault}
 use Rattle.schedule_reading.proofs.OneForm.{one_form, recorded_node, scheduled_node}
-use Rattle.exchange_explain.specs.declared.input.FoundInput.{FoundInput}
-use Rattle.exchange_explain.specs.declared.input.Input.{Input}
-use Rattle.exchange_explain.specs.declared.input.Input.TheVariants.{Transcript, Schedule}
-use Rattle.exchange_explain.specs.Input.{is_schedule_from, is_schedule, Takes, Faults, IsFound, FaultsAtEnd}
-use Rattle.exchange_explain.proofs.OneRead.{FaultsBegun}
-use Rattle.exchange_explain.proofs.Read.{transcript_rules, schedule_rules}
+use Rattle.explain_input.specs.declared.input.FoundInput.{FoundInput}
+use Rattle.explain_input.specs.declared.input.Input.{Input}
+use Rattle.explain_input.specs.declared.input.Input.TheVariants.{Transcript, Schedule}
+use Rattle.explain_input.specs.Input.{is_schedule_from, is_schedule, Takes, Faults, IsFound, FaultsAtEnd}
+use Rattle.explain_input.proofs.OneInput.{FaultsBegun}
+use Rattle.explain_input.proofs.Read.{transcript_rules, schedule_rules}
 
--- how an input is read, whatever is told of it
+-- how an input is read
 abbrev pub input_rules : Rules Input FoundInput TaskFault
 input_rules = record {
   lines_limit = lines_limit;
