@@ -145,7 +145,7 @@ pub fn exchange() -> Result<[Event; LENGTH], Fail> {
 }
 
 /// A world in which nothing happened, or None where memory was refused.
-fn begun(alloc: Global) -> Result<Option<World>, Fail> {
+pub fn begun(alloc: Global) -> Result<Option<World>, Fail> {
     match world(alloc, &specs()?) {
         Ok(world) => Ok(Some(world)),
         Err(WorldRefusal::Memory) => Ok(None),
