@@ -1,5 +1,5 @@
 -- How many lines of an input were read.
-use Rattle.std.proofs.Common.{◌≡◌, ℕ, suc, ◌+◌, List, [], ◌∷◌, length, Option, ap, arith, length-append}
+use Rattle.std.proofs.Common.{◌≡◌, ◌∙◌, ℕ, suc, ◌+◌, List, [], ◌∷◌, length, Option, ap, arith, length-append}
 use Rattle.world_model.specs.State.{State}
 use Rattle.trace_model.specs.Line.{Lines}
 use Rattle.schedule_lines.specs.declared.reading.transcript.TranscriptLine.TheVariants as recorded
