@@ -1,7 +1,7 @@
 -- What is counted while an input is measured: what each datagram is, and why it gave no report, if it gave none. Lists have the
 -- newest in front.
-use Rattle.std.specs.Prelude.{◌≡◌, ℕ, ◌+◌, ◌-◌, ◌*◌, ◌^◌, ◌==◌, nat_lt, min, Bool, true, false, not, ◌&&◌, ◌||◌, is_some}
-use Rattle.std.specs.Prelude.{if◌then◌else◌, List, [], ◌∷◌, ◌++◌, length, drop, map, filter_map, count_by, slice_index}
+use Rattle.std.specs.Prelude.{◌≡◌, ℕ, ◌-◌, ◌^◌, ◌==◌, nat_lt, min, Bool, true, false, not, ◌&&◌, ◌||◌, is_some}
+use Rattle.std.specs.Prelude.{if◌then◌else◌, List, [], ◌∷◌, ◌++◌, length, drop, map, filter_map, count_by}
 use Rattle.std.specs.Prelude.{Option, Some, None, Ok, Err, option_map}
 use Rattle.std.specs.Option.{option_map_or}
 use Rattle.std.specs.Result.{result_err}

@@ -1,4 +1,4 @@
-//! How many datagrams gave no report, by what they are and by why they gave none.
+//! What each datagram counts as: what it is, why it gave no report if it gave none, and who began anew by it.
 
 ghost use Rattle.std.specs.Prelude.{◌≡◌, List, [], ◌∷◌, map, Some, None};
 ghost use Rattle.measure_summary.specs.Counts.{with_one, with_unreported};
