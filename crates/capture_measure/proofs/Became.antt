@@ -1,6 +1,6 @@
 -- What became of a message says why it gave no report, and who began anew by it.
-use Rattle.std.proofs.Common.{◌≡◌, ℕ, Bool, true, false, Option, Some, None, Ok, refl, ap}
-use Rattle.std.specs.Prelude.{if◌then◌else◌, ◌&&◌, not, ◌==◌, option_map, option_and_then}
+use Rattle.std.proofs.Common.{◌≡◌, ℕ, Bool, true, false, Option, Some, None, Ok, refl}
+use Rattle.std.specs.Prelude.{if◌then◌else◌, ◌&&◌, not, ◌==◌, option_map}
 use Rattle.std.specs.Option.{option_map_or}
 use Rattle.event_codec.specs.declared.message.Header.{Header}
 use Rattle.event_codec.specs.declared.message.Body.{Body}
@@ -12,34 +12,17 @@ use Rattle.sync_watch.specs.Told.{Arrival}
 use Rattle.sync_watch.specs.Judged.{judged_sync}
 use Rattle.slave_port.specs.History.{Call, Event, General}
 use Rattle.capture_model.specs.declared.watched.Watched.{Watched}
-use Rattle.capture_model.specs.Listening.{Listening, table_capacity, is_of, arrival_of, answered}
-use Rattle.capture_model.specs.Listening.{ready_judged, answer_in}
-use Rattle.capture_measure.specs.declared.listener.Became.{Became}
-use Rattle.capture_measure.specs.declared.listener.Became.TheVariants as became
-use Rattle.capture_measure.specs.declared.listener.Reply.{Reply}
+use Rattle.capture_model.specs.Listening.{Listening, table_capacity, is_of, arrival_of, ready_judged, answer_in}
+use Rattle.recording_listener.specs.declared.listener.Reply.{Reply}
+use Rattle.recording_listener.specs.Beginnings.{begins_judged, sync_begins}
+use Rattle.recording_listener.specs.Became.{became_by, became_called, became_of}
+use Rattle.recording_listener.proofs.Replied.{own, asked}
 use Rattle.measure_summary.specs.declared.no_report.NoReport.TheVariants as whys
-use Rattle.capture_measure.specs.Counts.{why_answered, why_heard, is_next, is_last, slave_begins, master_begins, begins_judged}
-use Rattle.capture_measure.specs.Counts.{sync_begins}
+use Rattle.capture_measure.specs.Counts.{why_answered, why_heard, is_next, is_last, slave_begins, master_begins}
 use Rattle.capture_measure.specs.Inner.Counting.{why_by, is_slave_anew, is_master_anew}
-use Rattle.capture_measure.specs.Exchanged.{exchange_after, exchanged}
-use Rattle.capture_measure.specs.Inner.Listener.{reply_by, heard_by, exchange_by, became_by, became_called, became_of}
 
 -- ---- what became of a message that a port hears, or not
 module _ (w : Watched) (call : Call) where
-  heard_called : (begins : Bool) (ready : Option Listening)
-      → heard_by (became_called begins call w ready) ≡ option_map (λ l. answer_in w l call) ready
-  heard_called true None = refl
-  heard_called false None = refl
-  heard_called true (Some l) = refl
-  heard_called false (Some l) = refl
-
-  exchange_called : (begins : Bool) (ready : Option Listening)
-      → exchange_by (became_called begins call w ready) ≡ option_and_then (exchange_after w call) ready
-  exchange_called true None = refl
-  exchange_called false None = refl
-  exchange_called true (Some l) = refl
-  exchange_called false (Some l) = refl
-
   why_called : (domain : ℕ) (header : Header) (begins : Bool) (ready : Option Listening)
       → why_by domain header (became_called begins call w ready)
       ≡ option_map_or why_answered (option_map (λ l. answer_in w l call) ready) (Some whys.Before)
@@ -72,14 +55,6 @@ master_judged true Repeated w line call a l = refl
 master_judged true BeganAnew w line call a l = refl
 
 -- ---- a Delay_Req
-abbrev own : (next last : Bool) → Became
-own next last = if next then became.Asked else if last then became.Repeated else became.Anew
-
-own_unheard : (next last : Bool) → reply_by (own next last) ≡ None
-own_unheard true last = refl
-own_unheard false true = refl
-own_unheard false false = refl
-
 own_why : (domain : ℕ) (header : Header) (next last : Bool) → why_by domain header (own next last)
     ≡ Some (if next then whys.OfSlave else if last then whys.Again else whys.OfSlave)
 own_why domain header true last = refl
@@ -95,13 +70,6 @@ own_master : (next last : Bool) → is_master_anew (own next last) ≡ false
 own_master true last = refl
 own_master false true = refl
 own_master false false = refl
-
-abbrev asked : (of next last : Bool) → Became
-asked of next last = if of then own next last else became.Foreign
-
-asked_unheard : (of next last : Bool) → reply_by (asked of next last) ≡ None
-asked_unheard true next last = own_unheard next last
-asked_unheard false next last = refl
 
 asked_why : (domain : ℕ) (header : Header) (of next last same : Bool) → (header.domain == domain) ≡ same
     → why_by domain header (asked of next last)
@@ -120,19 +88,6 @@ asked_master false next last = refl
 
 -- ---- any message
 module _ (w : Watched) (line time : ℕ) (m : Contents) where
-  pub heard-became : (body : Body) (l : Listening) → heard_by (became_of w line time m body l) ≡ answered w line time m body l
-  heard-became (Sync origin) l = heard_called w (Event (Ok m) time line) (sync_begins w line time m l) _
-  heard-became (DelayReq origin) l = ap (option_map (λ (r : Reply). r.heard))
-      (asked_unheard (is_of w w.slave m.header) (is_next w l m.header.sequence.0) (is_last w l m.header.sequence.0))
-  heard-became _ l = heard_called w (General (Ok m) line) false _
-
-  pub exchange-became : (body : Body) (l : Listening)
-      → exchange_by (became_of w line time m body l) ≡ exchanged w line time m body l
-  exchange-became (Sync origin) l = exchange_called w (Event (Ok m) time line) (sync_begins w line time m l) _
-  exchange-became (DelayReq origin) l = ap (option_and_then (λ (r : Reply). r.exchange))
-      (asked_unheard (is_of w w.slave m.header) (is_next w l m.header.sequence.0) (is_last w l m.header.sequence.0))
-  exchange-became _ l = exchange_called w (General (Ok m) line) false _
-
   pub why-became : (body : Body) (l : Listening)
       → why_by w.domain m.header (became_of w line time m body l) ≡ why_heard w line time m body l
   why-became (Sync origin) l = why_called w (Event (Ok m) time line) w.domain m.header (sync_begins w line time m l) _

@@ -1,6 +1,6 @@
 -- What is counted with one datagram more.
 use Rattle.std.proofs.Common.{◌≡◌, ◌∙◌, ◌⊎◌, inl, inr, ℕ, ◌+◌, ◌*◌, ◌<◌, Bool, true, false, List, [], ◌∷◌, length, get_or}
-use Rattle.std.proofs.Common.{replicate, Option, Some, None, Ok, Err, refl, sym, ap, subst, arith}
+use Rattle.std.proofs.Common.{Option, Some, None, Ok, Err, refl, sym, ap, subst, arith}
 use Rattle.std.specs.Prelude.{cond, ◌==◌, count_by, is_some, slice_set, map, filter_map, option_map}
 use Rattle.std.specs.List.{cons_option}
 use Rattle.std.specs.Result.{result_err}
@@ -19,8 +19,8 @@ use Rattle.recording_quality.specs.Noted.{Noted, Reported}
 use Rattle.recording_quality.specs.declared.others.Others.{Others}
 use Rattle.recording_quality.specs.Others.{AreOthers}
 use Rattle.recording_quality.specs.Quality.{IsQuality}
-use Rattle.capture_measure.specs.declared.listener.Became.{Became}
-use Rattle.capture_measure.specs.declared.listener.Became.TheVariants as became
+use Rattle.recording_listener.specs.declared.listener.Became.{Became}
+use Rattle.recording_listener.specs.declared.listener.Became.TheVariants as became
 use Rattle.measure_summary.specs.declared.counts.Counts.{Counts}
 use Rattle.measure_summary.specs.declared.kind.Kind.{Kind}
 use Rattle.measure_summary.specs.declared.kind.Kind.TheVariants as kinds
@@ -31,7 +31,7 @@ use Rattle.capture_measure.specs.Counts.{kind_of, kind_of_refused, why_refused, 
 use Rattle.capture_measure.specs.Counts.{Fate, fate_in, early_fate, noted_of, meeting_of, is_so, IsCounts}
 use Rattle.capture_measure.specs.Meetings.{meeting_at}
 use Rattle.capture_measure.specs.Inner.Counting.{with_why, with_anew, why_by, is_slave_anew, is_master_anew}
-use Rattle.capture_measure.specs.Inner.Listener.{became_of}
+use Rattle.recording_listener.specs.Became.{became_of}
 use Rattle.capture_measure.proofs.Became.{why-became, slave-became, master-became}
 
 -- ---- places

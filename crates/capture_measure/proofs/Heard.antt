@@ -17,7 +17,7 @@ use Rattle.capture_lines.specs.declared.measurement.Half.TheVariants as halves
 use Rattle.capture_measure.specs.Made.{Measured}
 use Rattle.capture_measure.specs.declared.reports.Completed.{Completed}
 use Rattle.capture_measure.specs.Row.{Row, datagrams}
-use Rattle.capture_measure.specs.Exchanged.{exchange_at}
+use Rattle.recording_listener.specs.Exchanged.{exchange_at}
 use Rattle.capture_measure.specs.Measured.{half_of, measured_at}
 use Rattle.capture_measure.specs.Inner.Hearing.{completion, measured_by}
 

@@ -5,10 +5,8 @@ pub mod Summaries
 pub mod Fates
 pub mod Goes
 pub mod Heard
-pub mod Judged
 pub mod Kept
 pub mod KeptRows
-pub mod Listeners
 pub mod Looking
 pub mod OneCourse
 pub mod OneRow

@@ -13,7 +13,7 @@ use Rattle.capture_file.specs.Packet.{InterfaceOf, PacketOf}
 use Rattle.capture_measure.specs.Made.{Measured}
 use Rattle.capture_model.specs.declared.watched.Watched.{Watched}
 use Rattle.capture_model.specs.Listening.{after_all}
-use Rattle.capture_measure.specs.declared.listener.Listener.{Listener}
+use Rattle.recording_listener.specs.declared.listener.Listener.{Listener}
 use Rattle.capture_measure.specs.declared.packets.CaptureMeasuring.{CaptureMeasuring}
 use Rattle.capture_measure.specs.declared.packets.PacketStage.{PacketStage}
 use Rattle.capture_measure.specs.declared.packets.PacketStage.TheVariants.{Looking, Hearing}
@@ -30,7 +30,7 @@ use Rattle.capture_measure.specs.Inner.Stages.{whom_at}
 use Rattle.capture_measure.specs.Inner.Watching.{whom_of}
 use Rattle.capture_measure.proofs.Watches.{whom_known, whom_stays}
 use Rattle.capture_measure.specs.Inner.Capturing.{IsCapturing, IsCaptureStage, IsHearingAt, AddsRow}
-use Rattle.capture_measure.specs.Inner.Listener.{IsListener}
+use Rattle.recording_listener.specs.StandsFor.{StandsFor}
 use Rattle.capture_measure.specs.Inner.Recordings.{AreKeptRows, AreRecordings, BeginsWith, IsFoundAt, IsNoticed}
 use Rattle.capture_measure.specs.Told.{interface_in}
 use Rattle.capture_measure.specs.Counts.{early_at, IsCounts}
@@ -121,7 +121,7 @@ began w rows r recordings place watched heard (Hearing at listener) within there
   subst (λ (n : ℕ). n < length recordings) (sym here) within,
   λ d. is ∙ ap Some (sym (ap (λ (n : ℕ). interface_in (get_or recordings n d)) here ∙ there d)),
   capture-first w rows r watched is known,
-  subst (λ (rs : List Row). IsListener watched listener (after_all watched (datagrams rs))) (sym same) listens,
+  subst (λ (rs : List Row). StandsFor watched listener (after_all watched (datagrams rs))) (sym same) listens,
 )
 
 -- an interface that wasn't found isn't among them
@@ -135,26 +135,26 @@ module _ (w : WantedPorts) (rows : List InterfaceRow) (r : InterfaceRow) (record
     (within : place < length recordings) (is : (d : Recording) → chosen w rows ≡ Some (interface_in (get_or recordings place d)))
     (known : capture_watched w rows ≡ Some watched) where
   pub hears_more : (listener : Listener) → ((d : Recording) → is_same_interface (interface_in (get_or recordings place d)) r.interface ≡ true)
-      → IsListener watched listener (after_all watched (datagrams (r.row ∷ heard_at w rows)))
+      → StandsFor watched listener (after_all watched (datagrams (r.row ∷ heard_at w rows)))
       → IsCaptureStage w (r ∷ rows) recordings (Hearing place listener)
   hears_more listener same listens = (
     watched,
     within,
     λ d. chosen-stays w rows r (interface_in (get_or recordings place d)) (is d),
     one_there recordings place within (λ d. capture-stays w rows r (interface_in (get_or recordings place d)) watched (is d) known),
-    one_there recordings place within (λ d. subst (λ (rs : List Row). IsListener watched listener (after_all watched (datagrams rs)))
+    one_there recordings place within (λ d. subst (λ (rs : List Row). StandsFor watched listener (after_all watched (datagrams rs)))
         (sym (heard-known w rows r (interface_in (get_or recordings place d)) true (is d) (same d))) listens),
   )
 
   pub hears_other : (listener : Listener) → ((d : Recording) → is_same_interface (interface_in (get_or recordings place d)) r.interface ≡ false)
-      → IsListener watched listener (after_all watched (datagrams (heard_at w rows)))
+      → StandsFor watched listener (after_all watched (datagrams (heard_at w rows)))
       → IsCaptureStage w (r ∷ rows) recordings (Hearing place listener)
   hears_other listener other listens = (
     watched,
     within,
     λ d. chosen-stays w rows r (interface_in (get_or recordings place d)) (is d),
     one_there recordings place within (λ d. capture-stays w rows r (interface_in (get_or recordings place d)) watched (is d) known),
-    one_there recordings place within (λ d. subst (λ (rs : List Row). IsListener watched listener (after_all watched (datagrams rs)))
+    one_there recordings place within (λ d. subst (λ (rs : List Row). StandsFor watched listener (after_all watched (datagrams rs)))
         (sym (heard-known w rows r (interface_in (get_or recordings place d)) false (is d) (other d))) listens),
   )
 

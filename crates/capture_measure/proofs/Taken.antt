@@ -8,7 +8,7 @@ use Rattle.capture_measure.specs.Made.{Measured}
 use Rattle.text_lines.specs.declared.counted.Counted.{Counted}
 use Rattle.text_lines.specs.Counted.{HasNotFailed, HasFailedIf}
 use Rattle.capture_model.specs.declared.watched.Watched.{Watched}
-use Rattle.capture_measure.specs.declared.listener.Listener.{Listener}
+use Rattle.recording_listener.specs.declared.listener.Listener.{Listener}
 use Rattle.capture_measure.specs.declared.measuring.Form.{Form}
 use Rattle.capture_measure.specs.declared.measuring.Measuring.{Measuring}
 use Rattle.text_lines.specs.declared.line_fault.LineFault.{LineFault}

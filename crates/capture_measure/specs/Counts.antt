@@ -1,7 +1,7 @@
 -- What is counted while an input is measured: what each datagram is, and why it gave no report, if it gave none. Lists have the
 -- newest in front.
-use Rattle.std.specs.Prelude.{◌≡◌, ℕ, ◌+◌, ◌-◌, ◌*◌, ◌^◌, ◌==◌, nat_lt, min, Bool, true, false, not, ◌&&◌, ◌||◌, is_some}
-use Rattle.std.specs.Prelude.{if◌then◌else◌, List, [], ◌∷◌, ◌++◌, length, drop, map, filter_map, count_by, slice_index}
+use Rattle.std.specs.Prelude.{◌≡◌, ℕ, ◌-◌, ◌^◌, ◌==◌, nat_lt, min, Bool, false, not, ◌&&◌, ◌||◌, is_some}
+use Rattle.std.specs.Prelude.{if◌then◌else◌, List, [], ◌∷◌, ◌++◌, length, drop, map, filter_map, count_by}
 use Rattle.std.specs.Prelude.{Option, Some, None, Ok, Err, option_map}
 use Rattle.std.specs.Option.{option_map_or}
 use Rattle.std.specs.Result.{result_err}
@@ -14,20 +14,16 @@ use Rattle.event_codec.specs.declared.refusal.DecodeRefusal.TheVariants.{Short, 
 use Rattle.event_codec.specs.declared.refusal.DecodeRefusal.TheVariants.{Nanoseconds}
 use Rattle.event_codec.specs.Packet.{Contents}
 use Rattle.event_codec.specs.Reading.{Reading}
-use Rattle.sync_watch.specs.declared.judgement.Judgement.{Judgement}
-use Rattle.sync_watch.specs.declared.judgement.Judgement.TheVariants.{Newer, Repeated, BeganAnew}
-use Rattle.sync_watch.specs.Told.{Arrival, Sync}
-use Rattle.sync_watch.specs.Judged.{judged_sync, judged_refused}
 use Rattle.slave_port.specs.declared.heard.Heard.{Heard}
 use Rattle.slave_port.specs.declared.heard.Heard.TheVariants as answers
 use Rattle.slave_port.specs.declared.reason.Reason.{Reason}
 use Rattle.slave_port.specs.declared.reason.Reason.TheVariants as reasons
-use Rattle.slave_port.specs.History.{Call, Event, next_number}
+use Rattle.slave_port.specs.History.{next_number}
 use Rattle.capture_file.specs.Packet.{InterfaceOf}
 use Rattle.capture_model.specs.declared.watched.Watched.{Watched}
 use Rattle.capture_model.specs.Recorded.{Recorded}
-use Rattle.capture_model.specs.Listening.{Listening, setup_in, table_capacity, is_of, is_stale, answer_in, arrival_of, answered}
-use Rattle.capture_model.specs.Listening.{after_all}
+use Rattle.capture_model.specs.Listening.{Listening, setup_in, table_capacity, is_of, answered, after_all}
+use Rattle.recording_listener.specs.Beginnings.{sync_begins}
 use Rattle.capture_measure.specs.Made.{Measured}
 use Rattle.recording_quality.specs.Noted.{Noted}
 use Rattle.recording_quality.specs.declared.others.Meeting.{Meeting}
@@ -144,28 +140,6 @@ abbrev pub slave_begins : Watched → Contents → Body → Listening → Bool
 slave_begins w m (bodies.DelayReq origin) l =
     is_of w w.slave m.header && (not (is_next w l m.header.sequence.0) && not (is_last w l m.header.sequence.0))
 slave_begins w m body l = false
-
--- this is what a number says of the master
-abbrev pub is_beginning : Judgement → Bool
-is_beginning Newer = false
-is_beginning Repeated = false
-is_beginning BeganAnew = true
-
--- the master, by a Sync whose number says nothing, and which the port refuses, as the ones before it
-abbrev pub begins_newer : Watched → Call → Arrival → Listening → Bool
-begins_newer w call a l = is_stale (answer_in w l call) && is_beginning (judged_refused a table_capacity l.heard)
-
--- the master, by what the number of its Sync says
-abbrev pub begins_judged : Judgement → Watched → Call → Arrival → Listening → Bool
-begins_judged Newer w call a l = begins_newer w call a (record l { heard = Sync a ∷ l.heard })
-begins_judged Repeated w call a l = false
-begins_judged BeganAnew w call a l = true
-
--- the master, by a Sync
-abbrev pub sync_begins : Watched → (line time : ℕ) → Contents → Listening → Bool
-sync_begins w line time m l = is_of w w.master m.header
-    && begins_judged (judged_sync (arrival_of m.header time) table_capacity l.heard) w (Event (Ok m) time line)
-    (arrival_of m.header time) l
 
 -- the master, by any message
 abbrev pub master_begins : Watched → (line time : ℕ) → Contents → Body → Listening → Bool

@@ -1,7 +1,6 @@
 -- What serves functions inside this crate, views, invariants and proofs alone. No contract of a public call rests on
 -- it, so nobody has to believe it.
 pub mod Watching
-pub mod Listener
 pub mod Hearing
 pub mod Measuring
 pub mod Recordings

@@ -1,7 +1,6 @@
 pub mod Watch
 pub mod Row
 pub mod Made
-pub mod Exchanged
 pub mod Measured
 pub mod Measure
 pub mod Interfaces

@@ -17,7 +17,7 @@ use Rattle.capture_measure.specs.declared.watch.WantedPorts.{WantedPorts}
 use Rattle.capture_measure.specs.Watch.{watched_in}
 use Rattle.capture_measure.specs.Row.{Row, datagrams, heard}
 use Rattle.capture_measure.specs.Made.{Measured, plain}
-use Rattle.capture_measure.specs.Exchanged.{exchange_at}
+use Rattle.recording_listener.specs.Exchanged.{exchange_at}
 
 -- which half of a report a message completes
 abbrev pub half_of : Body → Half

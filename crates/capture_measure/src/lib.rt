@@ -4,7 +4,6 @@
 mod input;
 mod interface;
 mod interface_counts;
-mod listener;
 mod measuring;
 mod meetings;
 mod packets;

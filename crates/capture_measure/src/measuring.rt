@@ -13,7 +13,7 @@ ghost use Rattle.capture_measure.specs.Watch.{watched_in};
 ghost use Rattle.capture_measure.specs.Row.{Row, datagrams, IsRow};
 ghost use Rattle.capture_measure.specs.Measured.{measured_at, measurements};
 ghost use Rattle.capture_measure.specs.Measure.{Recording, begun, Takes, Stops, head_text, HasHead, measure_rules};
-ghost use Rattle.capture_measure.specs.Inner.Listener.{IsListener};
+ghost use Rattle.recording_listener.specs.StandsFor.{StandsFor};
 ghost use Rattle.capture_measure.specs.Inner.Watching.{IsWatch};
 ghost use Rattle.capture_measure.specs.Inner.Hearing.{recorded_of, made_of, measured_by, IsOfOutput, Goes};
 ghost use Rattle.capture_measure.specs.Inner.Measuring.{IsLine, NoRow, HasRow, IsUnread, IsRead, IsRowOf};
@@ -23,13 +23,13 @@ ghost use Rattle.capture_measure.specs.Inner.Watching.{whom_of};
 ghost use Rattle.capture_measure.specs.Counts.{Fate, fate_at, fates, early_fate, IsCounts};
 ghost use Rattle.capture_measure.specs.Inner.Counting.{stays};
 
-use crate::listener::Listener;
 use crate::reports::{Completed, Datagram, Made, Reports, message_in};
 use crate::tally::Tally;
 use crate::watch::{WantedPorts, Watch};
 use capture_lines::{Timed, read_timed, table_head};
 use capture_model::Watched;
 use measure_summary::{Counts, Whom};
+use recording_listener::Listener;
 use std::alloc::Global;
 use std::io::Write;
 use text_lines::{Counted, LINE_LIMIT, LineFault, LineTask, write_text};
@@ -168,12 +168,12 @@ impl Reports {
         output: &mut Counted<W>,
     ) -> Result<(), LineFault>
         ensures heard { (watched : Watched) (earlier : List Row) (row : Row) → IsRowOf read.now row
-            → IsListener watched listener.old (after_all watched (datagrams earlier))
-            → OnOk result (IsListener watched listener.new (after_all watched (datagrams (row ∷ earlier))))
+            → StandsFor watched listener.old (after_all watched (datagrams earlier))
+            → OnOk result (StandsFor watched listener.new (after_all watched (datagrams (row ∷ earlier))))
             × Goes self.old.form result (option_to_list (measured_at watched earlier row))
             (W.contents (device_of output.old)) (W.contents (device_of output.new)) }
         ensures counted { (watched : Watched) (earlier : List Row) (row : Row) (all : List Fate) → IsRowOf read.now row
-            → IsListener watched listener.old (after_all watched (datagrams earlier)) → IsCounts all self.old.tally.counts
+            → StandsFor watched listener.old (after_all watched (datagrams earlier)) → IsCounts all self.old.tally.counts
             → OnOk result (IsCounts (fate_at watched earlier row ∷ all) self.new.tally.counts) }
         ensures of_output { MatchResult result (λ _. ⊤) IsOfOutput }
         ensures form { self.new.form ≡ self.old.form }
@@ -197,12 +197,12 @@ impl Reports {
     ) -> Result<u64, LineFault>
         requires { length line.now ≤ line_limit }
         ensures heard { (watched : Watched) (before : List Row) (row : Row) → IsRow (earlier + 1) line.now row
-            → IsListener watched listener.old (after_all watched (datagrams before))
-            → OnOk result (IsListener watched listener.new (after_all watched (datagrams (row ∷ before))))
+            → StandsFor watched listener.old (after_all watched (datagrams before))
+            → OnOk result (StandsFor watched listener.new (after_all watched (datagrams (row ∷ before))))
             × Goes self.old.form result (option_to_list (measured_at watched before row))
             (W.contents (device_of output.old)) (W.contents (device_of output.new)) }
         ensures counted { (watched : Watched) (before : List Row) (row : Row) (all : List Fate) → IsRow (earlier + 1) line.now row
-            → IsListener watched listener.old (after_all watched (datagrams before)) → IsCounts all self.old.tally.counts
+            → StandsFor watched listener.old (after_all watched (datagrams before)) → IsCounts all self.old.tally.counts
             → OnOk result (IsCounts (fate_at watched before row ∷ all) self.new.tally.counts) }
         ensures answered { MatchResult result
             (λ number. (number ≡ earlier + 1) × HasRow (earlier + 1) line.now)
@@ -232,12 +232,12 @@ impl Reports {
     ) -> Result<(), LineFault>
         requires { All (λ line. length line.items ≤ line_limit) kept.now }
         ensures heard { (watched : Watched) (rows : List Row) → AreRows [] (map (λ line. line.items) kept.now) rows
-            → IsListener watched listener.old (after_all watched [])
-            → OnOk result (IsListener watched listener.new (after_all watched (datagrams rows)))
+            → StandsFor watched listener.old (after_all watched [])
+            → OnOk result (StandsFor watched listener.new (after_all watched (datagrams rows)))
             × Goes self.old.form result (measurements watched rows)
             (W.contents (device_of output.old)) (W.contents (device_of output.new)) }
         ensures counted { (watched : Watched) (rows : List Row) → AreRows [] (map (λ line. line.items) kept.now) rows
-            → IsListener watched listener.old (after_all watched []) → IsCounts [] self.old.tally.counts
+            → StandsFor watched listener.old (after_all watched []) → IsCounts [] self.old.tally.counts
             → OnOk result (IsCounts (fates watched rows) self.new.tally.counts) }
         ensures form { self.new.form ≡ self.old.form }
         ensures failures { MatchResult result
@@ -262,12 +262,12 @@ impl Reports {
     ) -> Result<(), LineFault>
         requires { AreWithin stage.now }
         ensures heard { (watched : Watched) (rows : List Row) → AreKept stage.now rows
-            → IsListener watched listener.old (after_all watched [])
-            → OnOk result (IsListener watched listener.new (after_all watched (datagrams rows)))
+            → StandsFor watched listener.old (after_all watched [])
+            → OnOk result (StandsFor watched listener.new (after_all watched (datagrams rows)))
             × Goes self.old.form result (measurements watched rows)
             (W.contents (device_of output.old)) (W.contents (device_of output.new)) }
         ensures counted { (watched : Watched) (rows : List Row) (all : List Fate) → AreKept stage.now rows
-            → IsListener watched listener.old (after_all watched []) → IsCounts all self.old.tally.counts
+            → StandsFor watched listener.old (after_all watched []) → IsCounts all self.old.tally.counts
             → OnOk result (IsCounts (fates watched rows ++ stays stage.now all) self.new.tally.counts) }
         ensures form { self.new.form ≡ self.old.form }
         ensures failures { MatchResult result

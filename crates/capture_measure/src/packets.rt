@@ -15,14 +15,13 @@ ghost use Rattle.capture_measure.specs.Capture.{Capture, capture_begun, capture_
 ghost use Rattle.capture_measure.specs.Counts.{Fate, fate_at, fates, IsCounts};
 ghost use Rattle.capture_measure.specs.Inner.Counting.{counts_at};
 ghost use Rattle.capture_measure.specs.Inner.Hearing.{IsOfOutput, Goes};
-ghost use Rattle.capture_measure.specs.Inner.Listener.{IsListener};
+ghost use Rattle.recording_listener.specs.StandsFor.{StandsFor};
 ghost use Rattle.capture_measure.specs.Inner.Recordings.{row_at, AreKeptRows, BeginsWith};
 ghost use Rattle.capture_measure.specs.Inner.Stages.{whom_at};
 ghost use Rattle.capture_measure.specs.Told.{interface_at};
 ghost use Rattle.capture_measure.specs.Inner.Capturing.{IsCapturing, IsLooking, IsHearingAt, AddsRow, row_of_packet};
 
 use crate::interface_counts::InterfaceCounts;
-use crate::listener::Listener;
 use crate::measuring::Form;
 use crate::recording::{Kept, Recording, Recordings, datagram_of};
 use crate::reports::{Datagram, Reports};
@@ -33,6 +32,7 @@ use capture_frame::{Found, find_datagram};
 use capture_model::Watched;
 use measure_summary::{Counts, Whom};
 use ptp_units::Timestamp;
+use recording_listener::Listener;
 use std::alloc::{AllocError, Global};
 use std::fmt;
 use std::fmt::{Display, Formatter, Write as _};
@@ -77,12 +77,12 @@ impl PacketReports {
         output: &mut Counted<W>,
     ) -> Result<(), LineFault>
         ensures heard { (watched : Watched) (earlier : List Row)
-            → IsListener watched listener.old (after_all watched (datagrams earlier))
-            → OnOk result (IsListener watched listener.new (after_all watched (datagrams (row_at time datagram.now ∷ earlier))))
+            → StandsFor watched listener.old (after_all watched (datagrams earlier))
+            → OnOk result (StandsFor watched listener.new (after_all watched (datagrams (row_at time datagram.now ∷ earlier))))
             × Goes self.old.reports.form result (option_to_list (measured_at watched earlier (row_at time datagram.now)))
             (W.contents (device_of output.old)) (W.contents (device_of output.new)) }
         ensures counted { (watched : Watched) (earlier : List Row) (all : List Fate)
-            → IsListener watched listener.old (after_all watched (datagrams earlier)) → IsCounts all self.old.reports.tally.counts
+            → StandsFor watched listener.old (after_all watched (datagrams earlier)) → IsCounts all self.old.reports.tally.counts
             → OnOk result (IsCounts (fate_at watched earlier (row_at time datagram.now) ∷ all) self.new.reports.tally.counts) }
         ensures of_output { MatchResult result (λ _. ⊤) IsOfOutput }
         ensures form { self.new.reports.form ≡ self.old.reports.form }
@@ -109,12 +109,12 @@ impl PacketReports {
         output: &mut Counted<W>,
     ) -> Result<(), LineFault>
         ensures heard { (watched : Watched) (rows : List Row) → AreKeptRows [] kept.now rows
-            → IsListener watched listener.old (after_all watched [])
-            → OnOk result (IsListener watched listener.new (after_all watched (datagrams rows)))
+            → StandsFor watched listener.old (after_all watched [])
+            → OnOk result (StandsFor watched listener.new (after_all watched (datagrams rows)))
             × Goes self.old.reports.form result (measurements watched rows)
             (W.contents (device_of output.old)) (W.contents (device_of output.new)) }
         ensures counted { (watched : Watched) (rows : List Row) → AreKeptRows [] kept.now rows
-            → IsListener watched listener.old (after_all watched []) → IsCounts [] self.old.reports.tally.counts
+            → StandsFor watched listener.old (after_all watched []) → IsCounts [] self.old.reports.tally.counts
             → OnOk result (IsCounts (fates watched rows) self.new.reports.tally.counts) }
         ensures of_output { MatchResult result (λ _. ⊤) IsOfOutput }
         ensures form { self.new.reports.form ≡ self.old.reports.form }

@@ -9,16 +9,18 @@ ghost use Rattle.capture_model.specs.Listening.{after_all};
 ghost use Rattle.capture_model.specs.Recorded.{Recorded};
 ghost use Rattle.capture_measure.specs.Measured.{half_of, text_as};
 ghost use Rattle.capture_measure.specs.Counts.{Fate, fate_in, IsCounts};
-ghost use Rattle.capture_measure.specs.Inner.Listener.{IsListener, report_by, exchange_by};
+ghost use Rattle.recording_listener.specs.Became.{exchange_by};
+ghost use Rattle.recording_listener.specs.StandsFor.{StandsFor};
+ghost use Rattle.capture_measure.specs.Inner.Hearing.{report_by};
 ghost use Rattle.capture_measure.specs.Inner.Hearing.{reading_of, recorded_of, completion, made_of, measured_by, GoesAtOnce};
 
-use crate::listener::{Became, Listener};
 use crate::measuring::Form;
 use crate::tally::Tally;
 use capture_lines::{Half, Measurement, push_json, push_row};
 use capture_model::Watched;
 use event_codec::{Body, DecodeRefusal, Message, decode};
 use ptp_units::ScaledTime;
+use recording_listener::{Became, Listener};
 use slave_port::{Heard, LastExchange, Report};
 use std::alloc::{AllocError, Global};
 use std::io::Write;
@@ -156,11 +158,11 @@ impl Reports {
         datagram: &Datagram<'_>,
     ) -> Option<Completed>
         ensures heard { (watched : Watched) (earlier : List Recorded)
-            → IsListener watched listener.old (after_all watched earlier)
-            → IsListener watched listener.new (after_all watched (recorded_of datagram.now ∷ earlier))
+            → StandsFor watched listener.old (after_all watched earlier)
+            → StandsFor watched listener.new (after_all watched (recorded_of datagram.now ∷ earlier))
             × (result ≡ completion watched earlier (recorded_of datagram.now)) }
         ensures counted { (watched : Watched) (earlier : List Recorded) (all : List Fate)
-            → IsListener watched listener.old (after_all watched earlier) → IsCounts all self.old.tally.counts
+            → StandsFor watched listener.old (after_all watched earlier) → IsCounts all self.old.tally.counts
             → IsCounts (fate_in watched (recorded_of datagram.now) (after_all watched earlier) ∷ all) self.new.tally.counts }
         ensures form { self.new.form ≡ self.old.form }
     {

@@ -1,4 +1,4 @@
-//! How many datagrams gave no report, by what they are and by why they gave none.
+//! What each datagram counts as: what it is, why it gave no report if it gave none, and who began anew by it.
 
 ghost use Rattle.std.specs.Prelude.{◌≡◌, List, [], ◌∷◌, map, Some, None};
 ghost use Rattle.measure_summary.specs.Counts.{with_one, with_unreported};
@@ -13,12 +13,12 @@ ghost use Rattle.capture_measure.specs.Counts.{Fate, early_fate, noted_of, IsCou
 ghost use Rattle.capture_measure.specs.Inner.Counting.{why_by, with_why, with_anew};
 ghost use Rattle.capture_measure.specs.Inner.Hearing.{reading_of, recorded_of, made_of};
 
-use crate::listener::Became;
 use crate::meetings::{meeting_at, take_some};
 use crate::reports::{Datagram, Made};
 use event_codec::{Body, DecodeRefusal, Header, Message};
 use measure_summary::{Counts, Kind, NoReport};
 use ptp_units::ScaledTime;
+use recording_listener::Became;
 use slave_port::{Heard, Reason};
 
 fn kind_of(body: &Body) -> Kind

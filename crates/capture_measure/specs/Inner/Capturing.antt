@@ -22,14 +22,14 @@ use Rattle.capture_measure.specs.Told.{interface_in}
 use Rattle.capture_measure.specs.Inner.Counting.{CountsSoFar}
 use Rattle.capture_measure.specs.Inner.Stages.{whom_at}
 use Rattle.capture_measure.specs.Inner.Hearing.{Goes}
-use Rattle.capture_measure.specs.Inner.Listener.{IsListener}
+use Rattle.recording_listener.specs.StandsFor.{StandsFor}
 use Rattle.capture_measure.specs.Inner.Recordings.{row_at, AreRecordings}
 
 -- a port heard these rows of an interface
 abbrev pub IsHearingAt : Watched → (place : ℕ) → List Row → PacketStage → Type 0
 IsHearingAt watched place rows (Looking count) = ⊥
 IsHearingAt watched place rows (Hearing at listener) =
-    (at ≡ place) × IsListener watched listener (after_all watched (datagrams rows))
+    (at ≡ place) × StandsFor watched listener (after_all watched (datagrams rows))
 
 -- what is done with the next datagram, after these rows, and with these interfaces
 abbrev pub IsCaptureStage : WantedPorts → List InterfaceRow → List Recording → PacketStage → Type 0
@@ -39,7 +39,7 @@ IsCaptureStage w rows recordings (Hearing place listener) =
     (watched : Watched) × (place < length recordings)
     × ((d : Recording) → chosen w rows ≡ Some (interface_in (get_or recordings place d)))
     × (capture_watched w rows ≡ Some watched)
-    × IsListener watched listener (after_all watched (datagrams (heard_at w rows)))
+    × StandsFor watched listener (after_all watched (datagrams (heard_at w rows)))
 
 -- what is kept is that of these packets
 pub record IsCapturing (task : CaptureMeasuring) (c : Capture) : Type 0 where

@@ -3,8 +3,8 @@ use Rattle.std.specs.Prelude.{ℕ, ◌==◌, Bool, true, false, List, [], if◌t
 use Rattle.std.specs.Prelude.{Option, Some, None}
 use Rattle.event_codec.specs.declared.message.Header.{Header}
 use Rattle.capture_file.specs.Packet.{InterfaceOf}
-use Rattle.capture_measure.specs.declared.listener.Became.{Became}
-use Rattle.capture_measure.specs.declared.listener.Became.TheVariants.{Heard, HeardAnew, HeardBefore, Asked, Repeated, Anew, Foreign}
+use Rattle.recording_listener.specs.declared.listener.Became.{Became}
+use Rattle.recording_listener.specs.declared.listener.Became.TheVariants.{Heard, HeardAnew, HeardBefore, Asked, Repeated, Anew, Foreign}
 use Rattle.capture_measure.specs.declared.measuring.LineStage.{LineStage}
 use Rattle.capture_measure.specs.declared.measuring.LineStage.TheVariants as stages
 use Rattle.capture_measure.specs.declared.packets.PacketStage.{PacketStage}

@@ -1,5 +1,6 @@
 -- What becomes of a datagram that a port hears, and what goes out of it.
 use Rattle.std.specs.Prelude.{◌≡◌, ◌≢◌, ℕ, ⊤, List, [], ◌++◌, Ok, Err, Option, Result, MatchResult, option_map}
+use Rattle.std.specs.Prelude.{option_and_then}
 use Rattle.std.specs.Option.{option_map_or}
 use Rattle.std.specs.Result.{result_ok}
 use Rattle.std.specs.Io.KnownBytes.{Appends}
@@ -7,6 +8,7 @@ use Rattle.event_codec.specs.declared.message.Message.{Message}
 use Rattle.event_codec.specs.declared.refusal.DecodeRefusal.{DecodeRefusal}
 use Rattle.event_codec.specs.Packet.{contents}
 use Rattle.event_codec.specs.Reading.{Reading}
+use Rattle.slave_port.specs.declared.heard.Report.{Report}
 use Rattle.text_lines.specs.declared.line_fault.LineFault.{LineFault}
 use Rattle.text_lines.specs.declared.line_fault.LineFault.TheVariants.{Write, Field, Memory}
 use Rattle.text_lines.specs.Fault.{is_write}
@@ -15,12 +17,14 @@ use Rattle.capture_lines.specs.declared.measurement.Half.TheVariants as halves
 use Rattle.capture_measure.specs.Made.{Measured}
 use Rattle.capture_model.specs.declared.watched.Watched.{Watched}
 use Rattle.capture_model.specs.Recorded.{Recorded}
-use Rattle.capture_model.specs.Listening.{report_at}
+use Rattle.capture_model.specs.Listening.{report_in, report_at}
+use Rattle.recording_listener.specs.declared.listener.Became.{Became}
+use Rattle.recording_listener.specs.Became.{heard_by}
 use Rattle.capture_measure.specs.declared.reports.Completed.{Completed}
 use Rattle.capture_measure.specs.declared.reports.Datagram.{Datagram}
 use Rattle.capture_measure.specs.declared.reports.Made.{Made}
 use Rattle.capture_measure.specs.declared.measuring.Form.{Form}
-use Rattle.capture_measure.specs.Exchanged.{exchange_at}
+use Rattle.recording_listener.specs.Exchanged.{exchange_at}
 use Rattle.capture_measure.specs.Measured.{half_of, texts_as}
 
 -- what octets say, by the message or the refusal that was read of them
@@ -31,6 +35,10 @@ reading_of (Err refusal) = Err refusal
 -- a datagram without where its octets lie
 abbrev pub recorded_of : Datagram → Recorded
 recorded_of d = record { line = d.number; time = d.time; said = reading_of d.said }
+
+-- the report in what became of a message
+abbrev pub report_by : Became → Option Report
+report_by became = option_and_then report_in (heard_by became)
 
 -- the report that a datagram completes, after those before it
 abbrev pub completion : Watched → List Recorded → Recorded → Option Completed

@@ -21,7 +21,7 @@ use Rattle.capture_measure.specs.Watch.{watched_in}
 use Rattle.capture_measure.specs.Row.{Row, datagrams, kept_most, heard, IsRow}
 use Rattle.capture_measure.specs.Measure.{Recording}
 use Rattle.capture_measure.specs.Inner.Hearing.{recorded_of}
-use Rattle.capture_measure.specs.Inner.Listener.{IsListener}
+use Rattle.recording_listener.specs.StandsFor.{StandsFor}
 use Rattle.capture_measure.specs.Summary.{whom_in}
 use Rattle.capture_measure.specs.Counts.{fates_in, IsCounts}
 use Rattle.capture_measure.specs.Inner.Watching.{whom_of, IsWatch}
@@ -90,7 +90,7 @@ AreKept (Hearing listener) rows = ⊥
 
 -- a port heard these lines
 abbrev pub IsHearing : Watched → List Row → LineStage → Type 0
-IsHearing watched rows (Hearing listener) = IsListener watched listener (after_all watched (datagrams rows))
+IsHearing watched rows (Hearing listener) = StandsFor watched listener (after_all watched (datagrams rows))
 IsHearing watched rows stage = ⊥
 
 -- what is done with the next line, after these
@@ -102,7 +102,7 @@ IsStage w rows (Kept kept) =
 IsStage w rows Passed = (watched_in w (datagrams rows) ≡ None) × (kept_most ≤ length rows)
 IsStage w rows (Hearing listener) =
     (watched : Watched) × (watched_in w (datagrams rows) ≡ Some watched)
-    × IsListener watched listener (after_all watched (datagrams (heard w rows)))
+    × StandsFor watched listener (after_all watched (datagrams (heard w rows)))
 
 -- what is kept is that of these lines; the watch isn't asked any more once it is known whom to watch
 pub record IsMeasuring (task : Measuring) (r : Recording) : Type 0 where

@@ -10,7 +10,7 @@ use Rattle.capture_measure.specs.Row.{Row, datagrams}
 use Rattle.capture_measure.specs.Measured.{texts_as, measured_at, measurements}
 use Rattle.capture_measure.specs.declared.tally.Tally.{Tally}
 use Rattle.capture_measure.specs.Counts.{Fate, fates, IsCounts}
-use Rattle.capture_measure.specs.Inner.Listener.{IsListener}
+use Rattle.recording_listener.specs.StandsFor.{StandsFor}
 use Rattle.capture_measure.specs.Inner.Recordings.{row_at, AreKeptRows}
 use Rattle.capture_measure.proofs.KeptRows.{those_kept, alone, one_there, until_alone, went_alone}
 use Rattle.capture_measure.proofs.packets.CaptureMeasuring.begin.Goals as goal
@@ -43,7 +43,7 @@ returns-clause-begun g c = λ rows begins.
     let recordings = c.args.self.now.recordings.recordings.items in
     let row : Row = row_at c.args.time c.args.datagram.now in
     let before = g.W.Write.contents (device_of c.args.output.now) in
-    let heard : IsListener c.args.watched c.if-is_kept.listener (after_all c.args.watched (datagrams rows))
+    let heard : StandsFor c.args.watched c.if-is_kept.listener (after_all c.args.watched (datagrams rows))
     × Appends before (g.W.Write.contents (device_of c.if-is_kept.output)) (texts_as c.args.self.now.reports.reports.form (measurements c.args.watched rows)) =
     elim c.if-is_kept.branch [
       | then-is_kept+in_ok-hear_kept w ↦

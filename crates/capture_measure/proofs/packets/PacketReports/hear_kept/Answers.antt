@@ -8,7 +8,7 @@ use Rattle.capture_model.specs.Listening.{after_all}
 use Rattle.capture_measure.specs.Row.{Row, datagrams}
 use Rattle.capture_measure.specs.Measured.{texts_as, measured_at, measurements}
 use Rattle.capture_measure.specs.Counts.{fates, IsCounts}
-use Rattle.capture_measure.specs.Inner.Listener.{IsListener}
+use Rattle.recording_listener.specs.StandsFor.{StandsFor}
 use Rattle.capture_measure.proofs.Goes.{texts-after}
 use Rattle.capture_measure.proofs.KeptRows.{are_next, kept_until}
 use Rattle.capture_measure.proofs.packets.PacketReports.hear_kept.Goals as goal
@@ -37,7 +37,7 @@ loop-it-preserved g c = record {
       let heard = c.in_ok-hear.ensures.heard watched earlier listens in (
         next.0 ∷ earlier,
         next.2,
-        subst (λ (row : Row). IsListener watched c.hear.new.listener (after_all watched (datagrams (row ∷ earlier)))) (sym same) heard.0,
+        subst (λ (row : Row). StandsFor watched c.hear.new.listener (after_all watched (datagrams (row ∷ earlier)))) (sym same) heard.0,
         texts-after c.args.self.now.reports.form (option_to_list (measured_at watched earlier next.0)) (measurements watched earlier)
             _ _ _ appended (subst (λ (row : Row). Appends (g.W.Write.contents (device_of c.loop-it.output))
             (g.W.Write.contents (device_of c.hear.new.output))

@@ -8,7 +8,7 @@ use Rattle.capture_model.specs.Listening.{after_all}
 use Rattle.capture_model.specs.Recorded.{Recorded}
 use Rattle.capture_measure.specs.Row.{datagrams}
 use Rattle.capture_measure.specs.Measured.{measured_at, texts_as}
-use Rattle.capture_measure.specs.Inner.Listener.{IsListener}
+use Rattle.recording_listener.specs.StandsFor.{StandsFor}
 use Rattle.capture_measure.specs.Inner.Hearing.{recorded_of, measured_by, Goes}
 use Rattle.capture_measure.specs.Counts.{Fate, fate_in, IsCounts}
 use Rattle.capture_measure.proofs.Fates.{one_there, none_there, fate-measured}
@@ -20,7 +20,7 @@ pub returns-in-Some-clause-heard : goal.returns-in-Some-clause-heard
 returns-in-Some-clause-heard g c = λ watched earlier row of listens.
     let d : Recorded = recorded_of c.args.read.now.datagram in
     let heard = c.listen.ensures.heard watched (datagrams earlier) listens in (
-      on_ok c.write.result (subst (λ (x : Recorded). IsListener watched c.listen.new.listener (after_all watched (x ∷ datagrams earlier)))
+      on_ok c.write.result (subst (λ (x : Recorded). StandsFor watched c.listen.new.listener (after_all watched (x ∷ datagrams earlier)))
           (sym of.datagram) heard.0),
       subst (λ (ms : List Measured). Goes c.args.self.now.form c.write.result ms
           (g.W.Write.contents (device_of c.args.output.now)) (g.W.Write.contents (device_of c.write.new.output)))
@@ -35,7 +35,7 @@ pub returns-in-None-clause-heard : goal.returns-in-None-clause-heard
 returns-in-None-clause-heard g c = λ watched earlier row of listens.
     let d : Recorded = recorded_of c.args.read.now.datagram in
     let heard = c.listen.ensures.heard watched (datagrams earlier) listens in (
-      subst (λ (x : Recorded). IsListener watched c.listen.new.listener (after_all watched (x ∷ datagrams earlier)))
+      subst (λ (x : Recorded). StandsFor watched c.listen.new.listener (after_all watched (x ∷ datagrams earlier)))
           (sym of.datagram) heard.0,
       subst (λ (ms : List Measured). Appends (g.W.Write.contents (device_of c.args.output.now))
           (g.W.Write.contents (device_of c.args.output.now)) (texts_as c.args.self.now.form ms))

@@ -1,9 +1,8 @@
 use Rattle.std.proofs.Common.{◌∙◌, ◌∷◌, ℕ, refl, sym, ap, subst}
 use Rattle.event_codec.specs.Packet.{Contents, contents}
-use Rattle.capture_model.specs.declared.watched.Watched.{Watched}
 use Rattle.capture_model.specs.Listening.{Listening, after_all}
 use Rattle.capture_model.specs.Recorded.{Recorded}
-use Rattle.capture_measure.specs.declared.listener.Became.{Became}
+use Rattle.recording_listener.specs.declared.listener.Became.{Became}
 use Rattle.measure_summary.specs.declared.counts.Counts.{Counts}
 use Rattle.capture_measure.specs.Counts.{kind_of, fate_in, meeting_of, IsCounts}
 use Rattle.capture_measure.specs.Meetings.{meeting_at}
@@ -30,8 +29,7 @@ returns-in_err-report_in-clause-counted c = λ watched earlier all listens so.
     let d : Recorded = recorded_of c.args.datagram.now in
     let m : Contents = contents c.in-Ok.message in
     let l : Listening = after_all watched earlier in
-    let now = c.hear-became.ensures.listens watched l listens in
-    let domain = c.domain.ensures ∙ ap (λ (v : Watched). v.domain) now.watched in
+    let domain = c.domain.ensures watched _ (c.hear-became.ensures.listens watched l listens) in
     let became : Became = c.hear-became.result in
     let counts : Counts = c.note.new.self.counts in
     let others : Others = c.count_heard.new.self.counts.others in
@@ -49,8 +47,7 @@ returns-clause-counted c = λ watched earlier all listens so.
     let d : Recorded = recorded_of c.args.datagram.now in
     let m : Contents = contents c.in-Ok.message in
     let l : Listening = after_all watched earlier in
-    let now = c.hear-became.ensures.listens watched l listens in
-    let domain = c.domain.ensures ∙ ap (λ (v : Watched). v.domain) now.watched in
+    let domain = c.domain.ensures watched _ (c.hear-became.ensures.listens watched l listens) in
     let became : Became = c.hear-became.result in
     let counts : Counts = c.note.new.self.counts in
     let others : Others = c.count_heard.new.self.counts.others in

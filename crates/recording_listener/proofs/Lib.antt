@@ -1,0 +1,3 @@
+mod Judged
+mod Listeners
+pub mod Replied

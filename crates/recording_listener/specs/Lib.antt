@@ -1,0 +1,5 @@
+pub mod Beginnings
+pub mod Exchanged
+pub mod Became
+pub mod StandsFor
+pub mod Inner
