@@ -1,5 +1,5 @@
 -- Octets have one answer of `replay` and of `check_text`, where no device failed and no memory was refused.
-use Rattle.std.proofs.Common.{◌≡◌, ◌∙◌, ℕ, ◌+◌, List, [], ◌∷◌, ◌++◌, Option, Some, None, Result, Ok, Err, refl, sym, ap, subst}
+use Rattle.std.proofs.Common.{◌≡◌, ◌∙◌, ℕ, List, [], ◌∷◌, ◌++◌, Option, Some, None, Result, Ok, Err, refl, sym, ap, subst}
 use Rattle.std.specs.Prelude.{option_map}
 use Rattle.network_model.specs.Network.{Network}
 use Rattle.network_model.specs.Run.{Run}

@@ -100,7 +100,7 @@ impl Replaying {
         event: &Event,
         output: &mut Counted<W>,
     ) -> Result<(), TaskFault>
-        requires { (state_of self.old.stage).run ≡ [] }
+        requires first { (state_of self.old.stage).run ≡ [] }
         requires replaying { IsReplaying self.old.stage }
         ensures happens { let state = state_of self.old.stage in
             let before = W.contents (device_of output.old) in

@@ -21,8 +21,8 @@ returns-in_err-happen-clause-happens g c =
     let stops = c.in_err-happen.ensures.happens in
     rw (e.1, e.2, ← same) (stopped _ c.in_ok-world.world c.args.event.now _ _ _ network out stops.0 stops.1)
 
-pub returns-in_ok-happen-clause-happens : goal.returns-in_ok-happen-clause-happens
-returns-in_ok-happen-clause-happens g c =
+pub returns-clause-happens : goal.returns-clause-happens
+returns-clause-happens g c =
     let (same, network, out) =
     begun_world c.in_ok-world.world c.args.self.now.stage c.in-Nodes.nodes.items _ _ (ap state_of c.in-Nodes.is)
     (rw c.as_slice.ensures.value at c.in_ok-world.ensures.begun) in
