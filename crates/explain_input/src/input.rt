@@ -1,5 +1,5 @@
 //! What the lines of an input are: a transcript or a schedule.
-ghost use Rattle.std.specs.Prelude.{◌≡◌, ◌≢◌, ◌⊎◌, ◌+◌, [], reverse, MatchOption, MatchResult, None};
+ghost use Rattle.std.specs.Prelude.{◌≡◌, ◌≢◌, ◌≤◌, ◌⊎◌, ◌+◌, [], reverse, MatchOption, MatchResult, None};
 ghost use Rattle.network_model.specs.declared.event.Event.{Event};
 ghost use Rattle.world_model.specs.State.{new_state};
 ghost use Rattle.schedule_reading.specs.Schedule.{FaultsIn};
@@ -112,7 +112,7 @@ impl Input {
     pub fn next_line(&self) -> Result<u64, TaskFault>
         ensures { MatchResult result
             (λ line. line ≡ lines_in self.now + 1)
-            (λ fault. fault ≡ TaskFault.Memory) }
+            (λ fault. (fault ≡ TaskFault.Memory) × (18446744073709551615 ≤ lines_in self.now)) }
     {
         let (nodes, events) = match self {
             Input::Transcript(transcript) => (transcript.nodes(), transcript.events()),

@@ -1,4 +1,4 @@
-//! An exchange through a transparent clock, worked by hand: its nodes, its events and what comes of them. For the tests of worlds
+//! Nodes of networks, and an exchange through a transparent clock, worked by hand: its events and what comes of them. For the tests of worlds
 //! and of the checker.
 #![tactic(auto)]
 

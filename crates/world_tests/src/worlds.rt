@@ -1,7 +1,7 @@
 //! That a world goes on after an event that it refuses, where `replay` ends.
 
 use std::test::Fail;
-use worked_exchange::{LENGTH, ample, event, moment, name, specs, world};
+use worked_exchange::{LENGTH, ample, begun, event, moment, name, played, specs, world};
 use world_model::{Event, RunStop, WorldRefusal, run};
 
 /// Events that a world refuses in which nothing happened, and why.
@@ -24,6 +24,14 @@ fn refused() -> Result<[(Event, WorldRefusal); 6], Fail> {
         ),
         (Event::Stamped { node }, WorldRefusal::NothingWaiting),
     ])
+}
+
+/// With ample memory the exchange happens, so the tests that withhold memory have something to try.
+#[test]
+fn the_exchange_happens(rt: HostRuntime) -> Result<(), Fail> {
+    assert!(rt; begun(rt.alloc())?.is_some());
+    assert!(rt; played(rt.alloc())?.is_some());
+    Ok(())
 }
 
 #[test]
