@@ -70,7 +70,7 @@ def read_specs():
             head = HEAD.match(line)
             if head:
                 block = blocks.setdefault(head.group(1), [])
-            elif line.lstrip().startswith(("--", "use ", "pub mod", "infix", "module ")):
+            elif line.startswith("--") or line.lstrip().startswith(("use ", "pub mod", "infix", "module ")):
                 block = None
             if block is not None:
                 block.append(line)
