@@ -29,7 +29,9 @@ use Rattle.exchange_check.specs.Inner.Finding.{found_finding_by}
 use Rattle.exchange_check.specs.Inner.Found.{of_report, of_found}
 use Rattle.exchange_check.specs.Inner.Machine.{IsKept, machine, facts_of, sites_of, stamps_of}
 use Rattle.exchange_check.specs.Inner.Noting.{mapped}
-use Rattle.exchange_check.specs.Inner.Stays.{last_stays, once_of, once_in}
+use Rattle.exchange_check.specs.Inner.Stays.{last_stays}
+use Rattle.copy_stays.specs.Leaves.{once_of}
+use Rattle.copy_stays.specs.Stays.{once_in}
 use Rattle.exchange_check.proofs.Bounds.{chain_parts}
 use Rattle.exchange_check.proofs.Exchanges.{found_of, found_journey_of}
 use Rattle.exchange_check.proofs.FoundFindings.{pair-found, size-found, value-found, master-found, octets-found}

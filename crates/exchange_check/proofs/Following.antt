@@ -18,8 +18,9 @@ use Rattle.trace_model.specs.Line.{Lines, counts}
 use Rattle.trace_model.specs.Record.{LinePlace, line_place, line_number, event_of, site, line_at, events}
 use Rattle.trace_model.specs.Journey.{LineJourney, line_begun, with_stay, copy_entered, line_left_from}
 use Rattle.trace_model.specs.Journey.{line_journey_made, line_journey_of, left_once}
-use Rattle.exchange_check.specs.Inner.Kept.{Facts, Leaves, leaves_after, left_again}
-use Rattle.exchange_check.specs.Inner.Stays.{stay_below, stay_of, last_stays, is_once, once_by}
+use Rattle.exchange_check.specs.Inner.Kept.{Facts, leaves_after}
+use Rattle.copy_stays.specs.Leaves.{Leaves, left_again, is_once, once_by}
+use Rattle.exchange_check.specs.Inner.Stays.{stay_below, stay_of, last_stays}
 use Rattle.exchange_check.proofs.Noted.{leaves_at, count_more}
 use Rattle.exchange_check.proofs.Passing.{none_made}
 use Rattle.exchange_check.proofs.Told.{fact_of, kept_journey_of}

@@ -13,9 +13,11 @@ use Rattle.exchange_check.specs.declared.kept.Kept.{Kept}
 use Rattle.exchange_check.specs.KeptLine.{kept_line, kept_line_at, origin_at, master_told}
 use Rattle.exchange_check.specs.Inner.Kept.{kept_journey_at}
 use Rattle.exchange_check.specs.Inner.Machine.{IsKept, machine, facts_of, sites_of, firsts_of, stamps_of}
-use Rattle.exchange_check.specs.Inner.Stays.{once_of, last_stays, once_in}
+use Rattle.copy_stays.proofs.Kept.{once_kept}
+use Rattle.copy_stays.specs.Leaves.{once_of}
+use Rattle.exchange_check.specs.Inner.Stays.{last_stays}
+use Rattle.copy_stays.specs.Stays.{once_in}
 use Rattle.exchange_check.specs.Inner.Noting.{line_of_fact}
-use Rattle.exchange_check.proofs.Keeping.{once_kept}
 use Rattle.exchange_check.proofs.Noted.{site_at, leaves_at, firsts_at, stamps_at, told_master}
 use Rattle.exchange_check.proofs.Told.{fact_of, facts_at, kept_journey_of, kept_journey_at-is}
 use Rattle.exchange_check.proofs.Standing.{stands}

@@ -1,9 +1,8 @@
 -- What is kept after one more line.
-use Rattle.std.proofs.Common.{◌≡◌, ◌∙◌, ℕ, zero, suc, ◌+◌, ◌<◌, ◌≤◌, Bool, true, false, ◌&&◌, cond, eqb, List, []}
+use Rattle.std.proofs.Common.{◌≡◌, ◌∙◌, ℕ, zero, suc, ◌+◌, ◌<◌, ◌≤◌, Bool, true, false, cond, eqb, List, []}
 use Rattle.std.proofs.Common.{◌∷◌, ◌++◌, length, Option, Some, None, refl, sym, ap, subst, arith, length-append}
 use Rattle.std.proofs.Math.Path.{transport}
 use Rattle.std.specs.Prelude.{slice_get, option_map, option_and_then, is_some, nat_lt}
-use Rattle.std.specs.Option.{option_map_or}
 use Rattle.std.proofs.lemmas.Bool.Decides.{nat_tests}
 use Rattle.network_model.specs.Network.{Network}
 use Rattle.exchange_check.specs.declared.facts.Fact.{Fact}
@@ -14,10 +13,11 @@ use Rattle.trace_model.specs.declared.verdict.Verdict.TheVariants.{Accepted, Ref
 use Rattle.trace_model.specs.declared.judgement.Judgement.{Judgement}
 use Rattle.trace_model.specs.declared.verdict.Why.{Why}
 use Rattle.trace_model.specs.Verdict.{one_more}
-use Rattle.exchange_check.specs.Inner.Kept.{Facts, Leaves, fact_in, fact_by}
-use Rattle.exchange_check.specs.declared.stays.Stays.{Stays}
-use Rattle.exchange_check.specs.Inner.Stays.{LastStays, stay_below, stay_of, last_stays, with_stay, is_once}
-use Rattle.exchange_check.specs.Inner.Stays.{once_by, once_of, state_in, is_whole, AreStays, once_in}
+use Rattle.exchange_check.specs.Inner.Kept.{Facts, fact_in, fact_by}
+use Rattle.copy_stays.specs.Leaves.{LastStays, Leaves, with_stay}
+use Rattle.copy_stays.specs.Stays.{AreStays, once_in}
+use Rattle.copy_stays.proofs.Kept.{once_kept}
+use Rattle.exchange_check.specs.Inner.Stays.{stay_below, stay_of, last_stays}
 use Rattle.network_model.specs.Kinds.{entered_copy, named_transit}
 use Rattle.trace_model.specs.Sound.{where_passes}
 use Rattle.std.proofs.lemmas.Bool.{eqb-true, eq-eqb, ltb-true}
@@ -124,27 +124,6 @@ module _ (facts : Facts) (count : ℕ) (fact : Option Fact) (none : (n : ℕ) �
 
   last_stays-more : last_stays now ≡ with_stay count (option_and_then (stay_of now count) fact) (last_stays facts)
   last_stays-more = λ i n. stays_at n (eqb count n) (nat_lt n count) refl refl i
-
--- what is kept of each copy is what its stays say
-pub once_kept : (kept : Stays) (stays : LastStays) (leaves : Leaves) (number : ℕ) → AreStays kept stays leaves number
-    → once_in kept ≡ once_of stays leaves
-once_kept kept stays leaves number h = λ i copy. at copy i
-  where
-    by : (count copy : ℕ) → copy < count → once_in kept copy ≡ once_by stays leaves count copy
-    by zero copy within = absurd (omega (arith, within))
-    by (suc count) copy within =
-        h.once copy ∙ stay (stays copy) refl (λ c low. by count c (omega (arith, low, within)))
-      where
-        stay : (o : Option (ℕ × ℕ)) → stays copy ≡ o
-            → ((c : ℕ) → c < copy → once_in kept c ≡ once_by stays leaves count c)
-            → is_whole (state_in kept.states.items) leaves o
-            ≡ option_map_or (λ s. is_once (leaves s.0) && once_by stays leaves count s.1) o true
-        stay None e rest = refl
-        stay (Some s) e rest = ap (λ (b : Bool). is_once (leaves s.0) && b)
-            (rest s.1 (h.ordered.within copy s.0 s.1 e).0)
-
-    at : (copy : ℕ) → once_in kept copy ≡ once_of stays leaves copy
-    at copy = by (suc copy) copy (omega arith)
 
 module _ (network : Network) (line : TraceLine) (count : ℕ) (m : Machine) (kept : Kept) (number : ℕ)
     (fact : Option Fact) (items : List (Option Fact)) (h : IsKept network kept count m)

@@ -1,7 +1,3 @@
-pub mod Stretches
-pub mod CopyStates
-pub mod Cutting
-pub mod Links
 pub mod Passing
 pub mod Keeping
 pub mod KeptSites

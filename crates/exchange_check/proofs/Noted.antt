@@ -20,8 +20,10 @@ use Rattle.trace_model.specs.Line.{Lines, counts}
 use Rattle.trace_model.specs.Record.{LinePlace, line_place, line_number, event_of, last_line, events, first_stamp}
 use Rattle.trace_model.specs.Finding.{leave_of}
 use Rattle.trace_model.proofs.Lines.{events_if, events_more, last_more}
-use Rattle.exchange_check.specs.Inner.Kept.{Sites, Leaves, Firsts, Stamps, moved, stamped, sites_after, leaves_after}
-use Rattle.exchange_check.specs.Inner.Kept.{first_kept, firsts_after, stamps_after}
+use Rattle.exchange_check.specs.Inner.Kept.{Sites, Stamps, moved, stamped, sites_after, leaves_after}
+use Rattle.copy_stays.proofs.Kept.{or_nothing}
+use Rattle.copy_stays.specs.Leaves.{Leaves, Firsts, first_kept}
+use Rattle.exchange_check.specs.Inner.Kept.{firsts_after, stamps_after}
 use Rattle.exchange_check.specs.Inner.Machine.{sites_told, leaves_told, firsts_told, stamps_told}
 
 pub cond_same : {X : Type 0} (b : Bool) (x : X) → cond b x x ≡ x
@@ -211,10 +213,6 @@ pub sites-line : (network : Network) (line : TraceLine) (earlier : Lines) (fact 
 sites-line network line earlier fact false h same = λ i name. sym (site_more network line earlier name false h) i
 sites-line network line earlier fact true h same =
     λ i name. site_line network line earlier (events network earlier) fact.event name refl same h i
-
-pub or_nothing : (o : Option ℕ) → option_or o None ≡ o
-or_nothing None = refl
-or_nothing (Some n) = refl
 
 -- what lines say of each stay: whether it was left again
 abbrev pub leaves_at : Network → Lines → Leaves

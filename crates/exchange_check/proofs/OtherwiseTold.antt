@@ -29,7 +29,9 @@ use Rattle.exchange_check.specs.Inner.Found.{of_found}
 use Rattle.exchange_check.specs.Inner.Machine.{IsKept, machine, facts_of, stamps_of}
 use Rattle.exchange_check.specs.Inner.Noting.{mapped}
 use Rattle.exchange_check.specs.Inner.Otherwise.{exchange_otherwise_by, otherwise_by}
-use Rattle.exchange_check.specs.Inner.Stays.{last_stays, once_of, once_in}
+use Rattle.exchange_check.specs.Inner.Stays.{last_stays}
+use Rattle.copy_stays.specs.Leaves.{once_of}
+use Rattle.copy_stays.specs.Stays.{once_in}
 use Rattle.exchange_check.proofs.Bounds.{chain_parts}
 use Rattle.exchange_check.proofs.Exchanges.{found_of}
 use Rattle.exchange_check.proofs.FindingTold.{placed}

@@ -3,16 +3,16 @@ use Rattle.std.proofs.Common.{◌≡◌, ◌∙◌, ℕ, ◌+◌, Bool, true, fa
 use Rattle.std.proofs.Math.Path.{transport}
 use Rattle.std.specs.Option.{option_map_or}
 use Rattle.std.specs.Prelude.{option_and_then, is_some}
-use Rattle.std.specs.BTreeMap.{get}
-use Rattle.std.specs.Ordering.{nat_cmp}
 use Rattle.network_model.specs.declared.event.Event.{Event}
 use Rattle.network_model.specs.declared.event.Event.TheVariants.{Leave}
 use Rattle.network_model.specs.Kinds.{named_transit}
 use Rattle.exchange_check.specs.declared.facts.Fact.{Fact}
-use Rattle.exchange_check.specs.declared.stays.Stays.{Stays}
-use Rattle.exchange_check.specs.Inner.Kept.{Facts, Leaves, leaves_after, left_again}
-use Rattle.exchange_check.specs.Inner.Stays.{LastStays, stay_below, stay_of, with_stay, state_in, AreStays}
-use Rattle.exchange_check.proofs.CopyStates.{one_more}
+use Rattle.copy_stays.specs.declared.stays.Stays.{Stays}
+use Rattle.exchange_check.specs.Inner.Kept.{Facts, leaves_after}
+use Rattle.copy_stays.specs.Leaves.{Leaves, left_again, LastStays, with_stay}
+use Rattle.exchange_check.specs.Inner.Stays.{stay_below, stay_of}
+use Rattle.copy_stays.specs.Stays.{AreStays}
+use Rattle.copy_stays.proofs.Kept.{passes}
 
 -- an event that is no Leave event leaves no stay
 pub others_pass : (event : Event) → ((node : _) (transit : ℕ) (at : _) → event ≡ Leave node transit at → ⊥)
@@ -38,4 +38,4 @@ pub stays_pass : (kept : Stays) (facts : Facts) (number : ℕ) (fact : Fact) (st
 stays_pass kept facts number fact stays leaves p h =
     transport (λ i. AreStays kept (with_stay number (sym (none_made facts number fact p) i) stays)
     (option_map_or (λ transit. left_again transit leaves) (sym p i) leaves) (number + 1))
-    (one_more (state_in kept.states.items) (get nat_cmp kept.firsts) stays leaves number h)
+    (passes kept stays leaves number h)

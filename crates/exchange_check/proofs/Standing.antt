@@ -33,7 +33,8 @@ use Rattle.exchange_check.proofs.Following.{once_is, followed_is}
 use Rattle.trace_model.specs.declared.verdict.Verdict.{Verdict}
 use Rattle.trace_model.specs.declared.verdict.Verdict.TheVariants.{Accepted, Refused}
 use Rattle.exchange_check.specs.Inner.Judged.{is_followed_by}
-use Rattle.exchange_check.specs.Inner.Stays.{Once, last_stays, once_of}
+use Rattle.copy_stays.specs.Leaves.{Once, once_of}
+use Rattle.exchange_check.specs.Inner.Stays.{last_stays}
 use Rattle.exchange_check.specs.Inner.Kept.{fact_by}
 use Rattle.exchange_check.specs.Inner.Machine.{Machine, machine, with_fact, sites_told, leaves_told, firsts_told}
 use Rattle.exchange_check.specs.Inner.Machine.{stamps_told}

@@ -30,16 +30,18 @@ use Rattle.exchange_check.specs.Exchange.{line_told, leg_told, exchange_lines, e
 use Rattle.exchange_check.specs.Message.{message_at}
 use Rattle.exchange_check.specs.Inner.Kept.{Stamps}
 use Rattle.exchange_check.specs.Inner.Judged.{is_stamped_by}
-use Rattle.exchange_check.specs.Inner.Stays.{Once, last_stays, once_of, once_in}
+use Rattle.copy_stays.proofs.Kept.{once_kept, or_nothing}
+use Rattle.copy_stays.specs.Leaves.{Once, once_of}
+use Rattle.exchange_check.specs.Inner.Stays.{last_stays}
+use Rattle.copy_stays.specs.Stays.{once_in}
 use Rattle.exchange_check.specs.Inner.Machine.{IsKept, machine, facts_of, stamps_of}
 use Rattle.exchange_check.specs.Inner.Telling.{exchange_with, exchange_found, exchange_at, exchange_by}
 use Rattle.exchange_check.specs.Inner.Telling.{stay_of_copy, copy_before, earlier_by, leg_by, message_at_by}
-use Rattle.exchange_check.proofs.Noted.{cond_same, count_more, leaves_at, stamps_at, stamp_more, or_nothing}
+use Rattle.exchange_check.proofs.Noted.{cond_same, count_more, leaves_at, stamps_at, stamp_more}
 use Rattle.exchange_check.proofs.Told.{fact_of, facts_at}
 use Rattle.exchange_check.proofs.Following.{once_is, followed_is}
 use Rattle.exchange_check.proofs.Exchanges.{found_of, found_journey_of}
 use Rattle.exchange_check.proofs.Bounds.{bound, chain_parts}
-use Rattle.exchange_check.proofs.Keeping.{once_kept}
 use Rattle.exchange_check.proofs.Standing.{facts, slave, IsFollowed, found_journey_to_is, here, learned, all_lines}
 use Rattle.exchange_check.proofs.Standing.{found_if, either_within, stands}
 use Rattle.exchange_check.proofs.Made.{message_at_by-is}

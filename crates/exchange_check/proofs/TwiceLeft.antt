@@ -19,7 +19,7 @@ use Rattle.trace_model.specs.Journey.{LineStay, LineJourney}
 use Rattle.trace_model.specs.Finding.{leave_of, left_again, left_twice}
 use Rattle.exchange_check.specs.declared.way_finding.Twice.{Twice}
 use Rattle.exchange_check.specs.Evidence.{second_leave_of, second_leaves}
-use Rattle.exchange_check.specs.Inner.Kept.{Firsts}
+use Rattle.copy_stays.specs.Leaves.{Firsts}
 use Rattle.exchange_check.specs.Inner.WayFinding.{twice_at, earlier_twice, twice_finding_by}
 use Rattle.exchange_check.proofs.Noted.{cond_same, firsts_at}
 use Rattle.exchange_check.proofs.NotedTables.{or_none}

@@ -35,7 +35,9 @@ use Rattle.exchange_check.specs.Exchange.{stay_told}
 use Rattle.exchange_check.specs.Inner.Found.{of_report}
 use Rattle.exchange_check.specs.Inner.Machine.{IsKept, machine, facts_of, firsts_of, stamps_of}
 use Rattle.exchange_check.specs.Inner.Noting.{stop_of_copy}
-use Rattle.exchange_check.specs.Inner.Stays.{Once, last_stays, once_of, once_in}
+use Rattle.copy_stays.specs.Leaves.{Once, once_of}
+use Rattle.exchange_check.specs.Inner.Stays.{last_stays}
+use Rattle.copy_stays.specs.Stays.{once_in}
 use Rattle.exchange_check.specs.Inner.Telling.{last_stay_by}
 use Rattle.exchange_check.specs.Inner.WayFinding.{origin_stop, heard_stop, stay_before, twice_at, earlier_twice, first_twice_of}
 use Rattle.exchange_check.specs.Inner.WayFinding.{first_twice, twice_finding_by, copy_finding_by, stop_finding, way_finding_by}

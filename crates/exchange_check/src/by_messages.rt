@@ -11,7 +11,7 @@ ghost use Rattle.exchange_check.specs.Inner.Messages.{sync_said_by, sync_bracket
 ghost use Rattle.exchange_check.specs.Inner.Messages.{by_messages_by, said_by};
 ghost use Rattle.exchange_check.specs.Inner.Found.{of_found};
 ghost use Rattle.ptp_units.specs.Exchange.{offset2, path2};
-ghost use Rattle.exchange_check.specs.Inner.Stays.{once_in};
+ghost use Rattle.copy_stays.specs.Stays.{once_in};
 ghost use Rattle.std.specs.Prelude.{reverse};
 
 use crate::checker::Checker;

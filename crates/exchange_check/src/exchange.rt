@@ -6,7 +6,7 @@ ghost use Rattle.exchange_check.specs.Inner.Telling.{line_by, stay_by, last_stay
 ghost use Rattle.exchange_check.specs.Inner.Telling.{copy_before, stays_by, earlier_by, leg_by, follow_by};
 ghost use Rattle.exchange_check.specs.Inner.Telling.{exchange_with, exchange_by};
 ghost use Rattle.exchange_check.specs.Inner.Machine.{facts_of, stamps_of};
-ghost use Rattle.exchange_check.specs.Inner.Stays.{once_in};
+ghost use Rattle.copy_stays.specs.Stays.{once_in};
 
 use crate::facts::{Fact, Found, FoundJourney};
 use crate::judging::LineKind;

@@ -23,7 +23,7 @@ pub(crate) struct KeptJourney {
 }
 
 /// A line that counts, as far as later lines ask. What is kept of a line, this and its place in the tables, takes
-/// some 204 octets (`bench/check` measures it).
+/// some 200 octets (`bench/check` measures it).
 #[derive(Clone, Copy)]
 pub(crate) struct Fact {
     /// The line's number.

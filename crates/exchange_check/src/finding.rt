@@ -16,7 +16,7 @@ ghost use Rattle.exchange_check.specs.Inner.Finding.{follow_octets_by, all_octet
 ghost use Rattle.exchange_check.specs.Inner.Found.{of_report, of_found};
 ghost use Rattle.exchange_check.specs.Inner.Machine.{facts_of, sites_of, stamps_of};
 ghost use Rattle.exchange_check.specs.Inner.Noting.{mapped};
-ghost use Rattle.exchange_check.specs.Inner.Stays.{once_in};
+ghost use Rattle.copy_stays.specs.Stays.{once_in};
 
 use crate::checker::Checker;
 use crate::evidence::Evidence;

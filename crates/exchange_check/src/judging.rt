@@ -6,7 +6,7 @@ ghost use Rattle.std.specs.Ordering.{int_eq};
 ghost use Rattle.ptp_units.specs.Exchange.{offset2, path2};
 ghost use Rattle.trace_model.specs.Sound.{is_of_line, is_domain, are_later};
 ghost use Rattle.exchange_check.specs.Inner.Kept.{port_setup};
-ghost use Rattle.exchange_check.specs.Inner.Stays.{once_in};
+ghost use Rattle.copy_stays.specs.Stays.{once_in};
 ghost use Rattle.exchange_check.specs.Inner.Judged.{line_of_by, sender_by, sync_by, follow_by, follows_by, arrival_by};
 ghost use Rattle.exchange_check.specs.Inner.Judged.{completion_by, is_of_kind, is_stamped_by, found_by};
 ghost use Rattle.exchange_check.specs.Inner.Judged.{found_journey_at, found_journey_to, is_followed_by, paired_by};

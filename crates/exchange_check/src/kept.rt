@@ -9,7 +9,8 @@ ghost use Rattle.exchange_check.specs.Inner.Machine.{Machine, IsKept, start, lin
 ghost use Rattle.exchange_check.specs.Inner.Machine.{after_line, judgement_after, sites_told};
 ghost use Rattle.exchange_check.specs.Inner.Machine.{leaves_told, stamps_told, facts_of, sites_of, stamps_of};
 ghost use Rattle.exchange_check.specs.Inner.Machine.{firsts_told, firsts_of};
-ghost use Rattle.exchange_check.specs.Inner.Stays.{stay_of, once_in, StaysAfter};
+ghost use Rattle.exchange_check.specs.Inner.Stays.{stay_of};
+ghost use Rattle.copy_stays.specs.Stays.{once_in, StaysAfter};
 ghost use Rattle.network_model.specs.Kinds.{named_transit};
 ghost use Rattle.network_model.specs.Run.{site_of};
 ghost use Rattle.network_model.specs.Network.{Network};
@@ -33,7 +34,7 @@ use crate::octets::{Port, delay_resp, is_written, master_at, resided, sent, slav
 use crate::refusal::CheckFault;
 use crate::residence::Residence;
 use crate::sites::{move_site, site_in};
-use crate::stays::Stays;
+use copy_stays::Stays;
 use event_codec::PortMessage;
 use master_port::follow_up;
 use network_model::{Event, Name, Nodes};
@@ -443,7 +444,7 @@ impl Kept {
             | Event::StepClock { .. } => move_site(&mut self.sites, nodes, &fact.event, number),
             Event::Leave { transit, .. } => {
                 let from = self.entered(fact, *transit, number);
-                self.stays.leave(number, *transit, from)
+                Ok(self.stays.leave(number, *transit, from)?)
             }
             Event::Stamped { node } => {
                 let last = self.site(nodes, node).last_request;

@@ -21,7 +21,6 @@ mod place_finding;
 mod refusal;
 mod residence;
 mod sites;
-mod stays;
 mod way_finding;
 mod ways;
 

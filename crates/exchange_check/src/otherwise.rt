@@ -10,7 +10,7 @@ ghost use Rattle.exchange_check.specs.Inner.Found.{of_found};
 ghost use Rattle.exchange_check.specs.Inner.Machine.{facts_of, stamps_of};
 ghost use Rattle.exchange_check.specs.Inner.Noting.{mapped};
 ghost use Rattle.exchange_check.specs.Inner.Otherwise.{exchange_otherwise_by, otherwise_by};
-ghost use Rattle.exchange_check.specs.Inner.Stays.{once_in};
+ghost use Rattle.copy_stays.specs.Stays.{once_in};
 
 use crate::checker::Checker;
 use crate::evidence::Evidence;

@@ -1,6 +1,6 @@
 ghost use Rattle.std.specs.Prelude.{◌≡◌};
 
-use std::alloc::{AllocError, AllocFailed};
+use std::alloc::AllocError;
 use thiserror::Error;
 
 /// Why there is no verdict.
@@ -22,5 +22,15 @@ impl CheckFault {
         match self {
             CheckFault::Memory => 709,
         }
+    }
+}
+
+impl From<AllocError> for CheckFault {
+    ghost use Rattle.exchange_check.specs.declared.refusal.CheckFault.TheVariants.{Memory};
+
+    ghost from_gives = { λ _ fault. fault ≡ Memory };
+
+    fn from(_refused: AllocError) -> CheckFault {
+        CheckFault::Memory
     }
 }

@@ -7,7 +7,7 @@ ghost use Rattle.exchange_check.specs.Evidence.{stops_in};
 ghost use Rattle.exchange_check.specs.Inner.Found.{of_report};
 ghost use Rattle.exchange_check.specs.Inner.Judged.{is_of_kind};
 ghost use Rattle.exchange_check.specs.Inner.Machine.{facts_of, firsts_of, stamps_of};
-ghost use Rattle.exchange_check.specs.Inner.Stays.{once_in};
+ghost use Rattle.copy_stays.specs.Stays.{once_in};
 ghost use Rattle.exchange_check.specs.Inner.WayFinding.{earlier_twice, twice_at, stay_before, first_twice};
 ghost use Rattle.exchange_check.specs.Inner.WayFinding.{twice_finding_by, copy_finding_by, way_finding_by, ways_finding_by};
 

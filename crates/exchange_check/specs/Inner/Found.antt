@@ -8,7 +8,7 @@ use Rattle.exchange_check.specs.declared.facts.Found.{Found}
 use Rattle.exchange_check.specs.declared.facts.FoundJourney.{FoundJourney}
 use Rattle.exchange_check.specs.Inner.Kept.{Facts, Stamps}
 use Rattle.exchange_check.specs.Inner.Judged.{found_by, found_journey_to}
-use Rattle.exchange_check.specs.Inner.Stays.{Once}
+use Rattle.copy_stays.specs.Leaves.{Once}
 
 -- from the lines of a report of the line of this number, where they are there
 abbrev pub of_report : {Y : Type 0} → Facts → Stamps → (Fact → Found → Option Y) → ℕ → Report → Option Y

@@ -27,7 +27,7 @@ use Rattle.trace_model.specs.declared.verdict.Why.TheVariants.{NoSuchLine, Other
 use Rattle.trace_model.specs.declared.verdict.Why.TheVariants.{WrongReading, WrongValue, TooBig, Bytes}
 use Rattle.trace_model.specs.Sound.{where_passes, below, are_later, is_domain, is_of_line, Conditions, failing}
 use Rattle.exchange_check.specs.Inner.Kept.{Facts, Stamps, Sites, kept_journey_at}
-use Rattle.exchange_check.specs.Inner.Stays.{Once}
+use Rattle.copy_stays.specs.Leaves.{Once}
 
 -- the events of a kind that a line has to tell of
 abbrev pub is_of_kind : LineKind → Event → Bool

@@ -16,6 +16,7 @@ use Rattle.network_model.specs.Network.{Network, NodeName, PortSetup, is_named, 
 use Rattle.network_model.specs.Run.{site_of, true_moment}
 use Rattle.network_model.specs.Kinds.{entered_copy, named_transit, is_stamped}
 use Rattle.network_model.specs.Truth.{master_at, slave_at}
+use Rattle.copy_stays.specs.Leaves.{Leaves, left_again, Firsts, first_kept}
 use Rattle.exchange_check.specs.declared.facts.Fact.{Fact}
 use Rattle.exchange_check.specs.declared.facts.Known.{Known}
 use Rattle.exchange_check.specs.declared.facts.Site.{Site}
@@ -225,27 +226,11 @@ sites_after (SetMaster node master) n sites = moved_at (SetMaster node master) n
 sites_after (StepClock node diff) n sites = moved_at (StepClock node diff) n sites
 sites_after _ n sites = sites
 
--- whether the stay that began at each line was left again after it was left
-abbrev pub Leaves : Type 0
-Leaves = ℕ → Option Bool
-
--- one more Leave line of a stay
-abbrev pub left_again : ℕ → Leaves → Leaves
-left_again transit leaves stay = if transit == stay then Some (is_some (leaves stay)) else leaves stay
-
--- the same after one more event
+-- whether each stay was left again, after one more event
 abbrev pub leaves_after : Event → Leaves → Leaves
 leaves_after event leaves = option_map_or (λ transit. left_again transit leaves) (named_transit event) leaves
 
--- the first Leave line of each stay
-abbrev pub Firsts : Type 0
-Firsts = ℕ → Option ℕ
-
--- with this line, where the stay has none yet
-abbrev pub first_kept : (transit number : ℕ) → Firsts → Firsts
-first_kept transit number firsts stay = option_or (firsts stay) (if transit == stay then Some number else None)
-
--- the same after an event at the line of this number
+-- the first Leave line of each stay, after an event at the line of this number
 abbrev pub firsts_after : Event → ℕ → Firsts → Firsts
 firsts_after event n firsts = option_map_or (λ transit. first_kept transit n firsts) (named_transit event) firsts
 

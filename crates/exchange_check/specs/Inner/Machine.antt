@@ -14,9 +14,11 @@ use Rattle.trace_model.specs.declared.verdict.Verdict.{Verdict}
 use Rattle.trace_model.specs.declared.verdict.Verdict.TheVariants.{Accepted, Refused}
 use Rattle.trace_model.specs.Line.{Lines}
 use Rattle.trace_model.specs.Verdict.{report_in, one_more}
-use Rattle.exchange_check.specs.Inner.Kept.{Facts, Sites, Leaves, Firsts, Stamps, new_site, fact_in, site_in}
+use Rattle.exchange_check.specs.Inner.Kept.{Facts, Sites, Stamps, new_site, fact_in, site_in}
+use Rattle.copy_stays.specs.Leaves.{Leaves, Firsts, Once, once_of}
 use Rattle.exchange_check.specs.Inner.Kept.{fact_by, sites_after, leaves_after, firsts_after, stamps_after}
-use Rattle.exchange_check.specs.Inner.Stays.{Once, last_stays, once_of, AreStays}
+use Rattle.exchange_check.specs.Inner.Stays.{last_stays}
+use Rattle.copy_stays.specs.Stays.{AreStays, first_leaves}
 use Rattle.exchange_check.specs.Inner.Judged.{judgement_by}
 
 -- what is kept
@@ -118,7 +120,7 @@ stamps_of kept = get nat_cmp kept.stamps
 
 -- what is kept of the first Leave lines
 abbrev pub firsts_of : Kept → Firsts
-firsts_of kept = get nat_cmp kept.stays.firsts
+firsts_of kept = first_leaves kept.stays
 
 -- how many report lines are accepted
 abbrev pub accepted_count : Verdict → ℕ

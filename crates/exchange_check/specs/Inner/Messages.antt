@@ -20,7 +20,7 @@ use Rattle.exchange_check.specs.Inner.Found.{of_report, of_found}
 use Rattle.exchange_check.specs.Inner.Judged.{sender_by}
 use Rattle.exchange_check.specs.Inner.Kept.{Facts, Stamps}
 use Rattle.exchange_check.specs.Inner.Noting.{IsMadeAt}
-use Rattle.exchange_check.specs.Inner.Stays.{Once}
+use Rattle.copy_stays.specs.Leaves.{Once}
 
 -- the messageType of a kind
 abbrev pub heard_type : HeardKind → ℕ

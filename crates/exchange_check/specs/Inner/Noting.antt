@@ -27,7 +27,8 @@ use Rattle.exchange_check.specs.declared.kept.Kept.{Kept}
 use Rattle.exchange_check.specs.Evidence.{Table, octets_in, octets_told, stops_in, came_of}
 use Rattle.exchange_check.specs.Inner.Machine.{facts_of, firsts_of}
 use Rattle.exchange_check.specs.Inner.Telling.{message_at_by}
-use Rattle.exchange_check.specs.Inner.Kept.{Facts, Firsts}
+use Rattle.exchange_check.specs.Inner.Kept.{Facts}
+use Rattle.copy_stays.specs.Leaves.{Firsts}
 
 -- what is told of a line
 abbrev pub line_of_fact : Fact → KeptLine

@@ -8,7 +8,7 @@ use Rattle.exchange_check.specs.Evidence.{Table}
 use Rattle.exchange_check.specs.Inner.Finding.{copy_in}
 use Rattle.exchange_check.specs.Inner.Found.{of_report, of_found}
 use Rattle.exchange_check.specs.Inner.Kept.{Facts, Stamps}
-use Rattle.exchange_check.specs.Inner.Stays.{Once}
+use Rattle.copy_stays.specs.Leaves.{Once}
 
 -- of the lines of a report
 abbrev pub exchange_otherwise_by : Table Finding → Found → Option Finding

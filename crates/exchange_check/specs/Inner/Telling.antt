@@ -18,7 +18,7 @@ use Rattle.exchange_check.specs.declared.facts.Found.{Found}
 use Rattle.exchange_check.specs.declared.facts.FoundJourney.{FoundJourney}
 use Rattle.exchange_check.specs.declared.facts.Known.{Known}
 use Rattle.exchange_check.specs.Inner.Kept.{Facts, Stamps, kept_journey_at, message_by}
-use Rattle.exchange_check.specs.Inner.Stays.{Once}
+use Rattle.copy_stays.specs.Leaves.{Once}
 use Rattle.exchange_check.specs.Inner.Judged.{found_by, found_journey_to}
 
 abbrev pub line_by : Fact → ExchangeLine

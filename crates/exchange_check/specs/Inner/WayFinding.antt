@@ -15,8 +15,8 @@ use Rattle.exchange_check.specs.declared.facts.Fact.{Fact}
 use Rattle.exchange_check.specs.declared.facts.Found.{Found}
 use Rattle.exchange_check.specs.declared.way_finding.Twice.{Twice}
 use Rattle.exchange_check.specs.Evidence.{Table}
-use Rattle.exchange_check.specs.Inner.Kept.{Facts, Firsts}
-use Rattle.exchange_check.specs.Inner.Stays.{Once}
+use Rattle.exchange_check.specs.Inner.Kept.{Facts}
+use Rattle.copy_stays.specs.Leaves.{Firsts, Once}
 use Rattle.exchange_check.specs.Inner.Judged.{found_journey_at}
 use Rattle.exchange_check.specs.Inner.Telling.{last_stay_by}
 use Rattle.exchange_check.specs.Inner.Noting.{stop_of_copy}

@@ -2,7 +2,7 @@ use Rattle.std.proofs.Common.{◌∙◌, sym}
 use Rattle.exchange_check.specs.Inner.Found.{of_found}
 use Rattle.exchange_check.specs.Inner.Machine.{facts_of, stamps_of}
 use Rattle.exchange_check.specs.Inner.Messages.{results_told_by}
-use Rattle.exchange_check.specs.Inner.Stays.{once_in}
+use Rattle.copy_stays.specs.Stays.{once_in}
 use Rattle.exchange_check.proofs.OfExchange.{of_report-found}
 use Rattle.exchange_check.proofs.by_messages.report_told.Goals as goal
 

@@ -6,7 +6,7 @@ use Rattle.exchange_check.specs.Inner.Found.{of_found}
 use Rattle.exchange_check.specs.Inner.Machine.{facts_of, stamps_of}
 use Rattle.exchange_check.specs.Inner.Noting.{mapped}
 use Rattle.exchange_check.specs.Inner.Otherwise.{exchange_otherwise_by}
-use Rattle.exchange_check.specs.Inner.Stays.{once_in}
+use Rattle.copy_stays.specs.Stays.{once_in}
 use Rattle.exchange_check.proofs.OfExchange.{of_report-found}
 use Rattle.exchange_check.proofs.exceptions.Exceptions.report_otherwise.Goals as goal
 

@@ -3,8 +3,10 @@ use Rattle.std.proofs.lemmas.Grind.{common_steps}
 use Rattle.std.specs.Prelude.{option_and_then, IfSome}
 use Rattle.exchange_check.specs.declared.facts.Fact.{Fact}
 use Rattle.exchange_check.specs.declared.kept.Kept.{Kept}
-use Rattle.exchange_check.specs.Inner.Kept.{Leaves, has_site, fact_in, fact_from, fact_by, kept_journey_by}
-use Rattle.exchange_check.specs.Inner.Stays.{LastStays, stay_of, with_stay, AreStays}
+use Rattle.copy_stays.specs.Leaves.{Leaves, LastStays, with_stay}
+use Rattle.exchange_check.specs.Inner.Kept.{has_site, fact_in, fact_from, fact_by, kept_journey_by}
+use Rattle.exchange_check.specs.Inner.Stays.{stay_of}
+use Rattle.copy_stays.specs.Stays.{AreStays}
 use Rattle.exchange_check.specs.Inner.Machine.{facts_of, sites_of, stamps_of, sites_told, leaves_told, stamps_told}
 use Rattle.exchange_check.specs.Inner.Machine.{firsts_of, firsts_told}
 use Rattle.exchange_check.proofs.KeptSites.{fact-there}

@@ -5,11 +5,12 @@ use Rattle.std.specs.Prelude.{is_some, option_map, IfSome}
 use Rattle.std.proofs.lemmas.Bool.{true≢false, eqb-true, eq-eqb}
 use Rattle.std.proofs.lemmas.Bool.Decides.{nat_tests}
 use Rattle.std.proofs.lemmas.Option.{same_Some, none-some}
-use Rattle.exchange_check.specs.declared.stays.CopyState.{CopyState}
-use Rattle.exchange_check.specs.Inner.Kept.{Leaves, left_again, Firsts}
-use Rattle.exchange_check.specs.Inner.Stays.{LastStays, with_stay, is_once, CopyStates, root, with_state, IsStretch, Stretch}
-use Rattle.exchange_check.specs.Inner.Stays.{depths, nexts, with_first, IsOrdered, is_whole, AreCopyStates}
-use Rattle.exchange_check.proofs.Stretches.{run_past, grown_run}
+use Rattle.copy_stays.specs.declared.stays.CopyState.{CopyState}
+use Rattle.copy_stays.specs.Leaves.{Leaves, left_again, Firsts, LastStays, with_stay, is_once}
+use Rattle.copy_stays.specs.Stays.{CopyStates, root, IsStretch, Stretch, depths, nexts, IsOrdered, is_whole}
+use Rattle.copy_stays.specs.Stays.{AreCopyStates}
+use Rattle.copy_stays.specs.Inner.Steps.{with_state, with_first}
+use Rattle.copy_stays.proofs.Stretches.{run_past, grown_run}
 
 pub less-apart : (x n : ℕ) → x < n → eqb n x ≡ false
 less-apart x n h = grind (arith, nat_tests)

@@ -6,13 +6,14 @@ use Rattle.std.proofs.lemmas.Bool.{eqb-true}
 use Rattle.std.specs.Prelude.{is_some}
 use Rattle.std.proofs.lemmas.Bool.Decides.{nat_tests}
 use Rattle.std.proofs.lemmas.Option.{same_Some, none-some}
-use Rattle.exchange_check.specs.declared.stays.CopyState.{CopyState}
-use Rattle.exchange_check.specs.Inner.Kept.{left_again, Firsts}
-use Rattle.exchange_check.specs.Inner.Stays.{CopyStates, AreCopyStates, state_in, with_state}
-use Rattle.exchange_check.proofs.CopyStates.{with_state-here, with_state-there}
-use Rattle.exchange_check.proofs.Links.{link, links, links_with, deep_within}
-use Rattle.exchange_check.proofs.Cutting.{cut_flat, cut_start, cut_step, cut_done}
-use Rattle.exchange_check.proofs.stays.Stays.cut.Goals as goal
+use Rattle.copy_stays.specs.declared.stays.CopyState.{CopyState}
+use Rattle.copy_stays.specs.Leaves.{left_again, Firsts}
+use Rattle.copy_stays.specs.Stays.{CopyStates, AreCopyStates, state_in}
+use Rattle.copy_stays.specs.Inner.Steps.{with_state}
+use Rattle.copy_stays.proofs.CopyStates.{with_state-here, with_state-there}
+use Rattle.copy_stays.proofs.Links.{link, links, links_with, deep_within}
+use Rattle.copy_stays.proofs.Cutting.{cut_flat, cut_start, cut_step, cut_done}
+use Rattle.copy_stays.proofs.stays.Stays.cut.Goals as goal
 
 pub returns-then-depth-eq0-clause-stays : goal.returns-then-depth-eq0-clause-stays
 returns-then-depth-eq0-clause-stays c stays leaves number transit first h =

@@ -1,11 +1,11 @@
 use Rattle.std.proofs.Common.{◌≡◌, ℕ, ◌<◌, Some, length}
 use Rattle.std.specs.BTreeMap.{get}
 use Rattle.std.specs.Ordering.{nat_cmp}
-use Rattle.exchange_check.specs.Inner.Kept.{Leaves, left_again}
-use Rattle.exchange_check.specs.Inner.Stays.{LastStays, state_in, AreStays}
-use Rattle.exchange_check.proofs.Cutting.{IsCutting}
-use Rattle.exchange_check.proofs.Links.{links}
-use Rattle.exchange_check.proofs.stays.Stays.cut.Given as goal
+use Rattle.copy_stays.specs.Leaves.{Leaves, left_again, LastStays}
+use Rattle.copy_stays.specs.Stays.{state_in, AreStays}
+use Rattle.copy_stays.proofs.Cutting.{IsCutting}
+use Rattle.copy_stays.proofs.Links.{links}
+use Rattle.copy_stays.proofs.stays.Stays.cut.Given as goal
 
 abbrev pub invariant-loop-copy : goal.invariant-loop-copy
 invariant-loop-copy l =

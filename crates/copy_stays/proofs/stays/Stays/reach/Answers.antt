@@ -1,7 +1,7 @@
 use Rattle.std.proofs.Common.{◌≡◌, ◌∙◌, ◌∷◌, [], ◌++◌, ap, rules}
-use Rattle.exchange_check.specs.Inner.Stays.{root, state_in}
-use Rattle.exchange_check.proofs.Links.{push_root}
-use Rattle.exchange_check.proofs.stays.Stays.reach.Goals as goal
+use Rattle.copy_stays.specs.Stays.{root, state_in}
+use Rattle.copy_stays.proofs.Links.{push_root}
+use Rattle.copy_stays.proofs.stays.Stays.reach.Goals as goal
 
 pub loop-self-preserved : goal.loop-self-preserved
 loop-self-preserved c =

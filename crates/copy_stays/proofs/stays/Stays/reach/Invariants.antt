@@ -1,6 +1,6 @@
 use Rattle.std.proofs.Common.{◌≡◌, ◌+◌, ◌-◌, length}
-use Rattle.exchange_check.specs.Inner.Stays.{state_in}
-use Rattle.exchange_check.proofs.stays.Stays.reach.Given as goal
+use Rattle.copy_stays.specs.Stays.{state_in}
+use Rattle.copy_stays.proofs.stays.Stays.reach.Given as goal
 
 abbrev pub invariant-loop-self : goal.invariant-loop-self
 invariant-loop-self l = (state_in l.self.states.items ≡ state_in l.fn.self.states.items)

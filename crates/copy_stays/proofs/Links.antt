@@ -4,8 +4,9 @@ use Rattle.std.proofs.Common.{eqb, List, [], ◌∷◌, ◌++◌, length, refl, 
 use Rattle.std.specs.Prelude.{is_some}
 use Rattle.std.proofs.lemmas.Bool.{eqb-true}
 use Rattle.std.proofs.lemmas.Bool.Decides.{nat_tests}
-use Rattle.exchange_check.specs.declared.stays.CopyState.{CopyState}
-use Rattle.exchange_check.specs.Inner.Stays.{CopyStates, root, state_in, with_state}
+use Rattle.copy_stays.specs.declared.stays.CopyState.{CopyState}
+use Rattle.copy_stays.specs.Stays.{CopyStates, root, state_in}
+use Rattle.copy_stays.specs.Inner.Steps.{with_state}
 
 abbrev pub link : CopyState → ℕ
 link state = cond (is_some state.next) 1 0

@@ -1,4 +1,4 @@
-//! The stays of copies in clocks, and the copies with a stay that was left twice: these are marked.
+//! What is kept of stays and copies.
 //!
 //! The copies of a message make a tree: a copy grew from the one that entered the clock which it
 //! left. They stand in an order, each linked to the next: after a copy comes all that grew from it,
@@ -10,12 +10,11 @@ ghost use Rattle.std.specs.Prelude.{◌≡◌, ℕ, ◌<◌, ◌+◌, true, fals
 ghost use Rattle.std.specs.Prelude.{None, option_map, length, OnOk, OnErr};
 ghost use Rattle.std.specs.BTreeMap.{get};
 ghost use Rattle.std.specs.Ordering.{nat_cmp};
-ghost use Rattle.exchange_check.specs.Inner.Kept.{Leaves, left_again, first_kept};
-ghost use Rattle.exchange_check.specs.Inner.Stays.{LastStays, with_stay, is_once, root, state_in, with_state};
-ghost use Rattle.exchange_check.specs.Inner.Stays.{with_first, AreStays, StaysAfter, once_in};
+ghost use Rattle.copy_stays.specs.Leaves.{LastStays, with_stay, Leaves, left_again, is_once, once_of, first_kept};
+ghost use Rattle.copy_stays.specs.Stays.{root, state_in, AreStays, StaysAfter, first_leaves, once_in};
+ghost use Rattle.copy_stays.specs.Inner.Steps.{with_state, with_first};
 
-use crate::refusal::CheckFault;
-use std::alloc::Global;
+use std::alloc::{AllocError, Global};
 use std::collections::BTreeMap;
 
 /// What is kept of a copy of an event message.
@@ -52,19 +51,22 @@ impl CopyState {
     }
 }
 
-/// What is kept of stays and of the copies that left after them.
+/// The stays of messages in transparent clocks (IEEE 1588-2019, 10.2), by the lines of a transcript that tell them: which of them
+/// were left, and which copies have a stay on their journey that was left again. Lines have numbers, from 0 on.
 #[derive(Drop)]
-pub(crate) struct Stays {
+pub struct Stays {
     /// Of each number that a Leave line names as its Enter line's: the first such Leave line. Whoever
     /// writes lines picks these numbers, so they aren't hashed.
-    pub(crate) firsts: BTreeMap<u64, u64>,
+    firsts: BTreeMap<u64, u64>,
     /// Of each line up to the last Leave line: the copy that it made.
-    pub(crate) states: Vec<CopyState>,
+    states: Vec<CopyState>,
 }
 
 impl Stays {
-    pub(crate) fn new(alloc: Global) -> Stays
-        ensures { AreStays result (λ n. None) (λ n. None) 0 }
+    /// No stay yet. Takes no memory.
+    pub fn new(alloc: Global) -> Stays
+        ensures stays { AreStays result (λ n. None) (λ n. None) 0 }
+        ensures firsts { first_leaves result ≡ λ n. None }
     {
         Stays {
             firsts: BTreeMap::new(alloc),
@@ -81,9 +83,11 @@ impl Stays {
         }
     }
 
-    /// Whether each stay of a copy's journey was left once.
-    pub(crate) fn once(&self, copy: u64) -> bool
-        ensures { result ≡ once_in self.now copy }
+    /// Whether each stay on the journey of the copy that the line of this number made was left once; true where it made none.
+    pub fn once(&self, copy: u64) -> bool
+        ensures kept { result ≡ once_in self.now copy }
+        ensures once { (stays : LastStays) (leaves : Leaves) (number : ℕ) → AreStays self.now stays leaves number
+            → result ≡ once_of stays leaves copy }
     {
         self.at(copy).once
     }
@@ -100,15 +104,13 @@ impl Stays {
 
     /// Makes room for the copy of this number. Where memory is refused, copies of which nothing is
     /// kept may have been added.
-    fn reach(&mut self, number: u64) -> Result<(), CheckFault>
+    fn reach(&mut self, number: u64) -> Result<(), AllocError>
         ensures room { OnOk result (number < length self.new.states.items) }
         ensures states { state_in self.new.states.items ≡ state_in self.old.states.items }
         ensures firsts { self.new.firsts ≡ self.old.firsts }
     {
         while self.states.len() as u64 <= number {
-            if self.states.push(CopyState::root()).is_err() {
-                return Err(CheckFault::Memory);
-            }
+            self.states.push(CopyState::root())?;
         }
         Ok(())
     }
@@ -194,41 +196,34 @@ impl Stays {
         }
     }
 
-    /// The first Leave line of a stay.
-    pub(crate) fn first(&self, transit: u64) -> Option<u64>
-        ensures { result ≡ get nat_cmp self.now.firsts transit }
+    /// The first Leave line of the stay that began at the Enter line `transit`.
+    pub fn first(&self, transit: u64) -> Option<u64>
+        ensures { result ≡ first_leaves self.now transit }
     {
         self.firsts.get(&transit).copied()
     }
 
     /// The Leave line of this number is the first that names a stay.
-    fn keep_first(&mut self, transit: u64, number: u64) -> Result<(), CheckFault>
+    fn keep_first(&mut self, transit: u64, number: u64) -> Result<(), AllocError>
         ensures named { OnOk result (get nat_cmp self.new.firsts
             ≡ with_first transit number (get nat_cmp self.old.firsts)) }
         ensures unchanged { OnErr result (get nat_cmp self.new.firsts ≡ get nat_cmp self.old.firsts) }
         ensures states { self.new.states ≡ self.old.states }
     {
-        match self.firsts.insert(transit, number) {
-            Ok(_) => Ok(()),
-            Err(_) => Err(CheckFault::Memory),
-        }
+        self.firsts.insert(transit, number)?;
+        Ok(())
     }
 
-    /// A Leave line of this number, for the stay that began at the line `transit`, and the copy that
-    /// entered there, where the journey of the one that left is known. Where memory is refused, nothing
-    /// that is kept changes.
-    pub(crate) fn leave(
-        &mut self,
-        number: u64,
-        transit: u64,
-        from: Option<u64>,
-    ) -> Result<(), CheckFault>
+    /// The line of this number leaves the stay that began at the Enter line `transit`. `from` is the copy that entered there,
+    /// where the journey of the one that left is known. Lines come in the order of their numbers, each once at most; those that
+    /// leave nothing may be left out. Takes room for all lines up to this one. Where memory is refused, nothing that is kept
+    /// changes.
+    pub fn leave(&mut self, number: u64, transit: u64, from: Option<u64>) -> Result<(), AllocError>
         requires { IfSome from (λ copy. copy < number) }
         ensures stays { StaysAfter self.old self.new number (option_map (λ copy. (transit, copy)) from)
             (left_again transit) result }
-        ensures firsts { OnOk result (get nat_cmp self.new.firsts
-            ≡ first_kept transit number (get nat_cmp self.old.firsts)) }
-        ensures same_firsts { OnErr result (get nat_cmp self.new.firsts ≡ get nat_cmp self.old.firsts) }
+        ensures firsts { OnOk result (first_leaves self.new ≡ first_kept transit number (first_leaves self.old)) }
+        ensures same_firsts { OnErr result (first_leaves self.new ≡ first_leaves self.old) }
     {
         self.reach(number)?;
         if let Some(first) = self.first(transit) {

@@ -4,11 +4,10 @@ use Rattle.std.proofs.Common.{[], ◌∷◌, Option, Some, None, ◌⊎◌, inl,
 use Rattle.std.specs.Prelude.{is_some}
 use Rattle.std.proofs.lemmas.Bool.{true≢false, eqb-true, eqb-false, eq-eqb, and_parts}
 use Rattle.std.proofs.lemmas.Option.{same_Some, none-some}
-use Rattle.exchange_check.specs.declared.stays.CopyState.{CopyState}
-use Rattle.exchange_check.specs.Inner.Kept.{Leaves, left_again, Firsts}
-use Rattle.exchange_check.specs.Inner.Stays.{LastStays, is_once, CopyStates, IsStretch, Stretch, depths}
-use Rattle.exchange_check.specs.Inner.Stays.{nexts, IsOrdered, is_whole, AreCopyStates}
-use Rattle.exchange_check.proofs.Stretches.{weaker, no_run, ends_nowhere, before_run, not_itself, shrunk_run}
+use Rattle.copy_stays.specs.declared.stays.CopyState.{CopyState}
+use Rattle.copy_stays.specs.Leaves.{Leaves, left_again, Firsts, LastStays, is_once}
+use Rattle.copy_stays.specs.Stays.{CopyStates, IsStretch, Stretch, depths, nexts, IsOrdered, is_whole, AreCopyStates}
+use Rattle.copy_stays.proofs.Stretches.{weaker, no_run, ends_nowhere, before_run, not_itself, shrunk_run}
 
 -- a copy's stay was left again: it isn't whole any more, and what grew from it, as far as the order leads from it
 -- to deeper copies, is still to be looked at

@@ -3,7 +3,7 @@ use Rattle.std.proofs.Common.{◌≡◌, ◌∙◌, ℕ, ◌+◌, ◌<◌, ◌�
 use Rattle.std.proofs.Common.{[], ◌∷◌, Option, Some, None, refl, sym, ap, subst, arith}
 use Rattle.std.proofs.lemmas.Bool.{eqb-true, eqb-false}
 use Rattle.std.proofs.lemmas.Option.{same_Some, none-some}
-use Rattle.exchange_check.specs.Inner.Stays.{IsStretch, Stretch}
+use Rattle.copy_stays.specs.Stays.{IsStretch, Stretch}
 
 -- a run of deeper copies is one of less deep copies
 pub weaker : (depth : ℕ → ℕ) (next : ℕ → Option ℕ) (above lower : ℕ) → lower ≤ above

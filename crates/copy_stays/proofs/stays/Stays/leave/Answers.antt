@@ -5,14 +5,13 @@ use Rattle.std.specs.BTreeMap.{get}
 use Rattle.std.specs.Ordering.{nat_cmp}
 use Rattle.std.specs.Option.{option_or}
 use Rattle.std.proofs.lemmas.Bool.{eqb-true}
-use Rattle.exchange_check.specs.Inner.Kept.{Leaves, left_again, Firsts, first_kept}
-use Rattle.exchange_check.proofs.Noted.{or_nothing}
-use Rattle.exchange_check.specs.Inner.Stays.{is_once, CopyStates, LastStays, AreCopyStates}
-use Rattle.exchange_check.specs.Inner.Stays.{AreStays, with_first, with_stay, state_in}
-use Rattle.exchange_check.proofs.CopyStates.{same_states, one_more, with_none, unused, first_named}
-use Rattle.exchange_check.proofs.CopyStates.{named_here, named_alone, ended_once, left_again_of}
-use Rattle.exchange_check.proofs.CopyStates.{with_state-here, with_state-there}
-use Rattle.exchange_check.proofs.stays.Stays.leave.Goals as goal
+use Rattle.copy_stays.specs.Leaves.{Leaves, left_again, Firsts, first_kept, is_once, LastStays, with_stay}
+use Rattle.copy_stays.proofs.Kept.{or_nothing}
+use Rattle.copy_stays.specs.Stays.{CopyStates, AreCopyStates, AreStays, state_in}
+use Rattle.copy_stays.specs.Inner.Steps.{with_first}
+use Rattle.copy_stays.proofs.CopyStates.{same_states, one_more, with_none, unused, first_named, named_here, named_alone}
+use Rattle.copy_stays.proofs.CopyStates.{ended_once, left_again_of, with_state-here, with_state-there}
+use Rattle.copy_stays.proofs.stays.Stays.leave.Goals as goal
 
 pub returns-then-is_some-clause-stays : goal.returns-then-is_some-clause-stays
 returns-then-is_some-clause-stays c stays leaves h =

@@ -3,11 +3,11 @@ use Rattle.std.proofs.Common.{Option, Some, sym, ap, subst, arith, rules}
 use Rattle.std.specs.Prelude.{is_some}
 use Rattle.std.specs.BTreeMap.{get}
 use Rattle.std.specs.Ordering.{nat_cmp}
-use Rattle.exchange_check.specs.declared.stays.CopyState.{CopyState}
-use Rattle.exchange_check.specs.Inner.Kept.{Firsts}
-use Rattle.exchange_check.specs.Inner.Stays.{CopyStates, with_stay, is_once, AreCopyStates, state_in}
-use Rattle.exchange_check.proofs.CopyStates.{less-apart, with_state-here, with_state-there, grown, marked}
-use Rattle.exchange_check.proofs.stays.Stays.grow.Goals as goal
+use Rattle.copy_stays.specs.declared.stays.CopyState.{CopyState}
+use Rattle.copy_stays.specs.Leaves.{Firsts, with_stay, is_once}
+use Rattle.copy_stays.specs.Stays.{CopyStates, AreCopyStates, state_in}
+use Rattle.copy_stays.proofs.CopyStates.{less-apart, with_state-here, with_state-there, grown, marked}
+use Rattle.copy_stays.proofs.stays.Stays.grow.Goals as goal
 
 pub returns-else-parent-clause-stays : goal.returns-else-parent-clause-stays
 returns-else-parent-clause-stays c stays leaves transit h fresh first once its =
