@@ -1,9 +1,18 @@
 //! The checker where memory is withheld: each growth in turn, by the script that runs these tests.
 
-use exchange_check::{CheckFault, Checker, TraceLine, TraceOut, Verdict, Why, check};
+use exchange_check::{CheckFault, Checker, TraceOut, Verdict, Why, check};
 use network_model::{Nodes, Report};
 use std::test::Fail;
-use worked_exchange::{LENGTH, REPORT, exchange, played, specs};
+use worked_exchange::{REPORT, specs, told};
+
+/// With ample memory there is a checker, and lines that it can be fed, so the tests that withhold memory have something to try.
+#[test]
+fn there_is_something_to_try(rt: HostRuntime) -> Result<(), Fail> {
+    let nodes = Nodes::new(rt.alloc(), &specs()?)?;
+    assert!(rt; Checker::new(rt.alloc(), nodes).is_ok());
+    assert!(rt; told(rt.alloc())?.is_some());
+    Ok(())
+}
 
 /// The verdict is that of ample memory, or memory was refused, and the same lines get it then: of the
 /// exchange, and where a result is one unit more.
@@ -12,15 +21,9 @@ fn checks_whatever_memory_there_is(rt: HostRuntime) -> Result<(), Fail> {
     let Ok(nodes) = Nodes::new(rt.alloc(), &specs()?) else {
         return Ok(());
     };
-    let Some((world, answers)) = played(rt.alloc())? else {
+    let Some(mut lines) = told(rt.alloc())? else {
         return Ok(());
     };
-    let Ok(mut lines) = Vec::with_capacity(rt.alloc(), LENGTH) else {
-        return Ok(());
-    };
-    for (event, stepped) in exchange()?.iter().zip(answers.iter()) {
-        lines.push(TraceLine::of(event, stepped, &world))?;
-    }
     let wrong = Verdict::Refused {
         line: 13,
         why: Why::WrongValue,
@@ -53,15 +56,15 @@ fn is_fed_whatever_memory_there_is(rt: HostRuntime) -> Result<(), Fail> {
             return Ok(());
         }
     };
-    let Some((world, answers)) = played(rt.alloc())? else {
+    let (Some(lines), Some(again)) = (told(rt.alloc())?, told(rt.alloc())?) else {
         return Ok(());
     };
-    for (event, stepped) in exchange()?.iter().zip(answers.iter()) {
+    for (line, again) in lines.into_iter().zip(again) {
         let before = checker.verdict();
-        if let Err(fault) = checker.feed(TraceLine::of(event, stepped, &world)) {
+        if let Err(fault) = checker.feed(line) {
             assert_eq!(rt; fault, CheckFault::Memory);
             assert_eq!(rt; checker.verdict(), before);
-            checker.feed(TraceLine::of(event, stepped, &world))?;
+            checker.feed(again)?;
         }
     }
     assert_eq!(rt; checker.verdict(), Verdict::Accepted(1));

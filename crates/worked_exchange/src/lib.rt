@@ -1,5 +1,5 @@
-//! Nodes of networks, and an exchange through a transparent clock, worked by hand: its events and what comes of them. For the tests of worlds
-//! and of the checker.
+//! Nodes of networks, and an exchange through a transparent clock, worked by hand: its events, what comes of them, and the lines that tell it.
+//! For the tests of worlds and of the checker.
 #![tactic(auto)]
 
 use event_codec::{PortConfig, PortIdentity};
@@ -7,6 +7,7 @@ use network_model::{Name, NodeKind, NodeSpec};
 use ptp_units::{ScaledTime, Seq, Timestamp, UnitRefusal};
 use std::alloc::Global;
 use std::test::Fail;
+use trace_model::TraceLine;
 use world_model::{Event, Heard, Nodes, Outcome, Report, Stepped, World, WorldRefusal, run};
 
 /// The identity of a master.
@@ -130,7 +131,7 @@ pub fn event(tag: usize) -> Result<Event, Fail> {
     })
 }
 
-/// What comes of it where there is memory.
+/// What comes of the event of this tag where there is memory.
 pub fn ample(tag: usize) -> Option<Outcome> {
     EXCHANGE.get(tag).map(|(_, _, _, outcome)| *outcome)
 }
@@ -163,4 +164,18 @@ pub fn played(alloc: Global) -> Result<Option<(World, Vec<Stepped>)>, Fail> {
         Err(stop) if stop.why == WorldRefusal::Memory => Ok(None),
         Err(stop) => Err(stop.into()),
     }
+}
+
+/// The lines that tell the exchange, or None where memory was refused.
+pub fn told(alloc: Global) -> Result<Option<Vec<TraceLine>>, Fail> {
+    let Some((world, answers)) = played(alloc)? else {
+        return Ok(None);
+    };
+    let Ok(mut lines) = Vec::with_capacity(alloc, LENGTH) else {
+        return Ok(None);
+    };
+    for (event, stepped) in exchange()?.iter().zip(answers.iter()) {
+        lines.push(TraceLine::of(event, stepped, &world))?;
+    }
+    Ok(Some(lines))
 }
