@@ -87,7 +87,7 @@ transcript_stops Device write memory octets place input s (Task fault) last left
     let here = of_transcript fault s (without_cr line) own (subst (λ (i : Input). Faults fault i (without_cr line)) is faults) in
     inl (line, whole, there, fine, transcript_faults fault s line others (λ empty. ap is_schedule (sym cut) ∙ alone empty) here, unread)
 transcript_stops Device write memory octets place input s (Task fault) last left sure is alone (inr (at_end, (faults, none), read)) =
-    inr (at_end, (subst (λ (i : Input). FaultsAtEnd fault i) is faults, refl), read)
+    inr (at_end, ((subst (λ (i : Input). FaultsAtEnd fault i) is faults).1, refl), read)
 
 pub transcript_read : (Device : TaskFault → Type 0) → Device Write → Device Memory → (octets : List ℕ) (left : Option (List ℕ))
     (answer : Result FoundInput (Stopped (Cause TaskFault))) → IsSure Device answer → is_schedule (lines_of octets) ≡ false

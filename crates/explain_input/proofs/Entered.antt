@@ -1,11 +1,9 @@
--- A line of a transcript that was read, taken or not.
-use Rattle.std.proofs.Common.{◌≡◌, ◌∙◌, List, ℕ, Option, Some, Ok, subst}
+-- A line of a transcript that was taken.
+use Rattle.std.proofs.Common.{◌≡◌, List, ℕ, Option, Some, Ok, subst}
 use Rattle.schedule_lines.specs.declared.reading.transcript.TranscriptLine.{TranscriptLine}
-use Rattle.schedule_reading.specs.declared.fault.TaskFault.{TaskFault}
 use Rattle.schedule_reading.specs.declared.transcript.Judged.{Judged}
 use Rattle.schedule_reading.specs.Entry.{recorded_in}
-use Rattle.schedule_reading.specs.Transcript.{Recorded, FaultsInTranscript, StopsAt, Takes, TakesAt}
-use Rattle.schedule_reading.proofs.Taking.{stops_line}
+use Rattle.schedule_reading.specs.Transcript.{Recorded, Takes, TakesAt}
 use Rattle.explain_input.specs.declared.input.Input.TheVariants.{Transcript}
 use Rattle.explain_input.specs.Input.{Enters}
 
@@ -16,10 +14,3 @@ pub line_entered : (line : List ℕ) (entry : TranscriptLine) (judged : Option J
 line_entered line entry judged state before later read same takes =
     let at : TakesAt entry state later judged = subst (λ (s : Recorded). TakesAt entry s later judged) same takes in
     ((entry, read, at), at.0)
-
--- or has the fault for which it isn't taken
-pub line_stopped : (fault : TaskFault) (line : List ℕ) (entry : TranscriptLine) (state before later : Recorded)
-    → recorded_in line ≡ Ok entry → before ≡ state → (later ≡ before) × StopsAt fault before entry
-    → (later ≡ state) × FaultsInTranscript fault state.nodes state.lines line
-line_stopped fault line entry state before later read same (still, stops) =
-    (still ∙ same, stops_line fault state entry line read (subst (λ (s : Recorded). StopsAt fault s entry) same stops))

@@ -128,10 +128,10 @@ one_found (Transcript state) one other h k = k.1 ∙ sym h.1
 one_found (Schedule state) one other h k = k ∙ sym h
 
 pub no_fault_found : (input : Input) (found : FoundInput) (fault : TaskFault) → IsInText fault → IsFound input found → FaultsAtEnd fault input → ⊥
-no_fault_found (Transcript state) found fault own is faults = no_clash fault state.nodes (no_checker fault state own faults) is.0
+no_fault_found (Transcript state) found fault own is faults = no_clash fault state.nodes (no_checker fault state own faults.1) is.0
 no_fault_found (Schedule state) found fault own is faults = faults
 
 pub one_fault_found : (input : Input) (one other : TaskFault) → IsInText one → IsInText other → FaultsAtEnd one input → FaultsAtEnd other input → other ≡ one
 one_fault_found (Transcript state) one other own own' faults faults' =
-    same_fault (option_map World (first_clash state.nodes)) one other (no_checker one state own faults) (no_checker other state own' faults')
+    same_fault (option_map World (first_clash state.nodes)) one other (no_checker one state own faults.1) (no_checker other state own' faults'.1)
 one_fault_found (Schedule state) one other own own' faults faults' = absurd faults

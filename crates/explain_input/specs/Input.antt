@@ -105,7 +105,7 @@ IsFound (Transcript state) answer =
     (first_clash state.nodes ≡ None) × (answer ≡ found.Transcript (verdict state.nodes state.lines))
 IsFound (Schedule state) answer = answer ≡ found.Schedule (length state.run)
 
--- the fault at the end: there was no event and the nodes are no network, or memory is refused
+-- the fault at the end: there was no event, and the nodes are no network or memory is refused
 abbrev pub FaultsAtEnd : TaskFault → Input → Type 0
-FaultsAtEnd fault (Transcript state) = transcripts.HasNoChecker fault state
+FaultsAtEnd fault (Transcript state) = (state.lines ≡ []) × transcripts.HasNoChecker fault state
 FaultsAtEnd fault (Schedule state) = ⊥

@@ -132,7 +132,7 @@ impl Input {
         }
     }
 
-    /// What the whole input is. Refused with `World` (807) where there was no event and the nodes are no network, and with
+    /// What the whole input is. Refused where there was no event: with `World` (807) if the nodes are no network, and with
     /// `Memory` (808).
     pub fn found(&self) -> Result<FoundInput, TaskFault>
         ensures { MatchResult result
