@@ -1,4 +1,4 @@
--- An exchange of real equipment behind a two-step transparent clock: the residence of the Sync, 45,301 ns, stands in its
+-- An exchange of linuxptp's ptp4l behind its two-step transparent clock: the residence of the Sync, 45,301 ns, stands in its
 -- Follow_Up, and that of the Delay_Req, 30,017 ns, in the Delay_Resp. The recording tells a run of a network with a clock, in
 -- which the residences stand in the Sync and in the Delay_Req, so its report is exact by the law.
 use Rattle.std.proofs.Common.{◌≡◌, ℕ, ◌*◌, pos, negsuc, refl, arith, rules, List, [], ◌∷◌, reverse, take, Some, Ok}

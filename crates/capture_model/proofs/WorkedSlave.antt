@@ -1,5 +1,5 @@
--- The first exchange of a recording of real equipment, octet for octet: the datagrams at a slave of `ptp4l`, up to its
--- first Delay_Resp. They tell a run of a master and a slave, so the report of the last of them is exact by the law.
+-- The first exchange of a recording of linuxptp's `ptp4l`, octet for octet: the datagrams at its slave, up to its first
+-- Delay_Resp. They tell a run of a master and a slave, so the report of the last of them is exact by the law.
 use Rattle.std.proofs.Common.{◌≡◌, ℕ, pos, negsuc, refl, arith, List, [], ◌∷◌, reverse, take, Some, Ok, Err, rules}
 use Rattle.std.specs.List.{All}
 use Rattle.ptp_units.specs.Moment.{stamp}

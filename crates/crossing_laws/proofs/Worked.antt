@@ -1,5 +1,5 @@
 -- Worked cases: lines at both ports of a clock, of which nothing rests, and what rests where a premise is missing.
--- Times are those of an exchange of real equipment behind a transparent clock: it kept the Sync for 45,301 ns, and the Delay_Req
+-- Times are those of an exchange of linuxptp's ptp4l behind its transparent clock: it kept the Sync for 45,301 ns, and the Delay_Req
 -- for 30,017 ns.
 use Rattle.std.proofs.Common.{◌≡◌, ◌∙◌, ℕ, suc, zero, ℤ, true, false, sym, ap, ◌*◌, ◌+◌, pos, ◌+ℤ◌, ◌-ℤ◌, refl, List, [], ◌∷◌, reverse, take, Option, Some, option_map, rules}
 use Rattle.ptp_units.specs.Moment.{stamp}
@@ -187,7 +187,7 @@ are_apart = (refl, (refl, (refl, (refl, (refl, (refl, (refl, (refl, tt))))))))
 nothing_rests : EachRests (λ kind n. pos 0) watched lines
 nothing_rests = a_clock_tells network run t passages watched lines accepted each_is are_apart
 
--- The same from port to port, as real equipment wrote it, whose clock is of two steps: what it measured stands in the Follow_Up and in
+-- The same from port to port, as these programs wrote it, whose clock is of two steps: what it measured stands in the Follow_Up and in
 -- the Delay_Resp. One clock stamps both taps, and is 100 ns ahead.
 abbrev ports : List Met
 ports =

@@ -137,7 +137,7 @@ impl Sink {
         self.text.as_slice()
     }
 
-    /// The same, for its own sake.
+    /// What it took, by value.
     pub fn into_text(self) -> Vec<u8> {
         self.text
     }

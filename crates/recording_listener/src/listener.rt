@@ -59,21 +59,23 @@ pub enum Became {
     Heard(Reply),
     /// The port heard a Sync of the master, which began anew, and replied so.
     HeardAnew(Reply),
-    /// A message of the master whose number came before: the port didn't hear it.
+    /// A message of the master whose number came before, or a Follow_Up whose Sync is a second or more apart: the port didn't
+    /// hear it.
     HeardBefore,
-    /// A Delay_Req of the slave.
+    /// A Delay_Req of the slave: the first, or one whose number is 1 to 256 ahead of the last one's. The port drew requests up
+    /// to it.
     Asked,
     /// A Delay_Req of the slave with the number of the last one.
     Repeated,
-    /// A Delay_Req of the slave, which began anew.
+    /// A Delay_Req of the slave with any other number: the slave began anew, and a new port takes over.
     Anew,
     /// A Delay_Req of another port, or of another domain.
     Foreign,
 }
 
 /// A slave port that hears a recording, and what it has to be told of by itself: Delay_Reqs that the slave sent, a tick after
-/// each 4,096 Syncs of the master, and that the slave or the master began anew. It holds the latest 256 messages of a kind. No
-/// call allocates.
+/// each 4,096 Syncs of the master that it heard, ignored ones too, and that the slave or the master began anew. It holds the latest
+/// 256 messages of a kind. No call allocates.
 #[derive(Drop)]
 pub struct Listener {
     watched: Watched,
