@@ -1,2 +1,3 @@
+mod Intervals
 mod Tables
 mod Worked

@@ -1,3 +1,4 @@
 pub mod Told
+pub mod Life
 pub mod Judged
 pub mod StandsFor

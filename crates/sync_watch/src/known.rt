@@ -2,11 +2,12 @@
 
 ghost use Rattle.std.specs.Prelude.{◌≡◌, ◌≤◌, ℕ, Bool, List, []};
 ghost use Rattle.pairing.specs.Marked.{Entry};
-ghost use Rattle.sync_watch.specs.Told.{arrival, of_flag, known};
+ghost use Rattle.sync_watch.specs.Told.{of_flag, known};
 ghost use Rattle.sync_watch.specs.StandsFor.{HoldsKnown};
 
+use crate::arrival::Arrival;
 use pairing::PairTable;
-use ptp_units::{ScaledTime, Seq};
+use ptp_units::ScaledTime;
 use std::marker::Model;
 
 /// When the latest messages of a kind came, under their numbers.
@@ -36,27 +37,27 @@ impl<T: PairTable<ScaledTime>> Known<T> {
         }
     }
 
-    /// When the message of this number and flag came, if it is known.
-    pub(crate) fn time_of(&self, number: Seq, is_unicast: bool) -> Option<ScaledTime>
+    /// When the message with this number and flag came, if it is known.
+    pub(crate) fn time_of(&self, arrival: &Arrival) -> Option<ScaledTime>
         ensures { (entries : Bool → List (Entry ℕ)) → HoldsKnown T.CAPACITY entries self.now
-            → result ≡ known T.CAPACITY number.0 (entries is_unicast) }
+            → result ≡ known T.CAPACITY arrival.now.number.0 (entries arrival.now.is_unicast) }
     {
-        if is_unicast {
-            self.unicast.find(number).copied()
+        if arrival.is_unicast {
+            self.unicast.find(arrival.number).copied()
         } else {
-            self.multicast.find(number).copied()
+            self.multicast.find(arrival.number).copied()
         }
     }
 
     /// A message came.
-    pub(crate) fn push(&mut self, number: Seq, is_unicast: bool, time: ScaledTime)
+    pub(crate) fn push(&mut self, arrival: &Arrival)
         ensures { (entries : Bool → List (Entry ℕ)) → HoldsKnown T.CAPACITY entries self.old
-            → HoldsKnown T.CAPACITY (λ flag. of_flag flag (arrival number.0 is_unicast time) (entries flag)) self.new }
+            → HoldsKnown T.CAPACITY (λ flag. of_flag flag arrival.now (entries flag)) self.new }
     {
-        if is_unicast {
-            self.unicast.push(number, time);
+        if arrival.is_unicast {
+            self.unicast.push(arrival.number, arrival.time);
         } else {
-            self.multicast.push(number, time);
+            self.multicast.push(arrival.number, arrival.time);
         }
     }
 

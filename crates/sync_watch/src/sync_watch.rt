@@ -1,29 +1,24 @@
 ghost use Rattle.std.specs.Prelude.{◌≡◌, ◌≤◌, [], ◌∷◌};
-ghost use Rattle.sync_watch.specs.Told.{arrival, Sync, FollowUp};
-ghost use Rattle.sync_watch.specs.Judged.{is_apart, sync_judgement, is_repeat, judged_sync};
-ghost use Rattle.sync_watch.specs.Judged.{judged_follow_up, judged_refused, after_sync, after_follow_up, after_refused};
+ghost use Rattle.sync_watch.specs.Told.{Sync, FollowUp};
+ghost use Rattle.sync_watch.specs.Judged.{sync_judgement, is_repeat, judged_sync, judged_follow_up, after_sync};
+ghost use Rattle.sync_watch.specs.Judged.{after_follow_up};
 ghost use Rattle.sync_watch.specs.StandsFor.{StandsFor, StandsAfter, IsJudged};
 
+use crate::arrival::Arrival;
 use crate::judgement::Judgement;
 use crate::known::Known;
-use crate::row::{REFUSED_MOST, Row, in_row};
+use crate::newest::{Newest, NewestSyncs, is_apart, is_far, is_of_life};
 use pairing::PairTable;
-use ptp_units::{ScaledTime, Seq};
+use ptp_units::ScaledTime;
 use std::marker::Model;
 
-/// A second, in units of 2^-16 ns.
-const SECOND: u128 = 65_536_000_000_000;
-
 /// What is known of the Syncs and Follow_Ups of one master, since it began: of each kind, and of those with and
-/// without unicastFlag apart, when the latest came, under their numbers. No call allocates.
+/// without unicastFlag apart, when the latest came, under their numbers, and which Sync is the newest. No call allocates.
 #[derive(Drop)]
 pub struct SyncWatch<T: PairTable<ScaledTime>> {
     syncs: Known<T>,
     follow_ups: Known<T>,
-    /// The row of refused Syncs up to the last one.
-    row: Option<Row>,
-    /// The row up to the one before it.
-    row_before: Option<Row>,
+    newest: NewestSyncs,
 }
 
 impl<T: PairTable<ScaledTime>> Model for SyncWatch<T> {
@@ -35,39 +30,41 @@ impl<T: PairTable<ScaledTime>> Model for SyncWatch<T> {
       capacity = T.CAPACITY;
       syncs = w.syncs;
       follow_ups = w.follow_ups;
-      row = w.row;
-      row_before = w.row_before;
+      newest = w.newest;
     } };
 }
 
-/// Whether two moments are a second or more apart.
-fn is_apart(time: ScaledTime, other: ScaledTime) -> bool
-    ensures { result ≡ is_apart time other }
-{
-    time.value().abs_diff(other.value()) >= SECOND
-}
-
-/// What a Sync says that came at this time, where one and a Follow_Up of its number are known by these.
+/// What a Sync says, where one and a Follow_Up of its number are known by these times, and this is the newest Sync.
 fn sync_judgement(
-    time: ScaledTime,
+    arrival: &Arrival,
     sync: Option<ScaledTime>,
     follow_up: Option<ScaledTime>,
+    newest: Option<Newest>,
 ) -> Judgement
-    ensures { result ≡ sync_judgement time sync follow_up }
+    ensures { result ≡ sync_judgement arrival.now sync follow_up newest }
 {
-    match (sync, follow_up) {
-        (Some(sync), _) if !is_apart(time, sync) => Judgement::Repeated,
-        (Some(_), _) => Judgement::BeganAnew,
-        (None, Some(follow_up)) if is_apart(time, follow_up) => Judgement::BeganAnew,
-        (None, _) => Judgement::Newer,
+    match (sync, follow_up, newest) {
+        (Some(sync), _, _) if !is_apart(arrival.time, sync) => Judgement::Repeated,
+        (Some(_), _, _) => Judgement::BeganAnew,
+        (None, Some(follow_up), _) if is_apart(arrival.time, follow_up) => Judgement::BeganAnew,
+        (None, _, Some(newest)) if !is_of_life(arrival, &newest) => Judgement::BeganAnew,
+        (None, _, _) => Judgement::Newer,
     }
 }
 
-/// Whether a Follow_Up at this time is a repeat, where a Sync and a Follow_Up of its number are known by these.
-fn is_repeat(time: ScaledTime, sync: Option<ScaledTime>, follow_up: Option<ScaledTime>) -> bool
-    ensures { result ≡ is_repeat time sync follow_up }
+/// Whether a Follow_Up isn't to be heard, where a Sync and a Follow_Up of its number are known by these times, and this is
+/// the newest Sync.
+fn is_repeat(
+    arrival: &Arrival,
+    sync: Option<ScaledTime>,
+    follow_up: Option<ScaledTime>,
+    newest: Option<Newest>,
+) -> bool
+    ensures { result ≡ is_repeat arrival.now sync follow_up newest }
 {
-    follow_up.is_some() || sync.is_some_and(|sync| is_apart(time, sync))
+    follow_up.is_some()
+        || sync.is_some_and(|sync| is_apart(arrival.time, sync))
+        || newest.is_some_and(|newest| is_far(arrival.number, newest.number))
 }
 
 impl<T: PairTable<ScaledTime>> SyncWatch<T> {
@@ -79,76 +76,57 @@ impl<T: PairTable<ScaledTime>> SyncWatch<T> {
         SyncWatch {
             syncs: Known::new(),
             follow_ups: Known::new(),
-            row: None,
-            row_before: None,
+            newest: NewestSyncs::new(),
         }
     }
 
-    /// A Sync of the master came at this time, and no port heard it yet. A repeat isn't known again. Where the master
-    /// began anew, all is forgotten but this Sync.
-    pub fn sync(&mut self, number: Seq, is_unicast: bool, time: ScaledTime) -> Judgement
-        ensures judgement { IsJudged (judged_sync (arrival number.0 is_unicast time)) self.old result }
-        ensures stands { StandsAfter (after_sync (arrival number.0 is_unicast time)) self.old self.new }
+    /// A Sync of the master came, and no port heard it yet. A repeat isn't known again. Where the master began anew, all is
+    /// forgotten but this Sync.
+    pub fn sync(&mut self, arrival: &Arrival) -> Judgement
+        ensures judgement { IsJudged (judged_sync arrival.now) self.old result }
+        ensures stands { StandsAfter (after_sync arrival.now) self.old self.new }
     {
-        let sync = self.syncs.time_of(number, is_unicast);
-        let follow_up = self.follow_ups.time_of(number, is_unicast);
-        let judgement = sync_judgement(time, sync, follow_up);
+        let sync = self.syncs.time_of(arrival);
+        let follow_up = self.follow_ups.time_of(arrival);
+        let newest = self.newest.of(arrival.is_unicast);
+        let judgement = sync_judgement(arrival, sync, follow_up, newest);
         match judgement {
-            Judgement::Newer => self.know_sync(number, is_unicast, time),
+            Judgement::Newer => self.know_sync(arrival),
             Judgement::Repeated => {}
-            Judgement::BeganAnew => self.begin_anew(number, is_unicast, time),
+            Judgement::BeganAnew => self.begin_anew(arrival),
         }
         judgement
     }
 
-    /// A Follow_Up of the master came at this time, and no port heard it yet. A repeat isn't known again.
-    pub fn follow_up(&mut self, number: Seq, is_unicast: bool, time: ScaledTime) -> Judgement
-        ensures judgement { IsJudged (judged_follow_up (arrival number.0 is_unicast time)) self.old result }
-        ensures stands { StandsAfter (after_follow_up (arrival number.0 is_unicast time)) self.old self.new }
+    /// A Follow_Up of the master came, and no port heard it yet. One that isn't to be heard isn't known.
+    pub fn follow_up(&mut self, arrival: &Arrival) -> Judgement
+        ensures judgement { IsJudged (judged_follow_up arrival.now) self.old result }
+        ensures stands { StandsAfter (after_follow_up arrival.now) self.old self.new }
     {
-        let sync = self.syncs.time_of(number, is_unicast);
-        let follow_up = self.follow_ups.time_of(number, is_unicast);
-        if is_repeat(time, sync, follow_up) {
+        let sync = self.syncs.time_of(arrival);
+        let follow_up = self.follow_ups.time_of(arrival);
+        let newest = self.newest.of(arrival.is_unicast);
+        if is_repeat(arrival, sync, follow_up, newest) {
             return Judgement::Repeated;
         }
-        self.follow_ups.push(number, is_unicast, time);
+        self.follow_ups.push(arrival);
         Judgement::Newer
     }
 
-    /// The last Sync, which is this one, isn't newer than the last that completed, so the port refused it. Where it
-    /// is the third in a row whose numbers follow each other, the master began anew, and all is forgotten but this Sync.
-    pub fn refused(&mut self, number: Seq, is_unicast: bool, time: ScaledTime) -> Judgement
-        ensures judgement { IsJudged (judged_refused (arrival number.0 is_unicast time)) self.old result }
-        ensures stands { StandsAfter (after_refused (arrival number.0 is_unicast time)) self.old self.new }
-    {
-        let count = in_row(number, self.row_before);
-        if count < REFUSED_MOST {
-            self.row = Some(Row {
-                last: number,
-                count,
-            });
-            Judgement::Newer
-        } else {
-            self.begin_anew(number, is_unicast, time);
-            Judgement::BeganAnew
-        }
-    }
-
     /// A Sync is known from now on.
-    fn know_sync(&mut self, number: Seq, is_unicast: bool, time: ScaledTime)
-        ensures { StandsAfter (λ capacity told. Sync (arrival number.0 is_unicast time) ∷ told) self.old self.new }
+    fn know_sync(&mut self, arrival: &Arrival)
+        ensures { StandsAfter (λ capacity told. Sync arrival.now ∷ told) self.old self.new }
     {
-        self.syncs.push(number, is_unicast, time);
-        self.row_before = self.row;
-        self.row = None;
+        self.syncs.push(arrival);
+        self.newest.take(arrival);
     }
 
     /// This Sync is all that is known.
-    fn begin_anew(&mut self, number: Seq, is_unicast: bool, time: ScaledTime)
-        ensures { StandsAfter (λ capacity told. Sync (arrival number.0 is_unicast time) ∷ []) self.old self.new }
+    fn begin_anew(&mut self, arrival: &Arrival)
+        ensures { StandsAfter (λ capacity told. Sync arrival.now ∷ []) self.old self.new }
     {
         self.forget();
-        self.know_sync(number, is_unicast, time);
+        self.know_sync(arrival);
     }
 
     /// Nothing is known.
@@ -157,7 +135,6 @@ impl<T: PairTable<ScaledTime>> SyncWatch<T> {
     {
         self.syncs.clear();
         self.follow_ups.clear();
-        self.row = None;
-        self.row_before = None;
+        self.newest = NewestSyncs::new();
     }
 }
