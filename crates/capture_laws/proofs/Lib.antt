@@ -9,4 +9,5 @@ pub mod OneAnswer
 pub mod Writing
 pub mod WritingBlocks
 pub mod WritingSections
+pub mod Called
 mod Worked

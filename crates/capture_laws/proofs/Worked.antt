@@ -1,5 +1,5 @@
 -- Worked cases: captures octet for octet, from the text of the format, and what they are read as.
-use Rattle.std.proofs.Common.{ℕ, List, [], ◌∷◌, ◌≡◌, ◌&&◌, Bool, true, ltb, refl, arith, Some}
+use Rattle.std.proofs.Common.{ℕ, List, [], ◌∷◌, ◌≡◌, ◌&&◌, Bool, true, ltb, refl, arith, Some, None}
 use Rattle.std.specs.Prelude.{codes}
 use Rattle.std.proofs.lemmas.Bool.{and_parts, ltb-true}
 use Rattle.std.proofs.lemmas.List.Elements.{All-nil, All-cons}
@@ -9,7 +9,8 @@ use Rattle.capture_file.specs.declared.pcap.FractionUnit.TheVariants.{Microsecon
 use Rattle.capture_file.specs.Packet.{Captured}
 use Rattle.capture_file.specs.Pcap.{PcapOf, pcap_interface}
 use Rattle.capture_file.specs.Order.{AreOctets}
-use Rattle.capture_file.specs.Options.{OptionOf}
+use Rattle.capture_file.specs.Options.{OptionOf, found_in}
+use Rattle.capture_file.specs.Section.{DescriptionOf, description_of, own_name}
 use Rattle.capture_laws.specs.Writing.{WrittenPacket, AreReadAs, PcapIgnored, pcap_octets, FitsPcap, WrittenInterface, PacketAt, Describes, Captures, PassedOver}
 use Rattle.capture_laws.specs.Writing.{WrittenSection, pcapng_octets, FitsOption, TellsOther, FitsInterface, FitsPcapng, FitsPassedOver, HaveOtherNames, FitsSection}
 use Rattle.capture_laws.proofs.Writing.{no_octets, one_octet, pcap_is_read}
@@ -149,3 +150,25 @@ small_pcapng_is_read : AreReadAs small_pcapng
     (Captured (record { place = 0; name = Some (codes "eth0") }) (stamp 1700000000 123) 1 (0x01 ∷ 0x1b ∷ 0x19 ∷ []) ∷ [])
 small_pcapng_is_read =
     pcapng_is_read (small_section ∷ []) (λ none. absurd cc) (All-cons FitsSection small_section [] small_section_fits (All-nil FitsSection))
+
+-- ---- which names are an interface's own, behind these
+abbrev behind : List DescriptionOf
+behind = description_of 1 [] (found_in Big (record { code = 2; value = codes "eth0" } ∷ [])) ∷ []
+
+another_name : own_name behind (Some (codes "eth1")) ≡ Some (codes "eth1")
+another_name = refl
+
+a_name_that_is_taken : own_name behind (Some (codes "eth0")) ≡ None
+a_name_that_is_taken = refl
+
+a_name_as_of_a_place : own_name behind (Some (codes "if12")) ≡ None
+a_name_as_of_a_place = refl
+
+a_name_without_digits : own_name behind (Some (codes "if")) ≡ Some (codes "if")
+a_name_without_digits = refl
+
+a_name_with_more : own_name behind (Some (codes "if1a")) ≡ Some (codes "if1a")
+a_name_with_more = refl
+
+an_empty_name : own_name behind (Some []) ≡ None
+an_empty_name = refl

@@ -19,7 +19,7 @@ use Rattle.capture_file.specs.declared.pcap.FractionUnit.{FractionUnit}
 use Rattle.capture_file.specs.declared.pcap.FractionUnit.TheVariants.{Microseconds, Nanoseconds}
 use Rattle.capture_laws.specs.Writing.{in_two, in_four, unit_size, padding, block_octets, section_header_octets, option_octets, options_octets}
 use Rattle.capture_laws.specs.Writing.{WrittenInterface, times_in, decimals_of, name_options, unit_options, interface_options, description_octets, PacketAt, ticks_of}
-use Rattle.capture_laws.specs.Writing.{Captures, written_octets, FitsOption, TellsOther, IsName, FitsInterface, FitsPcapng, FitsPassedOver, pcapng_packet}
+use Rattle.capture_laws.specs.Writing.{Captures, written_octets, read_name, FitsOption, TellsOther, IsName, FitsInterface, FitsPcapng, FitsPassedOver, pcapng_packet}
 use Rattle.capture_file.proofs.Ends.{last_of}
 use Rattle.capture_laws.proofs.FirstFour.{no_section}
 use Rattle.capture_laws.proofs.Writing.{no_octets, one_octet, both_octets, two_octets, four_octets, two_read, four_read, flat_octets}
@@ -356,16 +356,16 @@ options_at order link snap_length total options most is =
     ∙ ap (take 65584) (take_at options end (total - 4 - 16) (omega (arith, is)))
     ∙ take_all 65584 options (omega (arith, most))
 
--- an interface is described so, where its name is its own
+-- an interface is described so, where no earlier one has its name
 abbrev pub described : WrittenInterface → DescriptionOf
 described interface = record {
   link = interface.link;
   resolution = record { base = 10; exponent = decimals_of (times_in interface.told) };
   offset = pos 0;
-  name = interface.name;
+  name = read_name interface.name;
 }
 
-pub description_read : (s : SectionOf) (interface : WrittenInterface) → FitsInterface s.order interface → own_name s.interfaces interface.name ≡ interface.name
+pub description_read : (s : SectionOf) (interface : WrittenInterface) → FitsInterface s.order interface → own_name s.interfaces interface.name ≡ read_name interface.name
     → IsDescription s (description_octets s.order interface) (described interface)
 description_read s interface fits own =
     let order = s.order in
@@ -495,19 +495,19 @@ enhanced_read s interfaces at is fits =
     let place_is = place_at order place high low captured original octets pads fits.place in
     let captured_is = captured_at order place high low captured original octets pads captured_fits in
     let resolution : ResolutionOf = record { base = 10; exponent = decimals_of unit } in
-    let read : packet_at (packet_time (described at.interface) order block) (record { place = number32 order block 8; name = at.interface.name }) at.interface.link
+    let read : packet_at (packet_time (described at.interface) order block) (record { place = number32 order block 8; name = read_name at.interface.name }) at.interface.link
     (slice_range block 28 (28 + number32 order block 20)) ≡ pcapng_packet at =
     (λ i. packet_at
     (time_at resolution (pos 0) (high_at order place high low captured original octets pads high_fits i * 2 ^ 32 + low_at order place high low captured original octets pads low_fits i))
-    (record { place = place_is i; name = at.interface.name })
+    (record { place = place_is i; name = read_name at.interface.name })
     at.interface.link
     (slice_range block 28 (28 + captured_is i)))
     ∙ (λ i. packet_at
     (time_at resolution (pos 0) (halves ticks i))
-    (record { place = place; name = at.interface.name })
+    (record { place = place; name = read_name at.interface.name })
     at.interface.link
     (captured_read order place high low captured original octets pads refl i))
-    ∙ ap (λ t. packet_at t (record { place = place; name = at.interface.name }) at.interface.link octets)
+    ∙ ap (λ t. packet_at t (record { place = place; name = read_name at.interface.name }) at.interface.link octets)
     (time_read unit packet.time.seconds packet.time.nanos fits.nanos fits.whole fits.time) in
     record {
       block = block_read order enhanced_packet_type body (omega arith) total_fits

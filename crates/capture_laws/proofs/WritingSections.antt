@@ -1,7 +1,7 @@
 -- Sections of pcapng that are written are read.
 use Rattle.std.proofs.Common.{◌≡◌, ◌≢◌, ℕ, zero, suc, List, [], ◌∷◌, ◌++◌, Bool, true, false, refl, sym, ap, ◌∙◌, subst, inl, inr, Option, Some, None}
 use Rattle.std.proofs.Common.{append-nil}
-use Rattle.std.specs.Prelude.{All, map, reverse, IfSome, slice_get}
+use Rattle.std.specs.Prelude.{All, map, reverse, IfSome, slice_get, ◌||◌, if◌then◌else◌}
 use Rattle.std.specs.List.{flat_map, list_any}
 use Rattle.std.specs.Option.{option_map_or}
 use Rattle.std.specs.Str.{bytes_eq}
@@ -9,12 +9,13 @@ use Rattle.std.proofs.lemmas.List.{reverse-append, map-append, map_push}
 use Rattle.std.proofs.lemmas.List.Elements.{All-head, All-tail}
 use Rattle.std.proofs.lemmas.Slice.Eq.{bytes_eq-Decides}
 use Rattle.capture_file.specs.declared.order.ByteOrder.{ByteOrder}
+use Rattle.capture_file.specs.Name.{is_like_place}
 use Rattle.capture_file.specs.Order.{AreOctets}
 use Rattle.capture_file.specs.Packet.{PacketOf}
 use Rattle.capture_file.specs.Parts.{Form, Start, Section, Part, IsPart, AreParts, form_behind}
 use Rattle.capture_file.specs.Section.{SectionOf, begun, has_name, own_name}
 use Rattle.capture_laws.specs.Writing.{block_octets, section_header_octets, WrittenInterface, description_octets, PacketAt, written_octets, WrittenBlock}
-use Rattle.capture_laws.specs.Writing.{Describes, Captures, PassedOver, WrittenSection, section_octets, pcapng_octets, packets_among, IsName, FitsInterface}
+use Rattle.capture_laws.specs.Writing.{Describes, Captures, PassedOver, WrittenSection, section_octets, pcapng_octets, packets_among, read_name, IsName, FitsInterface}
 use Rattle.capture_laws.specs.Writing.{FitsPcapng, HaveOtherNames, FitBehind, FitsSection, pcapng_packet, pcapng_packets, PcapngIsRead}
 use Rattle.capture_laws.proofs.WritingBlocks.{block_are_octets, section_read, section_are_octets, described, description_read, description_are_octets}
 use Rattle.capture_laws.proofs.WritingBlocks.{enhanced_read, enhanced_are_octets, passed_read}
@@ -31,17 +32,30 @@ not_named name (Some other) differs =
     go true is = absurd (differs (ap (λ n. Some n) (sym ((bytes_eq-Decides name other).0 is))))
     go false is = is
 
+not_read : (name : List ℕ) (other : Option (List ℕ)) → other ≢ Some name → option_map_or (bytes_eq name) (read_name other) false ≡ false
+not_read name None differs = refl
+not_read name (Some other) differs = go (is_like_place other)
+  where
+    go : (like : Bool) → option_map_or (bytes_eq name) (if like then None else Some other) false ≡ false
+    go true = refl
+    go false = not_named name (Some other) differs
+
 none_named : (name : List ℕ) (xs : List WrittenInterface) → All (λ x. x.name ≢ Some name) xs → list_any (has_name name) (map described xs) ≡ false
 none_named name [] all = refl
 none_named name (x ∷ xs) all =
-    rw (not_named name x.name (All-head (λ x. x.name ≢ Some name) x xs all)) (none_named name xs (All-tail (λ x. x.name ≢ Some name) x xs all))
+    rw (not_read name x.name (All-head (λ x. x.name ≢ Some name) x xs all)) (none_named name xs (All-tail (λ x. x.name ≢ Some name) x xs all))
 
--- a name that no earlier interface has is an interface's own
+unless_like : (like any : Bool) (name : List ℕ) → any ≡ false → (if like || any then None else Some name) ≡ (if like then None else Some name)
+unless_like true any name is = refl
+unless_like false any name is = rw is refl
+
+-- a name that no earlier interface has is an interface's own, unless it is as that of a place
 own_is : (xs : List WrittenInterface) (name : Option (List ℕ)) → IfSome name IsName → ((n : List ℕ) → name ≡ Some n → All (λ x. x.name ≢ Some n) xs)
-    → own_name (map described xs) name ≡ name
+    → own_name (map described xs) name ≡ read_name name
 own_is xs None is others = refl
 own_is xs (Some []) is others = absurd (is.some refl)
-own_is xs (Some (c ∷ cs)) is others = rw (none_named (c ∷ cs) xs (others (c ∷ cs) refl)) refl
+own_is xs (Some (c ∷ cs)) is others =
+    unless_like (is_like_place (c ∷ cs)) (list_any (has_name (c ∷ cs)) (map described xs)) (c ∷ cs) (none_named (c ∷ cs) xs (others (c ∷ cs) refl))
 
 earlier_others : (xs : List WrittenInterface) (y : WrittenInterface) → All (λ earlier. HaveOtherNames earlier y) xs → (n : List ℕ) → y.name ≡ Some n → All (λ x. x.name ≢ Some n) xs
 earlier_others xs y all n is k d within same = all k d within n same is

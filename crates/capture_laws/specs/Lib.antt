@@ -1,2 +1,3 @@
 pub mod Writing
 pub mod OneCourse
+pub mod Called

@@ -1,6 +1,6 @@
 -- Captures as they are written, octet for octet.
 use Rattle.std.specs.Prelude.{◌≡◌, ◌≢◌, ℕ, ◌+◌, ◌-◌, ◌*◌, ◌/◌, ◌%◌, ◌^◌, ◌<◌, ◌≤◌, List, [], ◌∷◌, ◌++◌, All, length, take, map}
-use Rattle.std.specs.Prelude.{reverse, replicate, slice_get, Option, Some, None, IfSome, true, ⊤}
+use Rattle.std.specs.Prelude.{reverse, replicate, slice_get, Option, Some, None, IfSome, true, ⊤, if◌then◌else◌}
 use Rattle.std.specs.List.{flat_map}
 use Rattle.std.specs.Int.{w16, w32, to_be_bytes, to_le_bytes}
 use Rattle.ptp_units.specs.Moment.{Stamp}
@@ -9,6 +9,7 @@ use Rattle.capture_file.specs.declared.order.ByteOrder.{ByteOrder}
 use Rattle.capture_file.specs.declared.order.ByteOrder.TheVariants.{Big, Little}
 use Rattle.capture_file.specs.declared.pcap.FractionUnit.{FractionUnit}
 use Rattle.capture_file.specs.declared.pcap.FractionUnit.TheVariants.{Microseconds, Nanoseconds}
+use Rattle.capture_file.specs.Name.{is_like_place}
 use Rattle.capture_file.specs.Order.{AreOctets}
 use Rattle.capture_file.specs.Options.{OptionOf, name_code, resolution_code, offset_code}
 use Rattle.capture_file.specs.Packet.{PacketOf, Captured, packet_limit}
@@ -305,10 +306,15 @@ pub record FitsSection (section : WrittenSection) : Type 0 where
   pub size : length (options_octets section.order section.options) < 2 ^ 32 - 64
   pub blocks : FitBehind section.order [] section.blocks
 
+-- the name of its own that an interface has where it is read: none that is as that of a place
+abbrev pub read_name : Option (List ℕ) → Option (List ℕ)
+read_name None = None
+read_name (Some name) = if is_like_place name then None else Some name
+
 -- a packet as it is read
 abbrev pub pcapng_packet : PacketAt → PacketOf
 pcapng_packet at =
-    Captured (record { place = at.place; name = at.interface.name }) at.packet.time at.interface.link
+    Captured (record { place = at.place; name = read_name at.interface.name }) at.packet.time at.interface.link
     (take packet_limit at.packet.octets)
 
 -- all packets of all sections

@@ -4,6 +4,7 @@ ghost use Rattle.std.specs.Io.KnownBytes.{Appends};
 ghost use Rattle.capture_file.specs.declared.fault.CaptureFault.{CaptureFault};
 ghost use Rattle.capture_file.specs.declared.fault.CaptureStop.{CaptureStop};
 ghost use Rattle.capture_file.specs.Order.{AreOctets};
+ghost use Rattle.capture_laws.specs.Called.{InterfacesAreCalledApart};
 ghost use Rattle.capture_laws.specs.OneCourse.{HasOneCourse, IsSure};
 ghost use Rattle.capture_file.specs.Parts.{Form, Part, IsPart, AreParts, octets_of};
 ghost use Rattle.capture_file.specs.Task.{Answers};
@@ -43,4 +44,10 @@ pub fn octets_have_one_answer<T: PacketTask>()
 pub fn whatever_is_written_is_read()
     ensures pcap { PcapIsRead }
     ensures pcapng { PcapngIsRead }
+{}
+
+/// No two interfaces of a section are called alike, whatever names it gives them: of those that have a name of their own none has that
+/// of another, nor one as that of a place, and all others are called by their places.
+pub fn interfaces_are_called_apart()
+    ensures { InterfacesAreCalledApart }
 {}

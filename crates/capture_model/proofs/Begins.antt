@@ -1,45 +1,35 @@
 -- A listening port begins anew exactly where a recording tells that the slave or the master did.
 use Rattle.std.proofs.Common.{◌≡◌, ◌∙◌, ℕ, Bool, true, false, List, [], ◌∷◌, Option, Some, None, Ok, Err}
 use Rattle.std.proofs.Common.{refl, sym, ap, subst, is_some, if◌then◌else◌, option_and_then}
-use Rattle.std.specs.Prelude.{◌==◌, ◌&&◌, ◌||◌, not, nat_lt, is_none}
+use Rattle.std.specs.Prelude.{◌==◌, ◌&&◌, ◌||◌, not, nat_lt}
 use Rattle.std.specs.Option.{option_map_or, option_or}
-use Rattle.std.specs.Result.{result_ok, result_err}
-use Rattle.std.proofs.lemmas.Bool.{and_right, and_parts, or_parts, not-false, not_from_true}
+use Rattle.std.specs.Result.{result_ok}
+use Rattle.std.proofs.lemmas.Bool.{and_right, or_parts, not-false}
 use Rattle.ptp_units.specs.Sequence.{next, ahead}
-use Rattle.ptp_units.specs.Moment.{Stamp}
 use Rattle.event_codec.specs.declared.message.Body.{Body}
 use Rattle.event_codec.specs.declared.message.Body.TheVariants as bodies
-use Rattle.event_codec.specs.declared.message.Header.{Header}
-use Rattle.event_codec.specs.declared.port.PortIdentity.{PortIdentity}
 use Rattle.event_codec.specs.Packet.{Contents}
 use Rattle.event_codec.specs.Port.{is_same_port}
 use Rattle.event_codec.specs.Reading.{Reading}
-use Rattle.pairing.specs.Marked.{Entry, entry, first_value}
+use Rattle.pairing.specs.Marked.{entry}
 use Rattle.sync_watch.specs.declared.judgement.Judgement.{Judgement}
 use Rattle.sync_watch.specs.declared.judgement.Judgement.TheVariants.{Newer, Repeated, BeganAnew}
-use Rattle.sync_watch.specs.Told.{Arrival, Told, Sync, FollowUp, Refused, known}
-use Rattle.sync_watch.specs.Judged.{judged_sync, judged_refused, is_repeated, after, after_follow_up}
-use Rattle.slave_port.specs.declared.reason.Reason.{Reason}
-use Rattle.slave_port.specs.declared.reason.Reason.TheVariants as reasons
+use Rattle.sync_watch.specs.declared.arrival.Arrival.{Arrival}
+use Rattle.sync_watch.specs.Told.{Told, Sync, FollowUp, known}
+use Rattle.sync_watch.specs.Judged.{judged_sync, is_repeated, after, after_sync, after_follow_up}
 use Rattle.slave_port.specs.History as calls
-use Rattle.slave_port.specs.History.{Call, Setup, next_number}
-use Rattle.slave_port.specs.Usable.{Criteria, used_unless, event_use, sync_reason, sync_use, is_other, is_too_big}
-use Rattle.slave_port.specs.Usable.{is_not_newer}
-use Rattle.slave_port.specs.Values.{RequestValue, ResponseValue}
-use Rattle.slave_port.specs.Requests.{held_requests}
-use Rattle.slave_port.specs.Kept.{criteria, unusable, usable_delay_resp}
-use Rattle.slave_port.specs.Answer.{request_reason, unanswerable, unless_ignored, used}
+use Rattle.slave_port.specs.History.{Call, next_number}
 use Rattle.capture_model.specs.declared.watched.Watched.{Watched}
 use Rattle.capture_model.specs.Recorded.{Recorded}
-use Rattle.capture_model.specs.Listening.{Listening, setup_in, table_capacity, is_of, is_stale, answer_in}
-use Rattle.capture_model.specs.Listening.{with_count, told, arrival_of, ready_refused, ready_judged, ready_followed}
+use Rattle.capture_model.specs.Listening.{Listening, setup_in, table_capacity, is_of}
+use Rattle.capture_model.specs.Listening.{with_count, told, arrival_of, ready_judged, ready_followed}
 use Rattle.capture_model.specs.Listening.{hears_ready, asks, anew, hears_request, hears, hear, after_all}
 use Rattle.capture_model.specs.Told.{own_request, last_request}
 use Rattle.capture_model.specs.Finds.{is_delay_req, is_own_request}
-use Rattle.capture_model.specs.Begins.{is_leap, judged_both, after_both, is_refused, told_with, told_of_master}
+use Rattle.capture_model.specs.Begins.{is_leap, told_with, told_of_master}
 use Rattle.capture_model.specs.Begins.{is_beginning, begins_with, begun_at, EachBeginningIsTold}
-use Rattle.capture_model.proofs.Said.{last_number, after-last, after-is_of}
-use Rattle.capture_model.proofs.Takes.{counted-so, passed, used-not_stale}
+use Rattle.capture_model.proofs.Said.{last_number, after-last}
+use Rattle.capture_model.proofs.Takes.{counted-so}
 
 -- what a port was told of the master, at which line it began, and whether it was asked for a request
 abbrev Is : List Told → (begun : ℕ) → (asked : Bool) → Listening → Type 0
@@ -82,93 +72,6 @@ module _ (w : Watched) where
       by (Ok m) = number-of m m.body
       by (Err refusal) = refl
 
--- the reason for which a message isn't used
-err-of : (reason : Option Reason) (header : Header) (origin : Stamp) (time line : ℕ)
-    → result_err (used_unless reason (entry header.sequence.0 (sync_use header origin time line))) ≡ reason
-err-of None header origin time line = refl
-err-of (Some reason) header origin time line = refl
-
--- a Sync of the master is refused as not newer where its number says so, unless its correction is too big
-module _ (w : Watched) (ds : List Recorded) (m : Contents) (origin : Stamp) (body : m.body ≡ bodies.Sync origin)
-    (of_master : is_of w w.master m.header ≡ true) (time line : ℕ) where
-  abbrev port_setup : Setup
-  port_setup = setup_in w (after_all w ds)
-
-  abbrev history : List Call
-  history = (after_all w ds).calls
-
-  abbrev heard_call : Call
-  heard_call = calls.Event (Ok m) time line
-
-  abbrev judge : Criteria
-  judge = criteria port_setup history
-
-  unusable-is : unusable port_setup history heard_call ≡ sync_reason judge m.header
-  unusable-is =
-      ap (λ (b : Body). result_err (event_use judge m.header b time line)) body
-      ∙ err-of (sync_reason judge m.header) m.header origin time line
-
-  reason-is : sync_reason judge m.header
-      ≡ (if is_too_big m.header then Some reasons.TooBig
-      else if is_not_newer judge.last m.header.sequence.0 then Some reasons.NotNewer else None)
-  reason-is =
-      let parts = and_parts (m.header.domain == w.domain) (is_same_port m.header.source w.master) of_master in
-      let follows : judge.master ≡ Some w.master = (after-is_of w ds).follows_master in
-      passed (record { applies = not (m.header.domain == judge.config.domain); reason = reasons.OtherDomain })
-      (record { applies = is_none judge.master; reason = reasons.NoMaster }
-      ∷ record { applies = is_other judge.master m.header.source; reason = reasons.OtherMaster }
-      ∷ record { applies = is_too_big m.header; reason = reasons.TooBig }
-      ∷ record { applies = is_not_newer judge.last m.header.sequence.0; reason = reasons.NotNewer } ∷ [])
-      (not_from_true (m.header.domain == w.domain) parts.0)
-      ∙ passed (record { applies = is_none judge.master; reason = reasons.NoMaster })
-      (record { applies = is_other judge.master m.header.source; reason = reasons.OtherMaster }
-      ∷ record { applies = is_too_big m.header; reason = reasons.TooBig }
-      ∷ record { applies = is_not_newer judge.last m.header.sequence.0; reason = reasons.NotNewer } ∷ [])
-      (ap (λ (o : Option PortIdentity). is_none o) follows)
-      ∙ passed (record { applies = is_other judge.master m.header.source; reason = reasons.OtherMaster })
-      (record { applies = is_too_big m.header; reason = reasons.TooBig }
-      ∷ record { applies = is_not_newer judge.last m.header.sequence.0; reason = reasons.NotNewer } ∷ [])
-      (ap (λ (o : Option PortIdentity). is_other o m.header.source) follows
-      ∙ not_from_true (is_same_port m.header.source w.master) parts.1)
-
-  -- what is ignored for another reason, or used
-  others-not_stale : is_stale (unless_ignored (unanswerable port_setup history heard_call)
-      (used port_setup history heard_call)) ≡ false
-  others-not_stale = by (usable_delay_resp port_setup history heard_call)
-    where
-      unknown : (none : Bool)
-          → is_stale (unless_ignored (if none then Some reasons.EgressUnknown else None)
-          (used port_setup history heard_call)) ≡ false
-      unknown true = refl
-      unknown false = used-not_stale w port_setup history heard_call
-
-      held : (o : Option RequestValue)
-          → is_stale (unless_ignored (request_reason o) (used port_setup history heard_call)) ≡ false
-      held None = refl
-      held (Some request) = unknown (is_none request.t3)
-
-      by : (o : Option (Entry ResponseValue))
-          → is_stale (unless_ignored
-          (option_and_then (λ response. request_reason (first_value response.number (held_requests port_setup history)))
-          o) (used port_setup history heard_call)) ≡ false
-      by None = used-not_stale w port_setup history heard_call
-      by (Some response) = held (first_value response.number (held_requests port_setup history))
-
-  refused-same : is_stale (answer_in w (after_all w ds) heard_call) ≡ is_refused w ds m
-  refused-same =
-      ap (λ (o : Option Reason). is_stale (unless_ignored (option_or o (unanswerable port_setup history heard_call))
-      (used port_setup history heard_call))) (unusable-is ∙ reason-is)
-      ∙ by (is_too_big m.header) (is_not_newer judge.last m.header.sequence.0)
-    where
-      by : (big old : Bool)
-          → is_stale (unless_ignored
-          (option_or (if big then Some reasons.TooBig else if old then Some reasons.NotNewer else None)
-          (unanswerable port_setup history heard_call)) (used port_setup history heard_call))
-          ≡ (not big && old)
-      by true old = refl
-      by false true = refl
-      by false false = others-not_stale
-
 -- a datagram after these
 module _ (w : Watched) (x : Recorded) (ds : List Recorded) where
   abbrev l : Listening
@@ -182,40 +85,13 @@ module _ (w : Watched) (x : Recorded) (ds : List Recorded) where
     abbrev a : Arrival
     a = arrival_of m.header x.time
 
-    -- the port refuses it as not newer
-    abbrev stale : Bool
-    stale = is_stale (answer_in w (after_all w ds) (calls.Event (Ok m) x.time x.line))
-
-    abbrev port_heard : Listening
-    port_heard = record (after_all w ds) { heard = Sync (arrival_of m.header x.time) ∷ (after_all w ds).heard }
-
-    refused-is : (j : Judgement)
-        → Is (after j (arrival_of m.header x.time) (Refused m.header.sequence.0) (Sync a ∷ l.heard))
-        (if is_beginning j then x.line else l.begun) l.asked
-        (with_count (told call (ready_refused j w x.line call a port_heard)))
-    refused-is Newer =
-        is-counted (Refused m.header.sequence.0 ∷ Sync a ∷ l.heard) l.begun l.asked
-        (told call (ready_refused Newer w x.line call a port_heard)) (refl, refl, refl)
-    refused-is Repeated =
-        is-counted (Sync a ∷ l.heard) l.begun l.asked (told call port_heard) (refl, refl, refl)
-    refused-is BeganAnew =
-        is-counted (Sync a ∷ []) x.line l.asked (told call (ready_refused BeganAnew w x.line call a port_heard))
-        (refl, refl, refl)
-
     judged-is : (j : Judgement)
-        → Is (after_both j stale a l.heard)
-        (if is_beginning (judged_both j stale a l.heard) then x.line else l.begun) l.asked
-        (hears_ready true call (ready_judged j w x.line call a l) l)
-    judged-is Newer = by stale
-      where
-        by : (refused : Bool)
-            → Is (after_both Newer refused a l.heard)
-            (if is_beginning (judged_both Newer refused a l.heard) then x.line else l.begun) l.asked
-            (with_count (told call (if refused
-            then ready_refused (judged_refused a table_capacity (Sync a ∷ l.heard)) w x.line call a port_heard
-            else port_heard)))
-        by true = refused-is (judged_refused a table_capacity (Sync a ∷ l.heard))
-        by false = is-counted (Sync a ∷ l.heard) l.begun l.asked (told call port_heard) (refl, refl, refl)
+        → Is (after j a (Sync a) l.heard) (if is_beginning j then x.line else l.begun) l.asked
+        (hears_ready true call (ready_judged j w x.line a l) l)
+    judged-is Newer =
+        is-counted (Sync a ∷ l.heard) l.begun l.asked
+        (told call (record (after_all w ds) { heard = Sync (arrival_of m.header x.time) ∷ (after_all w ds).heard }))
+        (refl, refl, refl)
     judged-is Repeated = (refl, refl, refl)
     judged-is BeganAnew =
         is-counted (Sync a ∷ []) x.line l.asked
@@ -226,22 +102,13 @@ module _ (w : Watched) (x : Recorded) (ds : List Recorded) where
           begun = x.line;
         })) (refl, refl, refl)
 
-    sync-is : (origin : Stamp) → m.body ≡ bodies.Sync origin → (of_master : Bool)
-        → is_of w w.master m.header ≡ of_master
-        → Is (if of_master then after_both (judged_sync a table_capacity l.heard) (is_refused w ds m) a l.heard
-        else l.heard)
-        (if of_master
-        && is_beginning (judged_both (judged_sync a table_capacity l.heard) (is_refused w ds m) a l.heard)
-        then x.line else l.begun) l.asked
+    sync-is : (of_master : Bool)
+        → Is (if of_master then after_sync a table_capacity l.heard else l.heard)
+        (if of_master && is_beginning (judged_sync a table_capacity l.heard) then x.line else l.begun) l.asked
         (hears_ready of_master call
-        (if of_master then ready_judged (judged_sync a table_capacity l.heard) w x.line call a l else Some l) l)
-    sync-is origin body true is =
-        let j : Judgement = judged_sync a table_capacity l.heard in
-        subst (λ (refused : Bool). Is (after_both j refused a l.heard)
-        (if is_beginning (judged_both j refused a l.heard) then x.line else l.begun) l.asked
-        (hears_ready true call (ready_judged j w x.line call a l) l))
-        (refused-same w ds m origin body is x.time x.line) (judged-is j)
-    sync-is origin body false is = (refl, refl, refl)
+        (if of_master then ready_judged (judged_sync a table_capacity l.heard) w x.line a l else Some l) l)
+    sync-is true = judged-is (judged_sync a table_capacity l.heard)
+    sync-is false = (refl, refl, refl)
 
     -- a Follow_Up
     follow-is : (of_master : Bool)
@@ -319,24 +186,18 @@ module _ (w : Watched) (x : Recorded) (ds : List Recorded) where
     moved change value asked r one =
         (one.0 ∙ ap change is.0, one.1 ∙ (λ i. value (is.0 i) (is.1 i)), one.2 ∙ ap asked is.2)
 
-    body-is : (m : Contents) (body : Body) → m.body ≡ body
-        → Is (told_with w ds x m body (told_of_master w ds))
+    body-is : (m : Contents) (body : Body)
+        → Is (told_with w x m body (told_of_master w ds))
         (if begins_with w ds x m body then x.line else begun_at w ds)
         (is_some (option_or (own_request w m.header body) (last_request w ds)))
         (hears w x.line x.time m body l)
-    body-is m (bodies.Sync origin) is_body =
+    body-is m (bodies.Sync origin) =
         moved
-        (λ h. if is_of w w.master m.header
-        then after_both (judged_sync (arrival_of m.header x.time) table_capacity h) (is_refused w ds m)
-        (arrival_of m.header x.time) h
-        else h)
-        (λ h b. if is_of w w.master m.header
-        && is_beginning (judged_both (judged_sync (arrival_of m.header x.time) table_capacity h)
-        (is_refused w ds m) (arrival_of m.header x.time) h)
+        (λ h. if is_of w w.master m.header then after_sync (arrival_of m.header x.time) table_capacity h else h)
+        (λ h b. if is_of w w.master m.header && is_beginning (judged_sync (arrival_of m.header x.time) table_capacity h)
         then x.line else b)
-        (λ k. k) (hears w x.line x.time m (bodies.Sync origin) l)
-        (sync-is m origin is_body (is_of w w.master m.header) refl)
-    body-is m (bodies.DelayReq origin) is_body = by (is_of w w.slave m.header)
+        (λ k. k) (hears w x.line x.time m (bodies.Sync origin) l) (sync-is m (is_of w w.master m.header))
+    body-is m (bodies.DelayReq origin) = by (is_of w w.slave m.header)
       where
         by : (own : Bool)
             → Is (told_of_master w ds)
@@ -351,12 +212,12 @@ module _ (w : Watched) (x : Recorded) (ds : List Recorded) where
             (λ k. true) (hears_request w x.line x.time m.header.sequence.0 l)
             (asked-is m.header.sequence.0 (last_request w ds) (sym (last-same w ds)) is.2)
         by false = is
-    body-is m (bodies.FollowUp precise) is_body =
+    body-is m (bodies.FollowUp precise) =
         moved
         (λ h. if is_of w w.master m.header then after_follow_up (arrival_of m.header x.time) table_capacity h else h)
         (λ h b. b) (λ k. k) (hears w x.line x.time m (bodies.FollowUp precise) l)
         (follow-is m (is_of w w.master m.header))
-    body-is m (bodies.DelayResp receive requesting) is_body =
+    body-is m (bodies.DelayResp receive requesting) =
         moved (λ h. h) (λ h b. b) (λ k. k) (hears w x.line x.time m (bodies.DelayResp receive requesting) l)
         (response-is m (is_of w w.master m.header && is_same_port requesting w.slave)
         (is_some (known table_capacity m.header.sequence.0 l.responses)))
@@ -365,14 +226,14 @@ module _ (w : Watched) (x : Recorded) (ds : List Recorded) where
     step = by x.said
       where
         by : (said : Reading)
-            → Is (option_map_or (λ m. told_with w ds x m m.body (told_of_master w ds)) (result_ok said)
+            → Is (option_map_or (λ m. told_with w x m m.body (told_of_master w ds)) (result_ok said)
             (told_of_master w ds))
             (if option_map_or (λ m. begins_with w ds x m m.body) (result_ok said) false then x.line
             else begun_at w ds)
             (is_some (option_or (option_and_then (λ m. own_request w m.header m.body) (result_ok said))
             (last_request w ds)))
             (option_map_or (λ m. hears w x.line x.time m m.body l) (result_ok said) l)
-        by (Ok m) = body-is m m.body refl
+        by (Ok m) = body-is m m.body
         by (Err refusal) = is
 
 -- after all
@@ -380,6 +241,10 @@ after-told : (w : Watched) (ds : List Recorded)
     → Is (told_of_master w ds) (begun_at w ds) (is_some (last_request w ds)) (after_all w ds)
 after-told w [] = (refl, refl, refl)
 after-told w (x ∷ ds) = step w x ds (after-told w ds)
+
+-- what it was told of the master
+pub told-same : (w : Watched) (ds : List Recorded) → (after_all w ds).heard ≡ told_of_master w ds
+told-same w ds = (after-told w ds).0
 
 -- the law
 pub each_beginning : EachBeginningIsTold

@@ -15,8 +15,9 @@ use Rattle.event_codec.specs.Reading.{Reading}
 use Rattle.pairing.specs.Marked.{Entry, entry}
 use Rattle.sync_watch.specs.declared.judgement.Judgement.{Judgement}
 use Rattle.sync_watch.specs.declared.judgement.Judgement.TheVariants.{Newer, Repeated, BeganAnew}
-use Rattle.sync_watch.specs.Told.{Told, Sync, FollowUp, Refused, known, syncs, follow_ups}
-use Rattle.sync_watch.specs.Judged.{is_apart, sync_judgement, is_repeat, judged_sync, judged_follow_up}
+use Rattle.sync_watch.specs.Told.{Told, Sync, FollowUp, known, syncs, follow_ups}
+use Rattle.sync_watch.specs.Life.{is_apart, newest}
+use Rattle.sync_watch.specs.Judged.{sync_judgement, is_repeat, judged_sync, judged_follow_up}
 use Rattle.slave_port.specs.declared.heard.Heard.{Heard}
 use Rattle.slave_port.specs.History as calls
 use Rattle.slave_port.specs.History.{Call}
@@ -76,13 +77,6 @@ module _ (w : Watched) (m : Contents) (time : ℕ) where
   abbrev Holds : Listening → Type 0
   Holds r = IsKnownBy m.body m.header.sequence.0 time (is_unicast m.header) r.heard r.responses
 
-  -- a refusal tells nothing of what came
-  refused_too : (body : Body) (number refused : ℕ) (flag : Bool) (heard : List Told) (responses : List (Entry ℕ))
-      → IsKnownBy body number time flag heard responses
-      → IsKnownBy body number time flag (Refused refused ∷ heard) responses
-  refused_too (bodies.Sync origin) number refused flag heard responses is = is
-  refused_too _ number refused flag heard responses is = is
-
   -- another datagram leaves it known
   module _ (x : Recorded) (l : Listening)
       (none : says (λ (m : Contents). is_own_message w m || is_own_request w m) x ≡ false) where
@@ -102,9 +96,7 @@ module _ (w : Watched) (m : Contents) (time : ℕ) where
       unheard = λ gone none r is. is;
       as_is = λ n said none r is. is;
       sync = λ n origin said body of_master r is. no_message n said (own-sync w n of_master origin body);
-      refused = λ number r is. refused_too m.body m.header.sequence.0 number (is_unicast m.header) r.heard r.responses is;
       master = λ n origin said body of_master r is. no_message n said (own-sync w n of_master origin body);
-      renewed = λ n origin said body of_master r is. no_message n said (own-sync w n of_master origin body);
       follow = λ n precise said body of_master r is. no_message n said (own-follow w n of_master precise body);
       response = λ n receive requesting said body of_master to_slave r is.
           no_message n said (own-response w n of_master receive requesting body to_slave);
@@ -158,12 +150,7 @@ module _ (w : Watched) (x : Recorded) (l : Listening) (m : Contents) (said : x.s
     sync = λ n origin other body of_master r is.
         known-own n (record r { heard = Sync (arrival_of n.header x.time) ∷ r.heard }) other
         (sync-known n origin r.heard r.responses body);
-    refused = λ number r is.
-        refused_too w m x.time m.body m.header.sequence.0 number (is_unicast m.header) r.heard r.responses is;
     master = λ n origin other body of_master r is.
-        subst (λ (c : Contents). IsKnownBy c.body c.header.sequence.0 x.time (is_unicast c.header)
-        (Sync (arrival_of n.header x.time) ∷ []) []) (same_message n other) (sync-known n origin [] [] body);
-    renewed = λ n origin other body of_master r is.
         subst (λ (c : Contents). IsKnownBy c.body c.header.sequence.0 x.time (is_unicast c.header)
         (Sync (arrival_of n.header x.time) ∷ []) []) (same_message n other) (sync-known n origin [] [] body);
     follow = λ n precise other body of_master r is.
@@ -216,12 +203,12 @@ module _ (w : Watched) (copy : Recorded) (m : Contents) (time : ℕ) (l : Listen
   sync_none is =
       ap (λ (b : Bool). if b
       then ready_judged (judged_sync (arrival_of m.header copy.time) table_capacity l.heard) w copy.line
-      (calls.Event (Ok m) copy.time copy.line) (arrival_of m.header copy.time) l
+      (arrival_of m.header copy.time) l
       else Some l) of_master
-      ∙ ap (λ (j : Judgement). ready_judged j w copy.line (calls.Event (Ok m) copy.time copy.line)
-      (arrival_of m.header copy.time) l)
-      (ap (λ (o : Option ℕ). sync_judgement copy.time o
-      (known table_capacity m.header.sequence.0 (follow_ups (is_unicast m.header) l.heard))) is
+      ∙ ap (λ (j : Judgement). ready_judged j w copy.line (arrival_of m.header copy.time) l)
+      (ap (λ (o : Option ℕ). sync_judgement (arrival_of m.header copy.time) o
+      (known table_capacity m.header.sequence.0 (follow_ups (is_unicast m.header) l.heard))
+      (newest (syncs (is_unicast m.header) l.heard))) is
       ∙ ap (λ (apart : Bool). if apart then BeganAnew else Repeated) near)
 
   follow_none : known table_capacity m.header.sequence.0 (follow_ups (is_unicast m.header) l.heard) ≡ Some time
@@ -232,7 +219,9 @@ module _ (w : Watched) (copy : Recorded) (m : Contents) (time : ℕ) (l : Listen
       (arrival_of m.header copy.time) l
       else Some l) of_master
       ∙ ap (λ (o : Option ℕ). ready_followed
-      (if is_repeat copy.time (known table_capacity m.header.sequence.0 (syncs (is_unicast m.header) l.heard)) o
+      (if is_repeat (arrival_of m.header copy.time)
+      (known table_capacity m.header.sequence.0 (syncs (is_unicast m.header) l.heard)) o
+      (newest (syncs (is_unicast m.header) l.heard))
       then Repeated else Newer) (arrival_of m.header copy.time) l) is
 
   response_none : (requesting : PortIdentity) → is_same_port requesting w.slave ≡ true

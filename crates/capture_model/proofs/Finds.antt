@@ -9,7 +9,7 @@ use Rattle.std.specs.Option.{option_map_or}
 use Rattle.std.specs.Result.{result_ok}
 use Rattle.std.specs.List.{All}
 use Rattle.std.proofs.lemmas.Bool.{and_left, and_right, and_parts, or_right, or_parts, or_from, eq-eqb, eqb-true}
-use Rattle.std.proofs.lemmas.Bool.{not-false, both_ways}
+use Rattle.std.proofs.lemmas.Bool.{and_from, not-false, both_ways}
 use Rattle.std.proofs.lemmas.List.Elements.{All-nil, All-cons, All-head, All-tail, All-weaker}
 use Rattle.ptp_units.specs.Moment.{Stamp}
 use Rattle.ptp_units.specs.Sequence.{of_count, next, ahead}
@@ -19,7 +19,8 @@ use Rattle.event_codec.specs.declared.port.PortIdentity.{PortIdentity}
 use Rattle.event_codec.specs.Packet.{Contents}
 use Rattle.event_codec.specs.Reading.{Reading}
 use Rattle.pairing.specs.Marked.{Entry, entry, first_value}
-use Rattle.sync_watch.specs.Judged.{second, is_apart}
+use Rattle.sync_watch.specs.Told.{Told, syncs}
+use Rattle.sync_watch.specs.Life.{second, is_apart, is_far, newest}
 use Rattle.slave_port.specs.History as calls
 use Rattle.slave_port.specs.History.{Call, Setup, present_master, next_number}
 use Rattle.slave_port.specs.Usable.{is_not_newer}
@@ -44,7 +45,7 @@ use Rattle.capture_model.specs.Finds.{is_master_sync, is_follow_up, is_master_fo
 use Rattle.capture_model.specs.Finds.{is_response_to}
 use Rattle.capture_model.specs.Finds.{is_own_response, is_delay_req, is_own_request, with_number, says, NoneSays}
 use Rattle.capture_model.specs.Finds.{AreOfOneSync, completion_of, is_of_number, NoOtherIsHeard}
-use Rattle.capture_model.specs.Finds.{IsNotBehind, AreTaken, NoneIsKnown, recent_syncs, with_flag, heard_of}
+use Rattle.capture_model.specs.Finds.{IsNotBehind, IsNear, is_far_from_newest, AreTaken, NoneIsKnown, recent_syncs, with_flag, heard_of}
 use Rattle.capture_model.specs.Finds.{last_heard, within_syncs, IsOneStep, completion_of_one_step}
 use Rattle.capture_model.specs.Finds.{IsTaken, AreInOrder, SyncFirst, FollowUpFirst, ComesTwoStep, ComesOneStep, ComesSync}
 use Rattle.capture_model.specs.Finds.{AreOfOneRequest, ComesDelay, EachAfter, CompletesNoSync, CompletesNoDelay, StandsSync}
@@ -69,7 +70,7 @@ use Rattle.capture_model.proofs.Latest.{IsNearBy}
 use Rattle.capture_model.proofs.Recent.{within-fewer}
 use Rattle.capture_model.proofs.Takes.{all-right, says-weaker, first-below, hears-sync}
 use Rattle.capture_model.proofs.Takes.{hears-follow_up, hears-response, counted-so, TakesSync, TakesFollow}
-use Rattle.capture_model.proofs.Begins.{last-same, each_beginning}
+use Rattle.capture_model.proofs.Begins.{last-same, told-same, each_beginning}
 use Rattle.capture_model.proofs.Takes.{TakesResponse, TakesOneStep, takes-one_step, takes-used_one_step}
 use Rattle.capture_model.proofs.Takes.{takes-sync, takes-follow, takes-response, takes-used_sync, takes-used_follow}
 use Rattle.capture_model.proofs.Takes.{takes-used_response}
@@ -331,10 +332,10 @@ module _ (w : Watched) (since : ℕ) (from : List Recorded) where
       (base : HasRequest w number value (after_all w from).first (after_all w from).calls (after_all w from).syncs
       (after_all w from).asked) where
     -- a Delay_Req too far ahead
-    abbrev is_far : Contents → Bool
-    is_far m = is_own_request w m && not (nat_lt (ahead m.header.sequence.0 number) table_capacity)
+    abbrev leaps : Contents → Bool
+    leaps m = is_own_request w m && not (nat_lt (ahead m.header.sequence.0 number) table_capacity)
 
-    request-stays : (later : List Recorded) → AreLater later → NoneSays is_far later
+    request-stays : (later : List Recorded) → AreLater later → NoneSays leaps later
         → (after_all w (later ++ from)).begun ≤ since
         → HasRequest w number value (after_all w (later ++ from)).first (after_all w (later ++ from)).calls
         (after_all w (later ++ from)).syncs (after_all w (later ++ from)).asked
@@ -344,9 +345,9 @@ module _ (w : Watched) (since : ℕ) (from : List Recorded) where
         let behind : since < x.line = All-head (λ (d : Recorded). since < d.line) x later are in
         goes-after w x ds since behind (HasRequest w number value) (HasRequest w number value)
         (goes-request w x ds since behind number value in_range
-        (All-head (λ (d : Recorded). says is_far d ≡ false) x later near))
+        (All-head (λ (d : Recorded). says leaps d ≡ false) x later near))
         (request-stays later (All-tail (λ (d : Recorded). since < d.line) x later are)
-        (All-tail (λ (d : Recorded). says is_far d ≡ false) x later near))
+        (All-tail (λ (d : Recorded). says leaps d ≡ false) x later near))
         low
 
 -- what a datagram completes, at the port that hears it
@@ -748,6 +749,18 @@ other-kind w kind number d m said none =
     ∙ and_left (is_of w w.master m.header && kind m.body) (m.header.sequence.0 == number)
     (and_right (is_of w w.master m.header) (kind m.body) none)
 
+-- a Follow_Up's number fits to the newest Sync that the port heard, where it does to the newest that is told
+fits-newest : (w : Watched) (ds : List Recorded) (d : Recorded) (f : Contents) → d.said ≡ Ok f
+    → is_master_follow_up w f ≡ true → IsNear w ds d
+    → option_map_or (λ n. is_far f.header.sequence.0 n.number)
+    (newest (syncs (is_unicast f.header) (after_all w ds).heard)) false ≡ false
+fits-newest w ds d f said of_master near =
+    let told : (is_master_follow_up w f && is_far_from_newest w ds f) ≡ false =
+    sym (says-of (λ m. is_master_follow_up w m && is_far_from_newest w ds m) d f said) ∙ near in
+    ap (λ (heard : List Told). option_map_or (λ n. is_far f.header.sequence.0 n.number)
+    (newest (syncs (is_unicast f.header) heard)) false) (told-same w ds)
+    ∙ sym (ap (λ (b : Bool). b && is_far_from_newest w ds f) of_master) ∙ told
+
 -- the two messages of a Sync, one behind the other
 module _ (w : Watched) (first d : Recorded) (s f : Contents) (precise : Stamp) (between before : List Recorded)
     (alone : NoOtherIsHeard w s.header.sequence.0 between (first ∷ before))
@@ -812,22 +825,26 @@ module _ (w : Watched) (first d : Recorded) (s f : Contents) (precise : Stamp) (
     takes-first_sync = by taken
       where
         by : ((NoneIsKnown w n before
-            × IsNotBehind w n (within_syncs w (between ++ first ∷ before) recent_syncs))
+            × IsNotBehind w n (within_syncs w (between ++ first ∷ before) recent_syncs)
+            × IsNear w before first × IsNear w (between ++ first ∷ before) d)
             ⊎ (IsTrue (is_used w before first) × IsTrue (is_used w (between ++ first ∷ before) d)))
             → TakesSync w before first s
         by (inl new) =
             takes-sync w before first s of_one.sync_said sync_parts.0 of_one.small_sync sync_origin.0 sync_origin.1
             of_one.two_step (newest-of new.1) (new.0 (is_unicast s.header)).0
-            (near-of (is_master_follow_up w) (with_flag (is_master_follow_up w) (is_unicast s.header)) first.time
-            (new.0 (is_unicast s.header)).1)
         by (inr used) =
             takes-used_sync w before first s of_one.sync_said sync_origin.0 sync_origin.1 of_one.two_step used.0
+
+    follow_master : is_master_follow_up w f ≡ true
+    follow_master =
+        and_from (is_of w w.master f.header) (is_follow_up f.body) of_one.of_master (ap is_follow_up of_one.follow_is)
 
     takes-last_follow : TakesFollow w all_until d f precise
     takes-last_follow = by taken
       where
         by : ((NoneIsKnown w n before
-            × IsNotBehind w n (within_syncs w (between ++ first ∷ before) recent_syncs))
+            × IsNotBehind w n (within_syncs w (between ++ first ∷ before) recent_syncs)
+            × IsNear w before first × IsNear w (between ++ first ∷ before) d)
             ⊎ (IsTrue (is_used w before first) × IsTrue (is_used w (between ++ first ∷ before) d)))
             → TakesFollow w (between ++ first ∷ before) d f precise
         by (inl new) =
@@ -849,6 +866,7 @@ module _ (w : Watched) (first d : Recorded) (s f : Contents) (precise : Stamp) (
             (is_of_number-sync w n)
             (near-now w (is_master_sync w) n d.time first s of_one.sync_said
             (apart-other first.time d.time of_one.near)) (new.0 (is_unicast f.header)).0))
+            (fits-newest w (between ++ first ∷ before) d f of_one.follow_said follow_master new.3)
         by (inr used) =
             takes-used_follow w (between ++ first ∷ before) d f of_one.follow_said precise of_one.follow_is used.1
 
@@ -906,11 +924,16 @@ module _ (w : Watched) (first d : Recorded) (s f : Contents) (precise : Stamp) (
     last_origin : (origin : Stamp) × (s.body ≡ bodies.Sync origin)
     last_origin = sync-body s.body last_parts.1
 
+    first_follow_master : is_master_follow_up w f ≡ true
+    first_follow_master =
+        and_from (is_of w w.master f.header) (is_follow_up f.body) of_one.of_master (ap is_follow_up of_one.follow_is)
+
     takes-first_follow : TakesFollow w before first f precise
     takes-first_follow = by taken
       where
         by : ((NoneIsKnown w n before
-            × IsNotBehind w n (within_syncs w (between ++ first ∷ before) recent_syncs))
+            × IsNotBehind w n (within_syncs w (between ++ first ∷ before) recent_syncs)
+            × IsNear w before first × IsNear w (between ++ first ∷ before) d)
             ⊎ (IsTrue (is_used w before first) × IsTrue (is_used w (between ++ first ∷ before) d)))
             → TakesFollow w before first f precise
         by (inl new) =
@@ -924,13 +947,15 @@ module _ (w : Watched) (first d : Recorded) (s f : Contents) (precise : Stamp) (
             (last_heard w (with_flag (is_master_sync w) (is_unicast f.header)) before)) (sym of_one.number)
             (near-of (is_master_sync w) (with_flag (is_master_sync w) (is_unicast f.header)) first.time
             (new.0 (is_unicast f.header)).0))
+            (fits-newest w before first f of_one.follow_said first_follow_master new.2)
         by (inr used) = takes-used_follow w before first f of_one.follow_said precise of_one.follow_is used.0
 
     takes-last_sync : TakesSync w all_until d s
     takes-last_sync = by taken
       where
         by : ((NoneIsKnown w n before
-            × IsNotBehind w n (within_syncs w (between ++ first ∷ before) recent_syncs))
+            × IsNotBehind w n (within_syncs w (between ++ first ∷ before) recent_syncs)
+            × IsNear w before first × IsNear w (between ++ first ∷ before) d)
             ⊎ (IsTrue (is_used w before first) × IsTrue (is_used w (between ++ first ∷ before) d)))
             → TakesSync w (between ++ first ∷ before) d s
         by (inl new) =
@@ -939,10 +964,6 @@ module _ (w : Watched) (first d : Recorded) (s f : Contents) (precise : Stamp) (
             (none-until (is_master_sync w) (with_flag (is_master_sync w) (is_unicast s.header)) (is_of_number-sync w n)
             (other-kind w is_sync n first f of_one.follow_said (ap is_sync of_one.follow_is))
             (new.0 (is_unicast s.header)).0)
-            (near-until (is_master_follow_up w) (with_flag (is_master_follow_up w) (is_unicast s.header)) d.time
-            (is_of_number-follow w n)
-            (near-now w (is_master_follow_up w) n d.time first f of_one.follow_said of_one.near)
-            (new.0 (is_unicast s.header)).1)
         by (inr used) =
             takes-used_sync w (between ++ first ∷ before) d s of_one.sync_said last_origin.0 last_origin.1 of_one.two_step
             used.1
@@ -1037,11 +1058,6 @@ module _ (w : Watched) (earlier : List Recorded) (d : Recorded) (begun : ℕ) (n
             (λ (e : Recorded). says (λ (m : Contents). tells_departure w m
             && is_not_newer (Some m.header.sequence.0) comes.s.header.sequence.0) e ≡ false) earlier 12288 recent_syncs
             (omega arith) new.1) new.0.0
-            (All-weaker
-            (λ (e : Recorded). says (with_number (is_master_follow_up w) comes.s.header.sequence.0) e ≡ false)
-            (IsNearBy (is_master_follow_up w) comes.s.header.sequence.0 d.time)
-            (near-one w (is_master_follow_up w) comes.s.header.sequence.0 d.time)
-            (last_heard w (with_flag (is_master_follow_up w) (is_unicast comes.s.header)) earlier) new.0.1)
         by (inr used) =
             takes-used_one_step w earlier d comes.s one.said comes.origin one.sync_is one.one_step used
 

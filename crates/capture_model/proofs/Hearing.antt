@@ -16,14 +16,14 @@ use Rattle.event_codec.specs.Reading.{Reading}
 use Rattle.pairing.specs.Marked.{entry}
 use Rattle.sync_watch.specs.declared.judgement.Judgement.{Judgement}
 use Rattle.sync_watch.specs.declared.judgement.Judgement.TheVariants.{Newer, Repeated, BeganAnew}
-use Rattle.sync_watch.specs.Told.{Sync, FollowUp, Refused, known}
-use Rattle.sync_watch.specs.Judged.{judged_sync, judged_follow_up, judged_refused}
+use Rattle.sync_watch.specs.Told.{Sync, FollowUp, known}
+use Rattle.sync_watch.specs.Judged.{judged_sync, judged_follow_up}
 use Rattle.slave_port.specs.History as calls
 use Rattle.slave_port.specs.History.{Call, next_number}
 use Rattle.capture_model.specs.declared.watched.Watched.{Watched}
 use Rattle.capture_model.specs.Recorded.{Recorded}
-use Rattle.capture_model.specs.Listening.{Listening, setup_in, table_capacity, is_of, is_stale, ticks_every, told}
-use Rattle.capture_model.specs.Listening.{answer_in, arrival_of, with_master_anew, ready_refused, ready_newer}
+use Rattle.capture_model.specs.Listening.{Listening, setup_in, table_capacity, is_of, ticks_every}
+use Rattle.capture_model.specs.Listening.{answer_in, arrival_of, with_master_anew}
 use Rattle.capture_model.specs.Listening.{ready_judged, ready_sync, ready_followed, ready_follow_up, ready_response}
 use Rattle.capture_model.specs.Listening.{ready, hears_ready, asks, anew, hears_request, hears, hear}
 use Rattle.capture_model.specs.Listening.{answered, answered_to, hearing}
@@ -56,21 +56,17 @@ general-hearing line time m (bodies.DelayResp receive requesting) is = refl
 general-hearing line time m _ is = cc
 
 module _ (w : Watched) (x : Recorded) (l : Listening) (P R Q : Listening → Type 0) where
-  -- What may come of a datagram: it isn't heard; its number and time become known, or that it was refused, or that the
-  -- master began anew, which leaves P of the port; and it is heard or asked for, which makes it Q.
+  -- What may come of a datagram: it isn't heard; its number and time become known, or that the master
+  -- began anew, which leaves P of the port; and it is heard or asked for, which makes it Q.
   pub record Keeps : Type 0 where
     pub unheard : answered_to w x l ≡ None → asked_by w x ≡ None → (r : Listening) → P r → Q r
     pub as_is : (m : Contents) → x.said ≡ Ok m → is_own_message w m ≡ false → (r : Listening) → P r → R r
     pub sync : (m : Contents) (origin : Stamp) → x.said ≡ Ok m → m.body ≡ bodies.Sync origin
         → is_of w w.master m.header ≡ true → (r : Listening) → P r
         → R (record r { heard = Sync (arrival_of m.header x.time) ∷ r.heard })
-    pub refused : (number : ℕ) (r : Listening) → R r → R (record r { heard = Refused number ∷ r.heard })
     pub master : (m : Contents) (origin : Stamp) → x.said ≡ Ok m → m.body ≡ bodies.Sync origin
         → is_of w w.master m.header ≡ true → (r : Listening) → P r
         → R (with_master_anew w x.line (arrival_of m.header x.time) r)
-    pub renewed : (m : Contents) (origin : Stamp) → x.said ≡ Ok m → m.body ≡ bodies.Sync origin
-        → is_of w w.master m.header ≡ true → (r : Listening) → R r
-        → R (with_master_anew w x.line (arrival_of m.header x.time) (told (calls.Event (Ok m) x.time x.line) r))
     pub follow : (m : Contents) (precise : Stamp) → x.said ≡ Ok m → m.body ≡ bodies.FollowUp precise
         → is_of w w.master m.header ≡ true → (r : Listening) → P r
         → R (record r { heard = FollowUp (arrival_of m.header x.time) ∷ r.heard })
@@ -126,31 +122,11 @@ module _ (w : Watched) (x : Recorded) (l : Listening) (P R Q : Listening → Typ
 
       -- the port that is to hear a Sync
       module _ (origin : Stamp) (body : m.body ≡ bodies.Sync origin) where
-        refused_holds : is_of w w.master m.header ≡ true → (j : Judgement) (r : Listening) → R r
-            → R (ready_refused j w x.line (calls.Event (Ok m) x.time x.line) (arrival_of m.header x.time) r)
-        refused_holds of_master Newer r is = keeps.refused (arrival_of m.header x.time).number r is
-        refused_holds of_master Repeated r is = is
-        refused_holds of_master BeganAnew r is =
-            keeps.renewed m origin said body of_master r is
-
-        newer_holds : is_of w w.master m.header ≡ true → (r : Listening) → R r
-            → R (ready_newer w x.line (calls.Event (Ok m) x.time x.line) (arrival_of m.header x.time) r)
-        newer_holds of_master r is = by (is_stale (answer_in w r (calls.Event (Ok m) x.time x.line)))
-          where
-            by : (stale : Bool) → R
-                (if stale then ready_refused (judged_refused (arrival_of m.header x.time) table_capacity r.heard) w x.line
-                (calls.Event (Ok m) x.time x.line) (arrival_of m.header x.time) r
-                else r)
-            by true = refused_holds of_master (judged_refused (arrival_of m.header x.time) table_capacity r.heard) r is
-            by false = is
-
         judged_holds : is_of w w.master m.header ≡ true → (j : Judgement) (r : Listening)
-            → ready_judged j w x.line (calls.Event (Ok m) x.time x.line) (arrival_of m.header x.time) l ≡ Some r → R r
+            → ready_judged j w x.line (arrival_of m.header x.time) l ≡ Some r → R r
         judged_holds of_master Newer r same =
-            let heard : Listening = record l { heard = Sync (arrival_of m.header x.time) ∷ l.heard } in
-            let one : ready_newer w x.line (calls.Event (Ok m) x.time x.line) (arrival_of m.header x.time) heard ≡ r = cc
-            in
-            subst R one (newer_holds of_master heard (keeps.sync m origin said body of_master l holds))
+            let one : record l { heard = Sync (arrival_of m.header x.time) ∷ l.heard } ≡ r = cc in
+            subst R one (keeps.sync m origin said body of_master l holds)
         judged_holds of_master Repeated r same = cc
         judged_holds of_master BeganAnew r same =
             let one : with_master_anew w x.line (arrival_of m.header x.time) l ≡ r = cc in
@@ -162,7 +138,7 @@ module _ (w : Watched) (x : Recorded) (l : Listening) (P R Q : Listening → Typ
             by : (of_master : Bool) → is_of w w.master m.header ≡ of_master
                 → (if of_master
                 then ready_judged (judged_sync (arrival_of m.header x.time) table_capacity l.heard) w x.line
-                (calls.Event (Ok m) x.time x.line) (arrival_of m.header x.time) l
+                (arrival_of m.header x.time) l
                 else Some l) ≡ Some r
                 → R r
             by true is same =

@@ -16,8 +16,9 @@ use Rattle.event_codec.specs.Packet.{Contents}
 use Rattle.event_codec.specs.Port.{is_same_port}
 use Rattle.event_codec.specs.Reading.{Reading}
 use Rattle.pairing.specs.Marked.{Entry, entry, first_value}
-use Rattle.sync_watch.specs.Told.{Arrival, Told, known, of_flag, syncs, follow_ups}
-use Rattle.sync_watch.specs.Judged.{second, is_apart}
+use Rattle.sync_watch.specs.declared.arrival.Arrival.{Arrival}
+use Rattle.sync_watch.specs.Told.{Told, known, of_flag, syncs, follow_ups}
+use Rattle.sync_watch.specs.Life.{second, is_apart}
 use Rattle.slave_port.specs.History as calls
 use Rattle.slave_port.specs.History.{Call, Setup, present_master}
 use Rattle.slave_port.specs.Values.{SyncValue, FollowValue}
@@ -137,16 +138,16 @@ module _ (w : Watched) where
   pub grows-arrival : (kind : Body → Bool) (ds : List Recorded) (x : Recorded) (m : Contents) (a : Arrival)
       (entries : Bool → List (Entry ℕ)) → x.said ≡ Ok m → kind m.body ≡ true → a.is_unicast ≡ is_unicast m.header
       → is_of w w.master m.header ≡ true → is_heard w ds x ≡ true
-      → known table_capacity a.number (entries a.is_unicast) ≡ None
+      → known table_capacity a.number.0 (entries a.is_unicast) ≡ None
       → AllGrow kind ds x entries (λ (flag : Bool). of_flag flag a (entries flag))
   grows-arrival kind ds x m a entries said kind_is flag_is of_master heard unknown flag = at flag
     where
       one : (flag : Bool) → a.is_unicast ≡ flag
-          → IsOneMore kind ds x flag (entries flag) (entry a.number a.time ∷ entries flag)
+          → IsOneMore kind ds x flag (entries flag) (entry a.number.0 a.time ∷ entries flag)
       one flag is = record {
-        e = entry a.number a.time;
+        e = entry a.number.0 a.time;
         is = refl;
-        unknown = subst (λ (b : Bool). known table_capacity a.number (entries b) ≡ None) is unknown;
+        unknown = subst (λ (b : Bool). known table_capacity a.number.0 (entries b) ≡ None) is unknown;
         m = m;
         said = said;
         kind_is = kind_is;
@@ -156,12 +157,12 @@ module _ (w : Watched) where
       }
 
       true_of : (b : Bool) → a.is_unicast ≡ b → Grows kind ds x true (entries true)
-          (if b then entry a.number a.time ∷ entries true else entries true)
+          (if b then entry a.number.0 a.time ∷ entries true else entries true)
       true_of true is = More (one true is)
       true_of false is = Same refl
 
       false_of : (b : Bool) → a.is_unicast ≡ b → Grows kind ds x false (entries false)
-          (if b then entries false else entry a.number a.time ∷ entries false)
+          (if b then entries false else entry a.number.0 a.time ∷ entries false)
       false_of true is = Same refl
       false_of false is = More (one false is)
 

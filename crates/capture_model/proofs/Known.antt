@@ -7,7 +7,8 @@ use Rattle.std.specs.List.{All}
 use Rattle.std.proofs.lemmas.Bool.{false≢true, and_parts, and_from, and_right, ne_eqb, eq-eqb, eqb-true, lt-ltb}
 use Rattle.std.proofs.lemmas.List.Elements.{All-head, All-tail, All-weaker}
 use Rattle.pairing.specs.Marked.{Entry, entry}
-use Rattle.sync_watch.specs.Told.{Arrival, known, of_flag}
+use Rattle.sync_watch.specs.declared.arrival.Arrival.{Arrival}
+use Rattle.sync_watch.specs.Told.{known, of_flag}
 use Rattle.capture_model.specs.declared.watched.Watched.{Watched}
 use Rattle.capture_model.specs.Recorded.{Recorded}
 use Rattle.capture_model.specs.Listening.{table_capacity}
@@ -18,7 +19,7 @@ abbrev pub IsKnown : (count number time : ℕ) → List (Entry ℕ) → Type 0
 IsKnown count number time es = (c : ℕ) → count < c → c ≤ table_capacity → known c number es ≡ Some time
 
 -- one more
-known-cons : (c number : ℕ) (e : Entry ℕ) (es : List (Entry ℕ))
+pub known-cons : (c number : ℕ) (e : Entry ℕ) (es : List (Entry ℕ))
     → known (suc c) number (e ∷ es) ≡ (if nat_eq e.number number then Some e.value else known c number es)
 known-cons c number e es = by (nat_eq e.number number)
   where
@@ -60,14 +61,14 @@ pub known-fewer : (count more number time : ℕ) (es : List (Entry ℕ)) → cou
 known-fewer count more number time es grown is c low fits = is c (omega arith) fits
 
 -- the last one of its flag
-pub known-arrival : (a : Arrival) (es : List (Entry ℕ)) → IsKnown 0 a.number a.time (of_flag a.is_unicast a es)
+pub known-arrival : (a : Arrival) (es : List (Entry ℕ)) → IsKnown 0 a.number.0 a.time (of_flag a.is_unicast a es)
 known-arrival a es = by a.is_unicast refl
   where
-    by : (flag : Bool) → a.is_unicast ≡ flag → IsKnown 0 a.number a.time (of_flag flag a es)
-    by true is = subst (λ (b : Bool). IsKnown 0 a.number a.time (if b then entry a.number a.time ∷ es else es)) (sym is)
-        (known-first 0 a.number a.time es)
-    by false is = subst (λ (b : Bool). IsKnown 0 a.number a.time (if b then es else entry a.number a.time ∷ es)) (sym is)
-        (known-first 0 a.number a.time es)
+    by : (flag : Bool) → a.is_unicast ≡ flag → IsKnown 0 a.number.0 a.time (of_flag flag a es)
+    by true is = subst (λ (b : Bool). IsKnown 0 a.number.0 a.time (if b then entry a.number.0 a.time ∷ es else es)) (sym is)
+        (known-first 0 a.number.0 a.time es)
+    by false is = subst (λ (b : Bool). IsKnown 0 a.number.0 a.time (if b then es else entry a.number.0 a.time ∷ es)) (sym is)
+        (known-first 0 a.number.0 a.time es)
 
 -- the line of a number is one of them
 pub at_line-in : (P : Recorded → Type 0) (number : ℕ) (ds : List Recorded) (d : Recorded) → All P ds

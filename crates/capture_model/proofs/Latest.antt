@@ -14,7 +14,7 @@ use Rattle.event_codec.specs.declared.message.Body.TheVariants as bodies
 use Rattle.event_codec.specs.Packet.{Contents}
 use Rattle.pairing.specs.Marked.{Entry, entry, first_value}
 use Rattle.sync_watch.specs.Told.{Told, Sync, of_flag, syncs, follow_ups}
-use Rattle.sync_watch.specs.Judged.{is_apart}
+use Rattle.sync_watch.specs.Life.{is_apart}
 use Rattle.slave_port.specs.History as calls
 use Rattle.slave_port.specs.History.{Call}
 use Rattle.capture_model.specs.declared.watched.Watched.{Watched}
@@ -192,7 +192,7 @@ module _ (w : Watched) where
         by : (flag unicast : Bool) → is_unicast m.header ≡ unicast
             → AreOf kind es (heard_of w (with_flag kind flag) ds)
             → AreOf kind
-            (of_flag flag (record { number = m.header.sequence.0; is_unicast = unicast; time = x.time }) es)
+            (of_flag flag (record { number = m.header.sequence; is_unicast = unicast; log = m.header.log; time = x.time }) es)
             (heard_of w (with_flag kind flag) (x ∷ ds))
         by true true is are =
             subst (AreOf kind (entry m.header.sequence.0 x.time ∷ es))
@@ -282,13 +282,7 @@ module _ (w : Watched) where
             (heard-same (is_own_response w) (unsaid (is_own_response w) m said (sync-no_response m origin body)))
             is.responses_of;
       };
-      refused = λ number l is heard. record {
-        syncs_of = (is heard).syncs_of;
-        follow_ups_of = (is heard).follow_ups_of;
-        responses_of = (is heard).responses_of;
-      };
       master = λ m origin said body of_master l is heard. anew-knows m origin said body of_master heard;
-      renewed = λ m origin said body of_master l is heard. anew-knows m origin said body of_master heard;
       follow = λ m precise said body of_master l is heard. record {
         syncs_of = λ flag.
             subst (AreOf (is_master_sync w) (syncs flag l.heard))

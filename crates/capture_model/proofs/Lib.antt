@@ -27,6 +27,7 @@ mod Latest
 mod Recent
 mod Onward
 mod Takes
+mod Apart
 mod Begins
 mod Finds
 mod Copies

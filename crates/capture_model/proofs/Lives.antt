@@ -15,16 +15,17 @@ use Rattle.event_codec.specs.Reading.{Reading}
 use Rattle.pairing.specs.Marked.{Entry, entry}
 use Rattle.sync_watch.specs.declared.judgement.Judgement.{Judgement}
 use Rattle.sync_watch.specs.declared.judgement.Judgement.TheVariants.{Newer, Repeated, BeganAnew}
-use Rattle.sync_watch.specs.Told.{Arrival, Told, Sync, FollowUp, Refused, known}
-use Rattle.sync_watch.specs.Judged.{judged_sync, judged_follow_up, judged_refused}
+use Rattle.sync_watch.specs.declared.arrival.Arrival.{Arrival}
+use Rattle.sync_watch.specs.Told.{Told, Sync, FollowUp, known}
+use Rattle.sync_watch.specs.Judged.{judged_sync, judged_follow_up}
 use Rattle.slave_port.specs.declared.heard.Report.{Report}
 use Rattle.slave_port.specs.History as calls
 use Rattle.slave_port.specs.History.{Call, Setup, next_number}
 use Rattle.capture_model.specs.declared.watched.Watched.{Watched}
 use Rattle.capture_model.specs.Recorded.{Recorded}
-use Rattle.capture_model.specs.Listening.{Listening, start, setup_in, table_capacity, is_of, is_stale, ticks_every}
-use Rattle.capture_model.specs.Listening.{with_count, told, answer_in, arrival_of, with_master_anew, ready_refused}
-use Rattle.capture_model.specs.Listening.{ready_newer, ready_judged, ready_sync, ready_followed, ready_follow_up}
+use Rattle.capture_model.specs.Listening.{Listening, start, setup_in, table_capacity, is_of, ticks_every}
+use Rattle.capture_model.specs.Listening.{with_count, told, answer_in, arrival_of, with_master_anew}
+use Rattle.capture_model.specs.Listening.{ready_judged, ready_sync, ready_followed, ready_follow_up}
 use Rattle.capture_model.specs.Listening.{ready_response, hears_ready, draws, asks, anew, hears_request, hears}
 use Rattle.capture_model.specs.Listening.{hear, after_all, answered, report_in}
 use Rattle.capture_model.specs.Told.{AreNumbered}
@@ -84,33 +85,12 @@ module _ (w : Watched) (line : ℕ) where
 
   -- the port that is to hear a Sync
   module _ (l : Listening) (is : IsOfLife w line l) where
-    refused_is : (j : Judgement) (said : Reading) (t2 : ℕ) (a : Arrival) (heard : List Told)
-        → IsOfLife w line (ready_refused j w line (calls.Event said t2 line) a (record l { heard = heard }))
-    refused_is Newer said t2 a heard = heard_is l (Refused a.number ∷ heard) l.responses is
-    refused_is Repeated said t2 a heard = heard_is l heard l.responses is
-    refused_is BeganAnew said t2 a heard =
-        anew_is (with_master_anew w line a (told (calls.Event said t2 line) (record l { heard = heard }))) refl
-        (calls.Event said t2 line ∷ l.calls) refl
-
-    newer_is : (said : Reading) (t2 : ℕ) (a : Arrival) (heard : List Told)
-        → IsOfLife w line (ready_newer w line (calls.Event said t2 line) a (record l { heard = heard }))
-    newer_is said t2 a heard =
-        by (is_stale (answer_in w (record l { heard = heard }) (calls.Event said t2 line)))
-        (judged_refused a table_capacity heard)
-      where
-        by : (stale : Bool) (j : Judgement) → IsOfLife w line
-            (if stale then ready_refused j w line (calls.Event said t2 line) a (record l { heard = heard })
-            else record l { heard = heard })
-        by true j = refused_is j said t2 a heard
-        by false j = heard_is l heard l.responses is
-
-    judged_is : (j : Judgement) (said : Reading) (t2 : ℕ) (a : Arrival) (r : Listening)
-        → ready_judged j w line (calls.Event said t2 line) a l ≡ Some r → IsOfLife w line r
-    judged_is Newer said t2 a r same =
-        let one : ready_newer w line (calls.Event said t2 line) a (record l { heard = Sync a ∷ l.heard }) ≡ r = cc in
-        subst (IsOfLife w line) one (newer_is said t2 a (Sync a ∷ l.heard))
-    judged_is Repeated said t2 a r same = cc
-    judged_is BeganAnew said t2 a r same =
+    judged_is : (j : Judgement) (a : Arrival) (r : Listening) → ready_judged j w line a l ≡ Some r → IsOfLife w line r
+    judged_is Newer a r same =
+        let one : record l { heard = Sync a ∷ l.heard } ≡ r = cc in
+        subst (IsOfLife w line) one (heard_is l (Sync a ∷ l.heard) l.responses is)
+    judged_is Repeated a r same = cc
+    judged_is BeganAnew a r same =
         let one : with_master_anew w line a l ≡ r = cc in
         subst (IsOfLife w line) one (anew_is (with_master_anew w line a l) refl l.calls refl)
 
@@ -123,10 +103,10 @@ module _ (w : Watched) (line : ℕ) where
         by : (of_master : Bool)
             → (if of_master
             then ready_judged (judged_sync (arrival_of m.header time) table_capacity l.heard) w line
-            (calls.Event (Ok m) time line) (arrival_of m.header time) l
+            (arrival_of m.header time) l
             else Some l) ≡ Some r
             → IsOfLife w line r
-        by true same = judged_is (judged_sync (arrival_of m.header time) table_capacity l.heard) (Ok m) time
+        by true same = judged_is (judged_sync (arrival_of m.header time) table_capacity l.heard)
             (arrival_of m.header time) r same
         by false same = same_is r same
 

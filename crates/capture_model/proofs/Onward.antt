@@ -142,13 +142,8 @@ module _ (w : Watched) (x : Recorded) (ds : List Recorded) (since : ℕ) (later 
     as_is = λ m said none l is. is;
     unheard = λ gone none l is. (known.unheard gone none l is.0, λ low. goes.unheard none l (is.1 low));
     sync = λ m origin said body of_master l is. (known.sync m origin said body of_master l is.0, is.1);
-    refused = λ number l is. (known.refused number l is.0, is.1);
     master = λ m origin said body of_master l is. (
       known.master m origin said body of_master l is.0,
-      λ low. let early : x.line ≤ since = low in absurd (omega arith),
-    );
-    renewed = λ m origin said body of_master l is. (
-      known.renewed m origin said body of_master l is.0,
       λ low. let early : x.line ≤ since = low in absurd (omega arith),
     );
     follow = λ m precise said body of_master l is. (known.follow m precise said body of_master l is.0, is.1);
@@ -208,9 +203,7 @@ module _ (w : Watched) (x : Recorded) (since : ℕ) (later : since < x.line)
     as_is = λ m said none l is. is;
     unheard = λ gone none l is. tt;
     sync = λ m origin said body of_master l is. is;
-    refused = λ number l is. is;
     master = λ m origin said body of_master l is low. let early : x.line ≤ since = low in absurd (omega arith);
-    renewed = λ m origin said body of_master l is low. let early : x.line ≤ since = low in absurd (omega arith);
     follow = λ m precise said body of_master l is. is;
     response = λ m receive requesting said body of_master to_slave l is. is;
     other = λ m origin said body other l is_ready is. tt;

@@ -5,7 +5,7 @@ use Rattle.std.specs.Prelude.{◌==◌, ◌&&◌, ◌||◌, not, nat_lt}
 use Rattle.std.specs.Option.{option_map_or}
 use Rattle.std.specs.Result.{result_ok}
 use Rattle.std.specs.List.{All}
-use Rattle.std.proofs.lemmas.Bool.{both_ways}
+use Rattle.std.proofs.lemmas.Bool.{both_ways, or_parts}
 use Rattle.ptp_units.specs.Moment.{Stamp}
 use Rattle.ptp_units.specs.Sequence.{ahead}
 use Rattle.event_codec.specs.declared.message.Body.{Body}
@@ -17,9 +17,10 @@ use Rattle.event_codec.specs.Reading.{Reading}
 use Rattle.pairing.specs.Marked.{Entry, entry}
 use Rattle.sync_watch.specs.declared.judgement.Judgement.{Judgement}
 use Rattle.sync_watch.specs.declared.judgement.Judgement.TheVariants.{Newer, Repeated, BeganAnew}
-use Rattle.sync_watch.specs.Told.{Arrival, Told, Sync, FollowUp, Refused, known, syncs, follow_ups}
-use Rattle.sync_watch.specs.Judged.{is_apart, sync_judgement, is_repeat, judged_sync, is_repeated, judged_follow_up}
-use Rattle.sync_watch.specs.Judged.{judged_refused}
+use Rattle.sync_watch.specs.declared.arrival.Arrival.{Arrival}
+use Rattle.sync_watch.specs.Told.{Told, Sync, FollowUp, known, syncs, follow_ups}
+use Rattle.sync_watch.specs.Life.{is_apart, is_far, newest}
+use Rattle.sync_watch.specs.Judged.{by_newest, sync_judgement, is_repeat, judged_sync, is_repeated, judged_follow_up}
 use Rattle.slave_port.specs.declared.heard.Report.{Report}
 use Rattle.slave_port.specs.History as calls
 use Rattle.slave_port.specs.History.{Call, next_number}
@@ -30,9 +31,9 @@ use Rattle.slave_port.proofs.Uses.{report_parts}
 use Rattle.network_model.proofs.Reports.{first_of}
 use Rattle.capture_model.specs.declared.watched.Watched.{Watched}
 use Rattle.capture_model.specs.Recorded.{Recorded}
-use Rattle.capture_model.specs.Listening.{Listening, start, setup_in, table_capacity, is_of, is_unicast, is_stale}
+use Rattle.capture_model.specs.Listening.{Listening, start, setup_in, table_capacity, is_of, is_unicast}
 use Rattle.capture_model.specs.Listening.{ticks_every, with_count, told, answer_in, arrival_of, with_master_anew}
-use Rattle.capture_model.specs.Listening.{ready_refused, ready_newer, ready_judged, ready_sync, ready_followed}
+use Rattle.capture_model.specs.Listening.{ready_judged, ready_sync, ready_followed}
 use Rattle.capture_model.specs.Listening.{ready_follow_up, ready_response, hears_ready, asks, anew, hears_request, hears}
 use Rattle.capture_model.specs.Listening.{hear, after_all, answered, answered_to, report_in}
 use Rattle.capture_model.specs.Told.{is_sync, AreNumbered}
@@ -40,35 +41,39 @@ use Rattle.capture_model.specs.Pairs.{at_line, flag_of, is_heard, heard_between,
 use Rattle.capture_model.proofs.Lines.{numbered-below, numbered-rest}
 use Rattle.capture_model.proofs.Steps.{report-in}
 use Rattle.capture_model.proofs.Tags.{all-in}
-use Rattle.capture_model.proofs.Known.{known-arrival, IsKnown}
-use Rattle.capture_model.proofs.HeldPairs.{is_follow_up, Grows, Same, grows-arrival, IsPair, IsOfPair, Knows, knows-later}
+use Rattle.capture_model.proofs.Known.{known-arrival}
+use Rattle.capture_model.proofs.HeldPairs.{is_follow_up, Same, grows-arrival, IsPair, IsOfPair, Knows, knows-later}
 use Rattle.capture_model.proofs.HeldPairs.{knows-master, knows-tick, knows-event, knows-general, knows-asked, IsNear}
 use Rattle.capture_model.proofs.HeldPairs.{brings-sync, brings-follow_up, brings-response}
 
 -- a Sync is heard whose number no Sync is known by, and where a Follow_Up is known by it, this came near
-newer-sync : (time : ℕ) (sync follow_up : Option ℕ) → sync_judgement time sync follow_up ≡ Newer
-    → (sync ≡ None) × ((other : ℕ) → follow_up ≡ Some other → is_apart time other ≡ false)
-newer-sync time None None is = (refl, λ other same. cc)
-newer-sync time None (Some follow_up) is = (refl, λ other same. by (is_apart time follow_up) refl is other same)
+newer-sync : (a : Arrival) (sync follow_up : Option ℕ) (n : Option (Entry ℕ)) → sync_judgement a sync follow_up n ≡ Newer
+    → (sync ≡ None) × ((other : ℕ) → follow_up ≡ Some other → is_apart a.time other ≡ false)
+newer-sync a None None n is = (refl, λ other same. cc)
+newer-sync a None (Some follow_up) n is = (refl, λ other same. by (is_apart a.time follow_up) refl is other same)
   where
-    by : (apart : Bool) → is_apart time follow_up ≡ apart → (if apart then BeganAnew else Newer) ≡ Newer
-        → (other : ℕ) → Some follow_up ≡ Some other → is_apart time other ≡ false
+    by : (apart : Bool) → is_apart a.time follow_up ≡ apart → (if apart then BeganAnew else by_newest a n) ≡ Newer
+        → (other : ℕ) → Some follow_up ≡ Some other → is_apart a.time other ≡ false
     by true e is other same = cc
     by false e is other same =
-        let one : follow_up ≡ other = cc in subst (λ (t : ℕ). is_apart time t ≡ false) one e
-newer-sync time (Some sync) follow_up is = by (is_apart time sync) is
+        let one : follow_up ≡ other = cc in subst (λ (t : ℕ). is_apart a.time t ≡ false) one e
+newer-sync a (Some sync) follow_up n is = by (is_apart a.time sync) is
   where
     by : {A : Type 0} (apart : Bool) → (if apart then BeganAnew else Repeated) ≡ Newer → A
     by true is = cc
     by false is = cc
 
 -- a Follow_Up is heard whose number no Follow_Up is known by, and where a Sync is known by it, this came near
-newer-follow_up : (time : ℕ) (sync follow_up : Option ℕ) → is_repeat time sync follow_up ≡ false
-    → (follow_up ≡ None) × ((other : ℕ) → sync ≡ Some other → is_apart time other ≡ false)
-newer-follow_up time None None is = (refl, λ other same. cc)
-newer-follow_up time (Some sync) None is =
-    (refl, λ other same. let one : sync ≡ other = cc in subst (λ (t : ℕ). is_apart time t ≡ false) one is)
-newer-follow_up time sync (Some follow_up) is = cc
+newer-follow_up : (a : Arrival) (sync follow_up : Option ℕ) (n : Option (Entry ℕ)) → is_repeat a sync follow_up n ≡ false
+    → (follow_up ≡ None) × ((other : ℕ) → sync ≡ Some other → is_apart a.time other ≡ false)
+newer-follow_up a None None n is = (refl, λ other same. cc)
+newer-follow_up a (Some sync) None n is = (
+  refl,
+  λ other same. let one : sync ≡ other = cc in
+      subst (λ (t : ℕ). is_apart a.time t ≡ false) one
+      (or_parts (is_apart a.time sync) (option_map_or (λ n. is_far a.number.0 n.number) n false) is).0,
+)
+newer-follow_up a sync (Some follow_up) n is = cc
 
 judged-newer : (repeated : Bool) → (if repeated then Repeated else Newer) ≡ Newer → repeated ≡ false
 judged-newer true is = cc
@@ -161,62 +166,31 @@ module _ (w : Watched) where
         -- of the master, newer, and heard
         module _ (of_master : is_of w w.master m.header ≡ true) (heard : is_heard w ds d ≡ true)
             (newer : judged_sync came table_capacity (after_all w ds).heard ≡ Newer) where
-          newer_ready : (more : List Told) → ((flag : Bool) → syncs flag more ≡ syncs flag (Sync came ∷ (after_all w ds).heard))
-              → ((flag : Bool) → follow_ups flag more ≡ follow_ups flag (after_all w ds).heard)
-              → IsReady syncs follow_ups (record (after_all w ds) { heard = more })
-          newer_ready more syncs_are follow_ups_are =
+          newer_ready : IsReady syncs follow_ups (record (after_all w ds) { heard = Sync came ∷ (after_all w ds).heard })
+          newer_ready =
               let l : Listening = after_all w ds in
               let number : ℕ = m.header.sequence.0 in
               let flag : Bool = is_unicast m.header in
-              let facts = newer-sync d.time (known table_capacity number (syncs flag l.heard))
-              (known table_capacity number (follow_ups flag l.heard)) newer in
+              let facts = newer-sync came (known table_capacity number (syncs flag l.heard))
+              (known table_capacity number (follow_ups flag l.heard)) (newest (syncs flag l.heard)) newer in
               record {
-                stands = knows-later w ds d below l.heard more (setup_in w l) l.calls
-                    (λ (flag : Bool). subst (λ (es : List (Entry ℕ)). Grows w is_sync ds d flag (syncs flag l.heard) es)
-                    (sym (syncs_are flag))
+                stands = knows-later w ds d below l.heard (Sync came ∷ l.heard) (setup_in w l) l.calls
                     (grows-arrival w is_sync ds d m came (λ (flag : Bool). syncs flag l.heard) said kind_is refl of_master
-                    heard facts.0 flag))
-                    (λ (flag : Bool). Same (follow_ups_are flag)) knows;
+                    heard facts.0)
+                    (λ (flag : Bool). Same refl) knows;
                 near = record {
-                  known_now = λ is. subst (λ (es : List (Entry ℕ)). IsKnown 0 number d.time es) (sym (syncs_are flag))
-                      (known-arrival came (syncs flag l.heard));
-                  near = λ is time same. facts.1 time
-                      (ap (known table_capacity number) (sym (follow_ups_are flag)) ∙ same);
+                  known_now = λ is. known-arrival came (syncs flag l.heard);
+                  near = λ is time same. facts.1 time same;
                 };
               }
 
-          refused_ready : (j : Judgement)
-              → IsReady syncs follow_ups (ready_refused j w d.line (calls.Event (Ok m) d.time d.line) came
-              (record (after_all w ds) { heard = Sync came ∷ (after_all w ds).heard }))
-          refused_ready Newer = newer_ready (Refused came.number ∷ Sync came ∷ (after_all w ds).heard) (λ flag. refl)
-              (λ flag. refl)
-          refused_ready Repeated = newer_ready (Sync came ∷ (after_all w ds).heard) (λ flag. refl) (λ flag. refl)
-          refused_ready BeganAnew = master_ready (told (calls.Event (Ok m) d.time d.line)
-              (record (after_all w ds) { heard = Sync came ∷ (after_all w ds).heard }))
-
-          stale_ready : IsReady syncs follow_ups (ready_newer w d.line (calls.Event (Ok m) d.time d.line) came
-              (record (after_all w ds) { heard = Sync came ∷ (after_all w ds).heard }))
-          stale_ready =
-              by (is_stale (answer_in w (record (after_all w ds) { heard = Sync came ∷ (after_all w ds).heard })
-              (calls.Event (Ok m) d.time d.line)))
-              (judged_refused came table_capacity (Sync came ∷ (after_all w ds).heard))
-            where
-              by : (stale : Bool) (j : Judgement) → IsReady syncs follow_ups
-                  (if stale
-                  then ready_refused j w d.line (calls.Event (Ok m) d.time d.line) came
-                  (record (after_all w ds) { heard = Sync came ∷ (after_all w ds).heard })
-                  else record (after_all w ds) { heard = Sync came ∷ (after_all w ds).heard })
-              by true j = refused_ready j
-              by false j = newer_ready (Sync came ∷ (after_all w ds).heard) (λ flag. refl) (λ flag. refl)
-
         judged_ready : is_of w w.master m.header ≡ true → is_heard w ds d ≡ true → (j : Judgement)
             → judged_sync came table_capacity (after_all w ds).heard ≡ j → (r : Listening)
-            → ready_judged j w d.line (calls.Event (Ok m) d.time d.line) came (after_all w ds) ≡ Some r
+            → ready_judged j w d.line came (after_all w ds) ≡ Some r
             → IsReady syncs follow_ups r
         judged_ready of_master heard Newer judged r same =
-            let one : ready_newer w d.line (calls.Event (Ok m) d.time d.line) came
-            (record (after_all w ds) { heard = Sync came ∷ (after_all w ds).heard }) ≡ r = cc in
-            subst (IsReady syncs follow_ups) one (stale_ready of_master heard judged)
+            let one : record (after_all w ds) { heard = Sync came ∷ (after_all w ds).heard } ≡ r = cc in
+            subst (IsReady syncs follow_ups) one (newer_ready of_master heard judged)
         judged_ready of_master heard Repeated judged r same = cc
         judged_ready of_master heard BeganAnew judged r same =
             let one : with_master_anew w d.line came (after_all w ds) ≡ r = cc in
@@ -229,7 +203,7 @@ module _ (w : Watched) where
             by : (of_master : Bool) → is_of w w.master m.header ≡ of_master
                 → (if of_master
                 then ready_judged (judged_sync came table_capacity (after_all w ds).heard) w d.line
-                (calls.Event (Ok m) d.time d.line) came (after_all w ds)
+                came (after_all w ds)
                 else Some (after_all w ds)) ≡ Some r
                 → IsReady syncs follow_ups r
             by true is same =
@@ -260,8 +234,8 @@ module _ (w : Watched) where
             let l : Listening = after_all w ds in
             let number : ℕ = m.header.sequence.0 in
             let flag : Bool = is_unicast m.header in
-            let facts = newer-follow_up d.time (known table_capacity number (syncs flag l.heard))
-            (known table_capacity number (follow_ups flag l.heard))
+            let facts = newer-follow_up came (known table_capacity number (syncs flag l.heard))
+            (known table_capacity number (follow_ups flag l.heard)) (newest (syncs flag l.heard))
             (judged-newer (is_repeated came table_capacity l.heard) judged) in
             let one : record l { heard = FollowUp came ∷ l.heard } ≡ r = cc in
             subst (IsReady follow_ups syncs) one (record {

@@ -314,17 +314,9 @@ module _ (w : Watched) where
       );
       as_is = λ m said none l is. is;
       sync = λ m origin said body of_master l is. (known.sync m origin said body of_master l is.0, is.1);
-      refused = λ number l is. (known.refused number l is.0, is.1);
       master = λ m origin said body of_master l is. (
         known.master m origin said body of_master l is.0,
         record { within = nothing-within l.first l.calls l.syncs; low = is.1.low },
-      );
-      renewed = λ m origin said body of_master l is. (
-        known.renewed m origin said body of_master l is.0,
-        record {
-          within = nothing-within l.first (calls.Event (Ok m) x.time x.line ∷ l.calls) l.syncs;
-          low = is.1.low;
-        },
       );
       follow = λ m precise said body of_master l is. (known.follow m precise said body of_master l is.0, is.1);
       response = λ m receive requesting said body of_master to_slave l is. (

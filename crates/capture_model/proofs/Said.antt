@@ -327,10 +327,7 @@ module _ (w : Watched) where
       unheard = λ gone none l is. is;
       as_is = λ m said none l is. is;
       sync = λ m origin said body of_master l is. is;
-      refused = λ number l is. is;
       master = λ m origin said body of_master l is. told-is_of l.first l.calls;
-      renewed = λ m origin said body of_master l is.
-          told-is_of l.first (calls.Event (Ok m) x.time x.line ∷ l.calls);
       follow = λ m precise said body of_master l is. is;
       response = λ m receive requesting said body of_master to_slave l is. is;
       other = λ m origin said body other l is_ready is. event-is_of m said l is;
@@ -413,9 +410,7 @@ module _ (w : Watched) where
       as_is = λ m said none l is. is;
       unheard = λ gone none l is. last-later none (next_number (setup_in w l) l.calls) l.asked is;
       sync = λ m origin said body of_master l is. is;
-      refused = λ number l is. is;
       master = λ m origin said body of_master l is. is;
-      renewed = λ m origin said body of_master l is. is;
       follow = λ m precise said body of_master l is. is;
       response = λ m receive requesting said body of_master to_slave l is. is;
       other = λ m origin said body other l is_ready is.

@@ -1,7 +1,7 @@
 -- A listening port over a datagram: what holds of it goes on holding, and is as after a tick where the datagram brings
 -- one.
 use Rattle.std.proofs.Common.{◌≡◌, ◌∙◌, ℕ, zero, suc, ◌+◌, ◌-◌, ◌<◌, ◌≤◌, Bool, true, false, List, [], ◌∷◌, Some, refl}
-use Rattle.std.proofs.Common.{None, Ok, is_some}
+use Rattle.std.proofs.Common.{None, is_some}
 use Rattle.std.proofs.Common.{sym, ap}
 use Rattle.std.proofs.Common.{subst, arith, nat_lt, if◌then◌else◌}
 use Rattle.std.specs.Prelude.{◌==◌, ◌&&◌, ◌||◌, not, count_by}
@@ -15,8 +15,9 @@ use Rattle.event_codec.specs.Reading.{Reading}
 use Rattle.pairing.specs.Marked.{Entry, entry}
 use Rattle.sync_watch.specs.declared.judgement.Judgement.{Judgement}
 use Rattle.sync_watch.specs.declared.judgement.Judgement.TheVariants.{Newer, Repeated, BeganAnew}
-use Rattle.sync_watch.specs.Told.{Arrival, Told, Sync, FollowUp, Refused, known}
-use Rattle.sync_watch.specs.Judged.{judged_sync, judged_follow_up, judged_refused}
+use Rattle.sync_watch.specs.declared.arrival.Arrival.{Arrival}
+use Rattle.sync_watch.specs.Told.{Told, Sync, FollowUp, known}
+use Rattle.sync_watch.specs.Judged.{judged_sync, judged_follow_up}
 use Rattle.slave_port.specs.History as calls
 use Rattle.slave_port.specs.History.{Call, Setup, requests_drawn, next_number}
 use Rattle.slave_port.specs.Requests.{requests}
@@ -27,8 +28,8 @@ use Rattle.network_model.specs.Clock.{reading}
 use Rattle.capture_model.specs.declared.watched.Watched.{Watched}
 use Rattle.capture_model.specs.Agreement.{Moved}
 use Rattle.capture_model.specs.Listening.{Listening, setup_in, is_of, told, draws, asks, anew, hears_request}
-use Rattle.capture_model.specs.Listening.{is_stale, answer_in, with_count, ticks_every, table_capacity, arrival_of}
-use Rattle.capture_model.specs.Listening.{with_master_anew, ready_refused, ready_newer, ready_judged, ready_sync}
+use Rattle.capture_model.specs.Listening.{with_count, ticks_every, table_capacity, arrival_of}
+use Rattle.capture_model.specs.Listening.{with_master_anew, ready_judged, ready_sync}
 use Rattle.capture_model.specs.Listening.{ready_followed, ready_follow_up, ready_response, hears_ready}
 use Rattle.capture_model.specs.Premises.{is_tick, ticks_in}
 use Rattle.capture_model.specs.Exact.{Watches}
@@ -248,35 +249,13 @@ module _ (network : Network) (slave master : NodeName) (moved : Moved) (w : Watc
       asked = asked;
     }
 
-    refused-ready : (j : Judgement) (line t2 tag : ℕ) (said : Reading) (a : Arrival) (heard : List Told)
-        → IsReady syncs sent slack l
-        (ready_refused j w line (calls.Event said t2 tag) a (record l { heard = heard }))
-    refused-ready Newer line t2 tag said a heard = as_it_is (Refused a.number ∷ heard) l.responses
-    refused-ready Repeated line t2 tag said a heard = as_it_is heard l.responses
-    refused-ready BeganAnew line t2 tag said a heard =
-        master_anew line a (told (calls.Event said t2 tag) (record l { heard = heard }))
-        (omega (arith, count-other (calls.Event said t2 tag) l.calls refl)) refl refl
-
-    newer-ready : (line t2 tag : ℕ) (said : Reading) (a : Arrival) (heard : List Told)
-        → IsReady syncs sent slack l
-        (ready_newer w line (calls.Event said t2 tag) a (record l { heard = heard }))
-    newer-ready line t2 tag said a heard =
-        by (is_stale (answer_in w (record l { heard = heard }) (calls.Event said t2 tag)))
-        (judged_refused a table_capacity heard)
-      where
-        by : (stale : Bool) (j : Judgement) → IsReady syncs sent slack l
-            (if stale then ready_refused j w line (calls.Event said t2 tag) a (record l { heard = heard })
-            else record l { heard = heard })
-        by true j = refused-ready j line t2 tag said a heard
-        by false j = as_it_is heard l.responses
-
-    judged-ready : (j : Judgement) (line t2 tag : ℕ) (said : Reading) (a : Arrival) (ready : Listening)
-        → ready_judged j w line (calls.Event said t2 tag) a l ≡ Some ready → IsReady syncs sent slack l ready
-    judged-ready Newer line t2 tag said a ready is =
-        let same : ready_newer w line (calls.Event said t2 tag) a (record l { heard = Sync a ∷ l.heard }) ≡ ready = cc in
-        subst (IsReady syncs sent slack l) same (newer-ready line t2 tag said a (Sync a ∷ l.heard))
-    judged-ready Repeated line t2 tag said a ready is = cc
-    judged-ready BeganAnew line t2 tag said a ready is =
+    judged-ready : (j : Judgement) (line : ℕ) (a : Arrival) (ready : Listening)
+        → ready_judged j w line a l ≡ Some ready → IsReady syncs sent slack l ready
+    judged-ready Newer line a ready is =
+        let same : record l { heard = Sync a ∷ l.heard } ≡ ready = cc in
+        subst (IsReady syncs sent slack l) same (as_it_is (Sync a ∷ l.heard) l.responses)
+    judged-ready Repeated line a ready is = cc
+    judged-ready BeganAnew line a ready is =
         let same : with_master_anew w line a l ≡ ready = cc in
         subst (IsReady syncs sent slack l) same (master_anew line a l (omega arith) refl refl)
 
@@ -288,10 +267,10 @@ module _ (network : Network) (slave master : NodeName) (moved : Moved) (w : Watc
         by : (of_master : Bool)
             → (if of_master
             then ready_judged (judged_sync (arrival_of m.header time) table_capacity l.heard) w line
-            (calls.Event (Ok m) time line) (arrival_of m.header time) l
+            (arrival_of m.header time) l
             else Some l) ≡ Some ready
             → IsReady syncs sent slack l ready
-        by true is = judged-ready (judged_sync (arrival_of m.header time) table_capacity l.heard) line time line (Ok m)
+        by true is = judged-ready (judged_sync (arrival_of m.header time) table_capacity l.heard) line
             (arrival_of m.header time) ready is
         by false is =
             let same : l ≡ ready = cc in subst (IsReady syncs sent slack l) same (as_it_is l.heard l.responses)

@@ -3,7 +3,8 @@
 use Rattle.std.proofs.Common.{◌≡◌, ◌∙◌, ℕ, ◌+◌, ◌<◌, ◌≤◌, Bool, true, false, List, [], ◌∷◌, ◌++◌, Option, Some}
 use Rattle.std.proofs.Common.{None, Ok, Err, refl, sym, ap, arith, is_some, is_none, if◌then◌else◌, option_map}
 use Rattle.std.proofs.Common.{option_and_then, int_lt}
-use Rattle.std.specs.Prelude.{◌==◌, ◌&&◌, not}
+use Rattle.std.specs.Prelude.{◌==◌, ◌&&◌, ◌||◌, not, ◌⊎◌}
+use Rattle.std.proofs.Common.{inl, inr}
 use Rattle.std.specs.Option.{option_map_or, option_or}
 use Rattle.std.specs.Result.{result_ok}
 use Rattle.std.specs.List.{All}
@@ -19,13 +20,14 @@ use Rattle.event_codec.specs.declared.port.PortIdentity.{PortIdentity}
 use Rattle.event_codec.specs.Packet.{Contents}
 use Rattle.event_codec.specs.Port.{is_same_port}
 use Rattle.event_codec.specs.Reading.{Reading}
-use Rattle.pairing.specs.Marked.{entry}
+use Rattle.pairing.specs.Marked.{Entry, entry}
+use Rattle.sync_watch.specs.declared.arrival.Arrival.{Arrival}
 use Rattle.sync_watch.specs.declared.judgement.Judgement.{Judgement}
 use Rattle.sync_watch.specs.declared.judgement.Judgement.TheVariants.{Newer, Repeated, BeganAnew}
 use Rattle.sync_watch.specs.Told.{Sync, FollowUp, known, syncs, follow_ups}
-use Rattle.sync_watch.specs.Judged.{is_apart, sync_judgement, is_repeat, judged_sync, judged_follow_up, judged_refused}
+use Rattle.sync_watch.specs.Life.{is_apart, is_far, is_of_life, newest}
+use Rattle.sync_watch.specs.Judged.{by_newest, sync_judgement, is_repeat, judged_sync, judged_follow_up}
 use Rattle.sync_watch.specs.Judged.{is_repeated}
-use Rattle.slave_port.specs.declared.heard.Heard.TheVariants as answers
 use Rattle.slave_port.specs.declared.reason.Reason.{Reason}
 use Rattle.slave_port.specs.declared.reason.Reason.TheVariants as reasons
 use Rattle.slave_port.specs.History as calls
@@ -33,20 +35,18 @@ use Rattle.slave_port.specs.History.{Call, Setup}
 use Rattle.slave_port.specs.Usable.{Criteria, Test, first_reason, is_two_step, is_other, is_too_big, is_not_newer}
 use Rattle.slave_port.specs.Usable.{common_tests, sync_reason, response_reason}
 use Rattle.slave_port.specs.Window.{all, last}
-use Rattle.slave_port.specs.Completion.{SyncCompletion, DelayCompletion, alone as completed_alone}
+use Rattle.slave_port.specs.Completion.{SyncCompletion, alone as completed_alone}
 use Rattle.slave_port.specs.Kept.{kept, criteria, unusable}
 use Rattle.slave_port.specs.Kept.{usable_two_step_sync, usable_follow_up, usable_delay_resp, sync_completion}
-use Rattle.slave_port.specs.Kept.{delay_completion, last_sync_completion, last_delay_completion}
-use Rattle.slave_port.specs.Answer.{answer, used, unanswerable, unless_ignored, completed}
+use Rattle.slave_port.specs.Answer.{answer, used, unanswerable, unless_ignored}
 use Rattle.network_model.specs.Premises.{is_of_use}
-use Rattle.slave_port.proofs.Uses.{two_step_entry, sync_completion_of}
 use Rattle.network_model.proofs.Reports.{first_of}
 use Rattle.capture_model.specs.declared.watched.Watched.{Watched}
 use Rattle.capture_model.specs.Recorded.{Recorded}
 use Rattle.capture_model.specs.Listening.{Listening, setup_with, setup_in, table_capacity, ticks_every, is_of}
 use Rattle.capture_model.specs.Listening.{is_unicast}
-use Rattle.capture_model.specs.Listening.{is_stale, with_count, told, answer_in, arrival_of, ready_judged}
-use Rattle.capture_model.specs.Listening.{ready_refused, ready_sync, ready_followed, ready_follow_up, ready_response}
+use Rattle.capture_model.specs.Listening.{with_count, told, answer_in, arrival_of, with_master_anew, ready_judged}
+use Rattle.capture_model.specs.Listening.{ready_sync, ready_followed, ready_follow_up, ready_response}
 use Rattle.capture_model.specs.Listening.{ready, hears_ready, hears, hear, after_all, answered}
 use Rattle.capture_model.specs.Told.{AreNumbered}
 use Rattle.capture_model.specs.Listening.{is_used}
@@ -81,19 +81,35 @@ first-below x first between before numbered =
     (all-right (λ (e : Recorded). e.line < x.line) between (first ∷ before)
     (numbered-below x (between ++ first ∷ before) numbered))
 
--- what a port knows is none, or near
-newer-sync : (time : ℕ) (sync follow : Option ℕ) → sync ≡ None
-    → ((other : ℕ) → follow ≡ Some other → is_apart time other ≡ false) → sync_judgement time sync follow ≡ Newer
-newer-sync time None None none near = refl
-newer-sync time None (Some other) none near =
-    ap (λ (apart : Bool). if apart then BeganAnew else Newer) (near other refl)
-newer-sync time (Some other) follow none near = cc
+newest-heard : (a : Arrival) (n : Option (Entry ℕ)) → (by_newest a n ≡ Newer) ⊎ (by_newest a n ≡ BeganAnew)
+newest-heard a None = inl refl
+newest-heard a (Some n) = by (is_of_life a n)
+  where
+    by : (same : Bool) → ((if same then Newer else BeganAnew) ≡ Newer) ⊎ ((if same then Newer else BeganAnew) ≡ BeganAnew)
+    by true = inl refl
+    by false = inr refl
 
-newer-follow_up : (time : ℕ) (sync follow : Option ℕ) → follow ≡ None
-    → ((other : ℕ) → sync ≡ Some other → is_apart time other ≡ false) → is_repeat time sync follow ≡ false
-newer-follow_up time None None none near = refl
-newer-follow_up time (Some other) None none near = near other refl
-newer-follow_up time sync (Some other) none near = cc
+-- a Sync of whose number no Sync is known is heard, in this life or in another
+sync-heard : (a : Arrival) (sync follow : Option ℕ) (n : Option (Entry ℕ)) → sync ≡ None
+    → (sync_judgement a sync follow n ≡ Newer) ⊎ (sync_judgement a sync follow n ≡ BeganAnew)
+sync-heard a None None n none = newest-heard a n
+sync-heard a None (Some follow) n none = by (is_apart a.time follow)
+  where
+    by : (apart : Bool)
+        → ((if apart then BeganAnew else by_newest a n) ≡ Newer)
+        ⊎ ((if apart then BeganAnew else by_newest a n) ≡ BeganAnew)
+    by true = inr refl
+    by false = newest-heard a n
+sync-heard a (Some sync) follow n none = cc
+
+-- a Follow_Up is heard of whose number no Follow_Up is known, nor a Sync that is apart, and which isn't far from the newest
+newer-follow_up : (a : Arrival) (sync follow : Option ℕ) (n : Option (Entry ℕ)) → follow ≡ None
+    → ((other : ℕ) → sync ≡ Some other → is_apart a.time other ≡ false)
+    → option_map_or (λ n. is_far a.number.0 n.number) n false ≡ false → is_repeat a sync follow n ≡ false
+newer-follow_up a None None n none near fits = fits
+newer-follow_up a (Some other) None n none near fits =
+    ap (λ (apart : Bool). apart || option_map_or (λ n. is_far a.number.0 n.number) n false) (near other refl) ∙ fits
+newer-follow_up a sync (Some other) n none near fits = cc
 
 -- the first test that applies is none of those that don't
 pub passed : (t : Test) (tests : List Test) → t.applies ≡ false → first_reason (t ∷ tests) ≡ first_reason tests
@@ -170,6 +186,16 @@ module _ (w : Watched) where
           applies = is_not_newer (criteria (setup_with w first) history).last m.header.sequence.0;
           reason = reasons.NotNewer;
         }) refl said.follows_master of_master small (not-behind newest)
+
+    -- nor any after a beginning
+    no-reason_anew : sync_reason (criteria (setup_with w first) (calls.SetMaster w.master ∷ history)) m.header ≡ None
+    no-reason_anew =
+        passes-common (criteria (setup_with w first) (calls.SetMaster w.master ∷ history)) m.header
+        (record {
+          applies = is_not_newer (criteria (setup_with w first) (calls.SetMaster w.master ∷ history)).last
+              m.header.sequence.0;
+          reason = reasons.NotNewer;
+        }) refl refl of_master small refl
 
     no-response_reason : (requesting : PortIdentity) → is_same_port requesting w.slave ≡ true
         → response_reason (criteria (setup_with w first) history) m.header requesting ≡ None
@@ -252,43 +278,18 @@ module _ (w : Watched) where
       by None is = refl
       by (Some reason) is = cc
 
-  -- what is used isn't refused
-  pub used-not_stale : (setup : Setup) (history : List Call) (call : Call) → is_stale (used setup history call) ≡ false
-  used-not_stale setup history call =
-      by (is_none (sync_completion setup history call) && is_none (delay_completion setup history call))
-      (last_sync_completion setup (call ∷ history)) (last_delay_completion setup (call ∷ history))
-    where
-      by : (held : Bool) (sync : Option SyncCompletion) (delay : Option DelayCompletion)
-          → is_stale (if held then answers.Held else completed sync delay) ≡ false
-      by true sync delay = refl
-      by false None delay = refl
-      by false (Some s) None = refl
-      by false (Some s) (Some d) = refl
-
   -- the datagram and the port before it
   module _ (x : Recorded) (m : Contents) (said : x.said ≡ Ok m) (l : Listening)
       (of_master : is_of w w.master m.header ≡ true) where
-    -- a Sync that is newer, and that the port uses
-    sync-is_ready : answer (setup_in w l) l.calls (calls.Event (Ok m) x.time x.line)
-        ≡ used (setup_in w l) l.calls (calls.Event (Ok m) x.time x.line)
-        → judged_sync (arrival_of m.header x.time) table_capacity l.heard ≡ Newer
-        → ready_sync w x.line x.time m l
-        ≡ Some (record l { heard = Sync (arrival_of m.header x.time) ∷ l.heard })
-    sync-is_ready is_used judged =
-        let call : Call = calls.Event (Ok m) x.time x.line in
-        let r : Listening = record l { heard = Sync (arrival_of m.header x.time) ∷ l.heard } in
-        let fresh : is_stale (answer_in w r call) ≡ false =
-        ap is_stale is_used
-        ∙ used-not_stale (setup_in w l) l.calls call in
+    -- a Sync, by what its number says
+    sync-is_ready : (j : Judgement) → judged_sync (arrival_of m.header x.time) table_capacity l.heard ≡ j
+        → ready_sync w x.line x.time m l ≡ ready_judged j w x.line (arrival_of m.header x.time) l
+    sync-is_ready j judged =
         ap (λ (b : Bool). if b
-        then ready_judged (judged_sync (arrival_of m.header x.time) table_capacity l.heard) w x.line call
+        then ready_judged (judged_sync (arrival_of m.header x.time) table_capacity l.heard) w x.line
         (arrival_of m.header x.time) l
         else Some l) of_master
-        ∙ ap (λ (j : Judgement). ready_judged j w x.line call (arrival_of m.header x.time) l) judged
-        ∙ ap (λ (b : Bool). Some (if b
-        then ready_refused (judged_refused (arrival_of m.header x.time) table_capacity r.heard) w x.line call
-        (arrival_of m.header x.time) r
-        else r)) fresh
+        ∙ ap (λ (j : Judgement). ready_judged j w x.line (arrival_of m.header x.time) l) judged
 
     follow-is_ready : is_repeated (arrival_of m.header x.time) table_capacity l.heard ≡ false
         → ready_follow_up w x.time m l ≡ Some (record l { heard = FollowUp (arrival_of m.header x.time) ∷ l.heard })
@@ -389,75 +390,68 @@ module _ (w : Watched) (ds : List Recorded) (x : Recorded) (m : Contents) (said 
     is_latest : AreLatest w ds (after_all w ds).heard (after_all w ds).responses
     is_latest = after-known w ds
 
-    -- no Sync of its number is known, and no Follow_Up that is apart
-    sync-is_newer : NoneSays (with_number (is_master_sync w) m.header.sequence.0)
+    -- the port that hears a Sync of whose number none is known, and that no reason is against
+    record HearsSync : Type 0 where
+      port : Listening
+      ready_is : ready_sync w x.line x.time m (after_all w ds) ≡ Some port
+      no_reason : sync_reason (criteria (setup_with w port.first) port.calls) m.header ≡ None
+
+    hears-new : IsNotBehind w m.header.sequence.0 (within_syncs w ds 12288)
+        → NoneSays (with_number (is_master_sync w) m.header.sequence.0)
         (last_heard w (with_flag (is_master_sync w) (is_unicast m.header)) ds)
-        → All (IsNearBy (is_master_follow_up w) m.header.sequence.0 x.time)
-        (last_heard w (with_flag (is_master_follow_up w) (is_unicast m.header)) ds)
-        → judged_sync (arrival_of m.header x.time) table_capacity (after_all w ds).heard ≡ Newer
-    sync-is_newer alone near =
-        newer-sync x.time (known table_capacity m.header.sequence.0 (syncs (is_unicast m.header) (after_all w ds).heard))
+        → HearsSync
+    hears-new newest_is alone =
+        by (sync-heard (arrival_of m.header x.time)
+        (known table_capacity m.header.sequence.0 (syncs (is_unicast m.header) (after_all w ds).heard))
         (known table_capacity m.header.sequence.0 (follow_ups (is_unicast m.header) (after_all w ds).heard))
+        (newest (syncs (is_unicast m.header) (after_all w ds).heard))
         (entry-none (is_master_sync w) m.header.sequence.0 table_capacity
         (syncs (is_unicast m.header) (after_all w ds).heard)
         (heard_of w (with_flag (is_master_sync w) (is_unicast m.header)) ds)
-        (is_latest.syncs_of (is_unicast m.header)) alone)
-        (λ other. entry-near (is_master_follow_up w) m.header.sequence.0 x.time table_capacity other
-        (follow_ups (is_unicast m.header) (after_all w ds).heard)
-        (heard_of w (with_flag (is_master_follow_up w) (is_unicast m.header)) ds)
-        (is_latest.follow_ups_of (is_unicast m.header)) near)
+        (is_latest.syncs_of (is_unicast m.header)) alone))
+      where
+        by : (judged_sync (arrival_of m.header x.time) table_capacity (after_all w ds).heard ≡ Newer)
+            ⊎ (judged_sync (arrival_of m.header x.time) table_capacity (after_all w ds).heard ≡ BeganAnew)
+            → HearsSync
+        by (inl newer) = record {
+          port = record (after_all w ds) { heard = Sync (arrival_of m.header x.time) ∷ (after_all w ds).heard };
+          ready_is = sync-is_ready w x m said (after_all w ds) of_master Newer newer;
+          no_reason = no-reason w ds (after_all w ds).first (after_all w ds).calls is_said (after_all w ds).syncs is_recent m
+              of_master small newest_is;
+        }
+        by (inr anew) = record {
+          port = with_master_anew w x.line (arrival_of m.header x.time) (after_all w ds);
+          ready_is = sync-is_ready w x m said (after_all w ds) of_master BeganAnew anew;
+          no_reason = no-reason_anew w ds (after_all w ds).first (after_all w ds).calls is_said (after_all w ds).syncs
+              is_recent m of_master small;
+        }
 
     pub takes-sync : (origin : Stamp) → m.body ≡ bodies.Sync origin → is_two_step m.header ≡ true
         → IsNotBehind w m.header.sequence.0 (within_syncs w ds 12288)
         → NoneSays (with_number (is_master_sync w) m.header.sequence.0)
         (last_heard w (with_flag (is_master_sync w) (is_unicast m.header)) ds)
-        → All (IsNearBy (is_master_follow_up w) m.header.sequence.0 x.time)
-        (last_heard w (with_flag (is_master_follow_up w) (is_unicast m.header)) ds)
         → TakesSync w ds x m
-    takes-sync origin body two_step newest alone near = record {
-      port = record (after_all w ds) { heard = Sync (arrival_of m.header x.time) ∷ (after_all w ds).heard };
-      ready_is = sync-is_ready w x m said (after_all w ds) of_master
-          ((two_step_entry (setup_in w (after_all w ds)) (after_all w ds).calls (calls.Event (Ok m) x.time x.line)
-          (entry m.header.sequence.0 (record { t2 = x.time; correction = m.header.correction.0; tag = x.line }))
-          use_is).used)
-          (sync-is_newer alone near);
-      use_is = use_is;
-    }
-      where
-        use_is : usable_two_step_sync (setup_in w (after_all w ds)) (after_all w ds).calls
-            (calls.Event (Ok m) x.time x.line)
-            ≡ Some (entry m.header.sequence.0
-            (record { t2 = x.time; correction = m.header.correction.0; tag = x.line }))
-        use_is =
-            usable_sync w (after_all w ds).first (after_all w ds).calls m origin x.time x.line body two_step
-            (no-reason w ds (after_all w ds).first (after_all w ds).calls is_said (after_all w ds).syncs is_recent m
-            of_master small newest)
+    takes-sync origin body two_step newest_is alone =
+        let heard = hears-new newest_is alone in
+        record {
+          port = heard.port;
+          ready_is = heard.ready_is;
+          use_is = usable_sync w heard.port.first heard.port.calls m origin x.time x.line body two_step heard.no_reason;
+        }
 
     pub takes-one_step : (origin : Stamp) → m.body ≡ bodies.Sync origin → is_two_step m.header ≡ false
         → IsNotBehind w m.header.sequence.0 (within_syncs w ds 12288)
         → NoneSays (with_number (is_master_sync w) m.header.sequence.0)
         (last_heard w (with_flag (is_master_sync w) (is_unicast m.header)) ds)
-        → All (IsNearBy (is_master_follow_up w) m.header.sequence.0 x.time)
-        (last_heard w (with_flag (is_master_follow_up w) (is_unicast m.header)) ds)
         → TakesOneStep w ds x m origin
-    takes-one_step origin body one_step newest alone near = record {
-      port = record (after_all w ds) { heard = Sync (arrival_of m.header x.time) ∷ (after_all w ds).heard };
-      ready_is = sync-is_ready w x m said (after_all w ds) of_master
-          ((sync_completion_of (setup_in w (after_all w ds)) (after_all w ds).calls (calls.Event (Ok m) x.time x.line)
-          (completed_alone m.header.sequence.0
-          (record { t2 = x.time; origin = origin; correction = m.header.correction.0; tag = x.line })) completes).1)
-          (sync-is_newer alone near);
-      completes = completes;
-    }
-      where
-        completes : sync_completion (setup_in w (after_all w ds)) (after_all w ds).calls
-            (calls.Event (Ok m) x.time x.line)
-            ≡ Some (completed_alone m.header.sequence.0
-            (record { t2 = x.time; origin = origin; correction = m.header.correction.0; tag = x.line }))
-        completes =
-            one_step_completes w (after_all w ds).first (after_all w ds).calls m origin x.time x.line body one_step
-            (no-reason w ds (after_all w ds).first (after_all w ds).calls is_said (after_all w ds).syncs is_recent m
-            of_master small newest)
+    takes-one_step origin body one_step newest_is alone =
+        let heard = hears-new newest_is alone in
+        record {
+          port = heard.port;
+          ready_is = heard.ready_is;
+          completes = one_step_completes w heard.port.first heard.port.calls m origin x.time x.line body one_step
+              heard.no_reason;
+        }
 
     pub takes-follow : (precise : Stamp) → m.body ≡ bodies.FollowUp precise
         → IsNotBehind w m.header.sequence.0 (within_syncs w ds 12288)
@@ -465,13 +459,16 @@ module _ (w : Watched) (ds : List Recorded) (x : Recorded) (m : Contents) (said 
         (last_heard w (with_flag (is_master_follow_up w) (is_unicast m.header)) ds)
         → All (IsNearBy (is_master_sync w) m.header.sequence.0 x.time)
         (last_heard w (with_flag (is_master_sync w) (is_unicast m.header)) ds)
+        → option_map_or (λ n. is_far m.header.sequence.0 n.number)
+        (newest (syncs (is_unicast m.header) (after_all w ds).heard)) false ≡ false
         → TakesFollow w ds x m precise
-    takes-follow precise body newest alone near = record {
+    takes-follow precise body newest_is alone near fits = record {
       port = record (after_all w ds) { heard = FollowUp (arrival_of m.header x.time) ∷ (after_all w ds).heard };
       ready_is = follow-is_ready w x m said (after_all w ds) of_master
-          (newer-follow_up x.time
+          (newer-follow_up (arrival_of m.header x.time)
           (known table_capacity m.header.sequence.0 (syncs (is_unicast m.header) (after_all w ds).heard))
           (known table_capacity m.header.sequence.0 (follow_ups (is_unicast m.header) (after_all w ds).heard))
+          (newest (syncs (is_unicast m.header) (after_all w ds).heard))
           (entry-none (is_master_follow_up w) m.header.sequence.0 table_capacity
           (follow_ups (is_unicast m.header) (after_all w ds).heard)
           (heard_of w (with_flag (is_master_follow_up w) (is_unicast m.header)) ds)
@@ -479,10 +476,10 @@ module _ (w : Watched) (ds : List Recorded) (x : Recorded) (m : Contents) (said 
           (λ other. entry-near (is_master_sync w) m.header.sequence.0 x.time table_capacity other
           (syncs (is_unicast m.header) (after_all w ds).heard)
           (heard_of w (with_flag (is_master_sync w) (is_unicast m.header)) ds)
-          (is_latest.syncs_of (is_unicast m.header)) near));
+          (is_latest.syncs_of (is_unicast m.header)) near) fits);
       use_is = usable_follow w (after_all w ds).first (after_all w ds).calls m precise x.line body
           (no-reason w ds (after_all w ds).first (after_all w ds).calls is_said (after_all w ds).syncs is_recent m
-          of_master small newest);
+          of_master small newest_is);
     }
 
     pub takes-response : (receive : Stamp) (requesting : PortIdentity) → m.body ≡ bodies.DelayResp receive requesting

@@ -1,6 +1,6 @@
 -- A worked recording: of the exchange through a clock of a slave that leads by 1,000 ns. It tells a run that meets the
 -- premises, and the port that listens to it reports once.
-use Rattle.std.proofs.Common.{true, false, ◌≡◌, ℕ, zero, suc, ◌+◌, pos, refl, arith, rules, List, [], ◌∷◌, Some, Ok, Err}
+use Rattle.std.proofs.Common.{true, false, ◌≡◌, ℕ, zero, suc, ◌+◌, ◌-◌, pos, refl, arith, rules, List, [], ◌∷◌, Some, Ok, Err}
 use Rattle.ptp_units.specs.Interval.{too_big}
 use Rattle.ptp_units.specs.Moment.{stamp}
 use Rattle.event_codec.specs.declared.message.Body.TheVariants.{DelayResp}
@@ -14,7 +14,7 @@ use Rattle.slave_port.specs.declared.heard.Report.{Report}
 use Rattle.slave_port.specs.Written.{delay_req}
 use Rattle.slave_port.specs.History as calls
 use Rattle.slave_port.specs.History.{requests_drawn}
-use Rattle.sync_watch.specs.Judged.{is_apart}
+use Rattle.sync_watch.specs.Life.{is_apart}
 use Rattle.network_model.specs.declared.event.Event.{Event}
 use Rattle.network_model.specs.declared.event.Event.TheVariants.{Sync, Follow, Enter, Leave, Arrive, Hear, Request}
 use Rattle.network_model.specs.declared.event.Event.TheVariants.{Stamped, SetMaster, StepClock}
@@ -28,7 +28,7 @@ use Rattle.capture_model.specs.Recorded.{Recorded}
 use Rattle.capture_model.specs.Listening.{after_all, reports}
 use Rattle.capture_model.specs.Agreement.{Moved, moved_at, Agrees}
 use Rattle.capture_model.specs.Told.{Tells, Nothing, Untold, Told, Other, IsToldBy, IsTimed, told_at}
-use Rattle.capture_model.specs.Premises.{IsFreshAndTicked, ticks_in}
+use Rattle.capture_model.specs.Premises.{IsFreshAndTicked}
 use Rattle.capture_model.specs.Exact.{Watches}
 use Rattle.capture_model.specs.Pairs.{heard_between}
 use Rattle.capture_model.proofs.Pairs.{no_pair}
@@ -229,17 +229,16 @@ abbrev one_step : (number sequence seconds : ℕ) → Recorded
 one_step number sequence seconds =
     line number (at seconds 0 0) (Ok (one_step_sync m_config sequence (at seconds 0 0)))
 
--- the port is told its master anew by a third Sync in a row that isn't newer, and hears it twice
-two_are_refused : ticks_in (after_all watched (one_step 3 4 4 ∷ one_step 2 3 3 ∷ one_step 1 5 2 ∷ [])) ≡ 1
-two_are_refused = refl
+-- the port is told its master anew by a Sync that is behind the newest one by a second and more
+one_behind : (after_all watched (one_step 2 4 3 ∷ one_step 1 5 2 ∷ [])).begun ≡ 2
+one_behind = refl
 
-three_begin_anew : (after_all watched (one_step 4 4 5 ∷ one_step 3 3 4 ∷ one_step 2 2 3 ∷ one_step 1 5 2 ∷ [])).begun ≡ 4
-three_begin_anew = refl
+-- and by one that is 257 ahead of it
+one_far_ahead : (after_all watched (one_step 2 262 3 ∷ one_step 1 5 2 ∷ [])).begun ≡ 2
+one_far_ahead = refl
 
--- another number between them begins another row
-not_in_a_row : ticks_in
-    (after_all watched (one_step 5 0 6 ∷ one_step 4 4 5 ∷ one_step 3 3 4 ∷ one_step 2 1 3 ∷ one_step 1 5 2 ∷ [])) ≡ 1
-not_in_a_row = refl
+one_not_so_far : (after_all watched (one_step 2 21 3 ∷ one_step 1 5 2 ∷ [])).begun ≡ 0
+one_not_so_far = refl
 
 -- a number that comes again within a second is that of a copy, and later that of a master that began anew
 a_copy : after_all watched (one_step 2 5 2 ∷ one_step 1 5 2 ∷ []) ≡ after_all watched (one_step 1 5 2 ∷ [])
@@ -296,28 +295,34 @@ pair_of_two_flags : reports watched
     ∷ sync_line ∷ []) ≡ report ∷ []
 pair_of_two_flags = refl
 
--- nor of a Sync behind which 256 more were heard: the port, which used none of them, holds it still
-abbrev unusable : (number : ℕ) → Recorded
-unusable number =
-    line (number + 1) (at 1 4000 0) (Ok (with_correction (sync m_config number) (record { 0 = too_big })))
+-- nor of a Sync behind which 256 more were heard, 255 that were overtaken and the next one: the port, which used none of
+-- them, holds it still
+abbrev unusable : (at_line number : ℕ) → Recorded
+unusable at_line number =
+    line at_line (at 1 4000 0) (Ok (with_correction (sync m_config number) (record { 0 = too_big })))
 
 abbrev up_to : (count : ℕ) → List Recorded
 up_to zero = sync_line ∷ []
-up_to (suc count) = unusable (suc count) ∷ up_to count
+up_to (suc count) = unusable (count + 2) (65535 - count) ∷ up_to count
 
 abbrev late_follow : Recorded
 late_follow = line 300 (at 7 5000 0) (Ok follow_said)
 
-abbrev completed : (count : ℕ) → List Recorded
-completed count =
-    line 302 0 (Ok response_said) ∷ line 301 (at 2 1000 0) (Ok request_said) ∷ late_follow ∷ up_to count
+abbrev completed : (overtaken : ℕ) → List Recorded
+completed overtaken =
+    line 302 0 (Ok response_said) ∷ line 301 (at 2 1000 0) (Ok request_said) ∷ late_follow ∷ unusable 290 1 ∷ up_to overtaken
 
-pair_behind_255 : reports watched (completed 255) ≡ []
+pair_behind_255 : reports watched (completed 254) ≡ []
 pair_behind_255 = refl
 
-pair_behind_256 : reports watched (completed 256)
+pair_behind_256 : reports watched (completed 255)
     ≡ record report { follow_tag = Some 300; request_tag = 301; response_tag = 302 } ∷ []
 pair_behind_256 = refl
 
-many_behind : heard_between watched sync_line late_follow (completed 256) ≡ 256
+many_behind : heard_between watched sync_line late_follow (completed 255) ≡ 256
 many_behind = refl
+
+-- a Follow_Up that is 256 behind the newest Sync isn't heard
+far_behind : reports watched (line 302 0 (Ok response_said) ∷ line 301 (at 2 1000 0) (Ok request_said)
+    ∷ line 300 (at 1 5000 0) (Ok follow_said) ∷ unusable 291 256 ∷ unusable 290 1 ∷ sync_line ∷ []) ≡ []
+far_behind = refl

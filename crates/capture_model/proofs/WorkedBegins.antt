@@ -1,6 +1,5 @@
 -- Worked recordings in which the slave or the master begins anew, and such that miss that by one.
 use Rattle.std.proofs.Common.{◌≡◌, ◌∙◌, ℕ, refl, List, [], ◌∷◌, Ok}
-use Rattle.ptp_units.specs.Interval.{too_big}
 use Rattle.ptp_units.specs.Moment.{stamp}
 use Rattle.event_codec.specs.declared.message.Body.TheVariants as bodies
 use Rattle.event_codec.specs.Packet.{Contents}
@@ -51,24 +50,31 @@ after_follow_up : (after_all watched (line 2 (at 3 0 0) (Ok (sync 5)) ∷ line 1
 after_follow_up =
     each_beginning watched (line 2 (at 3 0 0) (Ok (sync 5)) ∷ line 1 (at 2 0 0) (Ok (follow_up 5)) ∷ []) ∙ refl
 
--- after its Sync 100, which completed, three that are behind, whose numbers follow each other; and two, or three that
--- don't
-abbrev two_behind : List Recorded
-two_behind =
-    line 3 (at 4 0 0) (Ok (sync 41)) ∷ line 2 (at 3 0 0) (Ok (sync 40)) ∷ line 1 (at 2 0 0) (Ok (sync 100)) ∷ []
+-- after its Sync 100: 256 ahead in 200 s, and 257 ahead; 17 ahead in 8 s, where its Syncs say that one comes a second,
+-- and in 9 s; one that was overtaken, and one that is a second behind; and one that is a second behind, whose Follow_Up came just before it
+abbrev then : (time number : ℕ) → List Recorded
+then time number = line 2 time (Ok (sync number)) ∷ line 1 (at 2 0 0) (Ok (sync 100)) ∷ []
 
-three_in_a_row : (after_all watched (line 4 (at 5 0 0) (Ok (sync 42)) ∷ two_behind)).begun ≡ 4
-three_in_a_row = each_beginning watched (line 4 (at 5 0 0) (Ok (sync 42)) ∷ two_behind) ∙ refl
+as_far_as_it_goes : (after_all watched (then (at 202 0 0) 356)).begun ≡ 0
+as_far_as_it_goes = each_beginning watched (then (at 202 0 0) 356) ∙ refl
 
-two_in_a_row : (after_all watched two_behind).begun ≡ 0
-two_in_a_row = each_beginning watched two_behind ∙ refl
+one_farther : (after_all watched (then (at 202 0 0) 357)).begun ≡ 2
+one_farther = each_beginning watched (then (at 202 0 0) 357) ∙ refl
 
-out_of_step : (after_all watched (line 4 (at 5 0 0) (Ok (sync 43)) ∷ two_behind)).begun ≡ 0
-out_of_step = each_beginning watched (line 4 (at 5 0 0) (Ok (sync 43)) ∷ two_behind) ∙ refl
+too_soon : (after_all watched (then (at 10 0 0) 117)).begun ≡ 2
+too_soon = each_beginning watched (then (at 10 0 0) 117) ∙ refl
 
--- the third has a correction that is too big, so the port doesn't refuse it as not newer
-abbrev too_big_third : Contents
-too_big_third = record (sync 42) { header = record (sync 42).header { correction = record { 0 = too_big } } }
+late_enough : (after_all watched (then (at 11 0 0) 117)).begun ≡ 0
+late_enough = each_beginning watched (then (at 11 0 0) 117) ∙ refl
 
-too_big_isnt_refused : (after_all watched (line 4 (at 5 0 0) (Ok too_big_third) ∷ two_behind)).begun ≡ 0
-too_big_isnt_refused = each_beginning watched (line 4 (at 5 0 0) (Ok too_big_third) ∷ two_behind) ∙ refl
+overtaken : (after_all watched (then (at 2 999999999 0) 99)).begun ≡ 0
+overtaken = each_beginning watched (then (at 2 999999999 0) 99) ∙ refl
+
+a_second_behind : (after_all watched (then (at 3 0 0) 99)).begun ≡ 2
+a_second_behind = each_beginning watched (then (at 3 0 0) 99) ∙ refl
+
+follow_up_first : (after_all watched (line 3 (at 2 500000000 0) (Ok (sync 99)) ∷ line 2 (at 2 400000000 0) (Ok (follow_up 99))
+    ∷ line 1 (at 1 0 0) (Ok (sync 100)) ∷ [])).begun ≡ 3
+follow_up_first =
+    each_beginning watched (line 3 (at 2 500000000 0) (Ok (sync 99)) ∷ line 2 (at 2 400000000 0) (Ok (follow_up 99))
+    ∷ line 1 (at 1 0 0) (Ok (sync 100)) ∷ []) ∙ refl

@@ -139,7 +139,7 @@ comes_sync : ComesTwoStep watched 0 three_lines follow_line pair
 comes_sync =
     two_step_comes watched 0 sync_line follow_line (sync m_config 5) (follow_up m_config 5 (at 1 0 0)) (stamp 1 0)
     sync_line follow_line until [] (search rules) (search (rules, SyncFirst))
-    (inl (λ flag. search (rules, none_says), search (rules, none_says))) (search rules) (omega arith)
+    (inl (λ flag. search (rules, none_says), search (rules, none_says), refl, refl)) (search rules) (omega arith)
 
 abbrev answered : DelayCompletion
 answered = answer_of request_line response_line (delay_req s_config 9) (response 9) (stamp 2 4500)
@@ -201,7 +201,7 @@ sync_comes_last : ComesTwoStep watched 0 three_before sync_behind other_pair
 sync_comes_last =
     two_step_comes watched 0 sync_behind follow_before (sync m_config 5) (follow_up m_config 5 (at 1 0 0)) (stamp 1 0)
     follow_before sync_behind [] two_before (search rules) (search (rules, FollowUpFirst))
-    (inl (λ flag. search (rules, none_says), search (rules, none_says))) (search rules) (omega arith)
+    (inl (λ flag. search (rules, none_says), search (rules, none_says), refl, refl)) (search rules) (omega arith)
 
 delay_stands : StandsDelay watched 0 three_before other_answered
 delay_stands =

@@ -243,11 +243,15 @@ it_is_found_by_the_sync =
 abbrev numbered_so : (number : ℕ) → Contents → Contents
 numbered_so number m = record m { header = record m.header { sequence = record { 0 = number } } }
 
-abbrev with_sync : Contents → List Recorded
-with_sync s =
-    response_line ∷ request_line ∷ announce_line ∷ line 6 (at 1795328935 921727565 0) (Ok s) ∷ before_sync
+abbrev with_sync_at : (nanoseconds : ℕ) → Contents → List Recorded
+with_sync_at nanoseconds s =
+    response_line ∷ request_line ∷ announce_line ∷ line 6 (at 1795328935 nanoseconds 0) (Ok s) ∷ before_sync
 
--- where its number is behind, or its correction too big, the report isn't of it, but of the Sync of line 3
+abbrev with_sync : Contents → List Recorded
+with_sync = with_sync_at 921727565
+
+-- where its number is behind, or its correction too big, the report isn't of it, but of the Sync of line 3; where it is
+-- behind by a second and more the master began anew, and the report is of it
 abbrev sync_tags : List Report → List ℕ
 sync_tags [] = []
 sync_tags (report ∷ others) = report.sync_tag ∷ sync_tags others
@@ -255,8 +259,11 @@ sync_tags (report ∷ others) = report.sync_tag ∷ sync_tags others
 it_is_that_of_line_6 : sync_tags (reports watched (with_sync sync_1)) ≡ 6 ∷ []
 it_is_that_of_line_6 = refl
 
-behind_is_missed : sync_tags (reports watched (with_sync (numbered_so 65535 sync_1))) ≡ 3 ∷ []
+behind_is_missed : sync_tags (reports watched (with_sync_at 500000000 (numbered_so 65535 sync_1))) ≡ 3 ∷ []
 behind_is_missed = refl
+
+a_second_behind_is_found : sync_tags (reports watched (with_sync (numbered_so 65535 sync_1))) ≡ 6 ∷ []
+a_second_behind_is_found = refl
 
 too_big_is_missed : sync_tags (reports watched
     (with_sync (record sync_1 { header = record sync_1.header { correction = record { 0 = too_big } } }))) ≡ 3 ∷ []

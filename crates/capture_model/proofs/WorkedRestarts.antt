@@ -1,5 +1,6 @@
 -- Worked exchanges right behind a line that tells that the slave or the master began anew: each is found.
 use Rattle.std.proofs.Common.{◌≡◌, ℕ, pos, List, [], ◌∷◌, Some, refl, arith, rules, inl, inr}
+use Rattle.std.proofs.lemmas.List.Elements.{All-nil, All-cons}
 use Rattle.ptp_units.specs.Moment.{stamp}
 use Rattle.master_port.specs.Written.{sync, follow_up}
 use Rattle.slave_port.specs.Written.{delay_req}
@@ -9,6 +10,7 @@ use Rattle.capture_model.specs.Recorded.{Recorded}
 use Rattle.capture_model.specs.Listening.{report_at}
 use Rattle.capture_model.specs.Finds.{completion_of, answer_of}
 use Rattle.capture_model.specs.Finds.{ComesTwoStep, ComesDelay, SyncFirst}
+use Rattle.capture_model.specs.Apart.{IsToldApart}
 use Rattle.capture_model.proofs.Finds.{each_exchange}
 use Rattle.capture_model.proofs.WorkedFinds.{watched, line, response, none_says, two_step_comes, answer_comes, stands}
 
@@ -39,7 +41,7 @@ slave_sync : ComesTwoStep watched 2 (sync_at 3 2 5 ∷ request_at 2 2 1000 ∷ r
 slave_sync =
     two_step_comes watched 2 (sync_at 3 2 5) (follow_at 4 2 5) (sync m_config 5) (follow_up m_config 5 (at 2 0 0)) (stamp 2 0)
     (sync_at 3 2 5) (follow_at 4 2 5) [] (request_at 2 2 1000 ∷ request_at 1 1 9 ∷ []) (search rules) (search (rules, SyncFirst))
-    (inl (λ flag. search (rules, none_says), search (rules, none_says))) tt (omega arith)
+    (inl (λ flag. search (rules, none_says), search (rules, none_says), refl, refl)) tt (omega arith)
 
 slave_delay : ComesDelay watched 2 slave_lines (response_at 5 1000) slave_answered
 slave_delay =
@@ -105,45 +107,53 @@ again_is_found =
       again_delay,
     ))
 
--- the master: after its Sync 100 three that are behind, whose numbers follow each other, the third in line 5
+-- the master: after its Sync 100 one that is behind by a second, in line 3
 abbrev lower_lines : List Recorded
-lower_lines = request_at 7 2 9 ∷ follow_at 6 4 42 ∷ sync_at 5 4 42 ∷ sync_at 4 3 41 ∷ sync_at 3 2 40 ∷ follow_at 2 1 100 ∷ sync_at 1 1 100 ∷ []
+lower_lines = request_at 5 2 9 ∷ follow_at 4 2 40 ∷ sync_at 3 2 40 ∷ follow_at 2 1 100 ∷ sync_at 1 1 100 ∷ []
 
 abbrev lower_pair : SyncCompletion
-lower_pair = completion_of (sync_at 5 4 42) (follow_at 6 4 42) (sync m_config 42) (follow_up m_config 42 (at 4 0 0)) (stamp 4 0)
+lower_pair = completion_of (sync_at 3 2 40) (follow_at 4 2 40) (sync m_config 40) (follow_up m_config 40 (at 2 0 0)) (stamp 2 0)
 
 abbrev lower_answered : DelayCompletion
-lower_answered = answer_of (request_at 7 2 9) (response_at 8 9) (delay_req s_config 9) (response 9) (stamp 2 4500)
+lower_answered = answer_of (request_at 5 2 9) (response_at 6 9) (delay_req s_config 9) (response 9) (stamp 2 4500)
 
-lower_sync : ComesTwoStep watched 5 (sync_at 5 4 42 ∷ sync_at 4 3 41 ∷ sync_at 3 2 40 ∷ follow_at 2 1 100 ∷ sync_at 1 1 100 ∷ []) (follow_at 6 4 42) lower_pair
+lower_sync : ComesTwoStep watched 3 (sync_at 3 2 40 ∷ follow_at 2 1 100 ∷ sync_at 1 1 100 ∷ []) (follow_at 4 2 40) lower_pair
 lower_sync =
-    two_step_comes watched 5 (sync_at 5 4 42) (follow_at 6 4 42) (sync m_config 42) (follow_up m_config 42 (at 4 0 0)) (stamp 4 0)
-    (sync_at 5 4 42) (follow_at 6 4 42) [] (sync_at 4 3 41 ∷ sync_at 3 2 40 ∷ follow_at 2 1 100 ∷ sync_at 1 1 100 ∷ []) (search rules)
+    two_step_comes watched 3 (sync_at 3 2 40) (follow_at 4 2 40) (sync m_config 40) (follow_up m_config 40 (at 2 0 0)) (stamp 2 0)
+    (sync_at 3 2 40) (follow_at 4 2 40) [] (follow_at 2 1 100 ∷ sync_at 1 1 100 ∷ []) (search rules)
     (search (rules, SyncFirst)) (inr (refl, refl)) tt (omega arith)
 
-lower_delay : ComesDelay watched 5 lower_lines (response_at 8 9) lower_answered
+lower_delay : ComesDelay watched 3 lower_lines (response_at 6 9) lower_answered
 lower_delay =
     search (
       rules,
       none_says,
-      answer_comes watched 5 (request_at 7 2 9) (response_at 8 9) (delay_req s_config 9) (response 9) (stamp 2 4500)
-          [] (follow_at 6 4 42 ∷ sync_at 5 4 42 ∷ sync_at 4 3 41 ∷ sync_at 3 2 40 ∷ follow_at 2 1 100 ∷ sync_at 1 1 100 ∷ []),
+      answer_comes watched 3 (request_at 5 2 9) (response_at 6 9) (delay_req s_config 9) (response 9) (stamp 2 4500)
+          [] (follow_at 4 2 40 ∷ sync_at 3 2 40 ∷ follow_at 2 1 100 ∷ sync_at 1 1 100 ∷ []),
     )
 
-lower_is_found : report_at watched lower_lines (response_at 8 9)
+-- it is told apart from the life before
+lower_is_apart : IsToldApart watched (follow_at 2 1 100 ∷ sync_at 1 1 100 ∷ []) (sync_at 3 2 40) (sync m_config 40)
+lower_is_apart = record {
+  said = refl;
+  sync_is = refl;
+  not_ahead = refl;
+  apart = search (rules, All-cons, All-nil);
+}
+
+lower_is_found : report_at watched lower_lines (response_at 6 9)
     ≡ Some (record {
       offset2 = pos 32768000;
       path2 = pos 491520000;
-      sync_tag = 5;
-      follow_tag = Some 6;
-      request_tag = 7;
-      response_tag = 8;
+      sync_tag = 3;
+      follow_tag = Some 4;
+      request_tag = 5;
+      response_tag = 6;
     })
 lower_is_found =
-    each_exchange watched lower_lines (response_at 8 9) lower_pair lower_answered (search rules)
+    each_exchange watched lower_lines (response_at 6 9) lower_pair lower_answered (search rules)
     (inr (
-      stands (request_at 7 2 9 ∷ []) (follow_at 6 4 42)
-          (sync_at 5 4 42 ∷ sync_at 4 3 41 ∷ sync_at 3 2 40 ∷ follow_at 2 1 100 ∷ sync_at 1 1 100 ∷ []) (inl lower_sync) (inr refl, tt)
-          (search rules),
+      stands (request_at 5 2 9 ∷ []) (follow_at 4 2 40) (sync_at 3 2 40 ∷ follow_at 2 1 100 ∷ sync_at 1 1 100 ∷ [])
+          (inl lower_sync) (inr refl, tt) (search rules),
       lower_delay,
     ))

@@ -2,7 +2,7 @@
 use Rattle.std.specs.Prelude.{◌≡◌, Bool, true, false, ◌||◌, List, ◌∷◌, ◌++◌, None, Ok}
 use Rattle.std.specs.List.{All}
 use Rattle.event_codec.specs.Packet.{Contents}
-use Rattle.sync_watch.specs.Judged.{is_apart}
+use Rattle.sync_watch.specs.Life.{is_apart}
 use Rattle.capture_model.specs.declared.watched.Watched.{Watched}
 use Rattle.capture_model.specs.Recorded.{Recorded}
 use Rattle.capture_model.specs.Listening.{report_at}

@@ -16,7 +16,8 @@ use Rattle.event_codec.specs.declared.message.Header.{Header}
 use Rattle.event_codec.specs.declared.port.PortIdentity.{PortIdentity}
 use Rattle.event_codec.specs.Packet.{Contents}
 use Rattle.event_codec.specs.Port.{is_same_port}
-use Rattle.sync_watch.specs.Judged.{is_apart}
+use Rattle.sync_watch.specs.Told.{syncs}
+use Rattle.sync_watch.specs.Life.{is_apart, is_far, newest}
 use Rattle.slave_port.specs.declared.heard.Heard.{Heard}
 use Rattle.slave_port.specs.declared.heard.Heard.TheVariants as answers
 use Rattle.slave_port.specs.Usable.{is_two_step, is_not_newer}
@@ -25,7 +26,7 @@ use Rattle.slave_port.specs.Answer.{report_of}
 use Rattle.capture_model.specs.declared.watched.Watched.{Watched}
 use Rattle.capture_model.specs.Recorded.{Recorded}
 use Rattle.capture_model.specs.Listening.{table_capacity, ticks_every, is_of, is_unicast, after_all, answered_to}
-use Rattle.capture_model.specs.Begins.{begun_at}
+use Rattle.capture_model.specs.Begins.{told_of_master, begun_at}
 use Rattle.capture_model.specs.Listening.{report_at}
 use Rattle.capture_model.specs.Told.{is_sync, last_request, AreNumbered}
 use Rattle.capture_model.specs.Listening.{is_used}
@@ -164,11 +165,22 @@ NoneIsKnown w number ds = (flag : Bool) → NoneIsKnownWith w number flag ds
 abbrev pub recent_syncs : ℕ
 recent_syncs = 16384
 
--- The port uses two such, one of which stands before the other: since it knows none of their number, and their number
--- isn't behind any that is recent. Or it does so for whatever reason.
+-- a Follow_Up's number is neither up to 255 behind nor up to 256 ahead of that of the newest Sync with its flag that these
+-- tell of the master since it began
+abbrev pub is_far_from_newest : Watched → List Recorded → Contents → Bool
+is_far_from_newest w earlier m = option_map_or (λ n. is_far m.header.sequence.0 n.number)
+    (newest (syncs (is_unicast m.header) (told_of_master w earlier))) false
+
+-- after these it says no Follow_Up of which that holds
+abbrev pub IsNear : Watched → List Recorded → Recorded → Type 0
+IsNear w earlier d = says (λ m. is_master_follow_up w m && is_far_from_newest w earlier m) d ≡ false
+
+-- The port uses two such, one of which stands before the other: since it knows none of their number, their number isn't
+-- behind any that is recent, and the Follow_Up's isn't far from the newest Sync. Or it does so for whatever reason.
 abbrev pub AreTaken : Watched → (number : ℕ) → (between before : List Recorded) → (first d : Recorded) → Type 0
 AreTaken w number between before first d =
-    (NoneIsKnown w number before × IsNotBehind w number (within_syncs w (between ++ first ∷ before) recent_syncs))
+    (NoneIsKnown w number before × IsNotBehind w number (within_syncs w (between ++ first ∷ before) recent_syncs)
+    × IsNear w before first × IsNear w (between ++ first ∷ before) d)
     ⊎ (IsTrue (is_used w before first) × IsTrue (is_used w (between ++ first ∷ before) d))
 
 -- Which of the two came first, and how few stand between them: at most 255 Syncs of the master where the Sync did, else at

@@ -10,4 +10,5 @@ pub mod Pairs
 pub mod Completes
 pub mod Begins
 pub mod Finds
+pub mod Apart
 pub mod Copies

@@ -15,12 +15,12 @@ use Rattle.event_codec.specs.Port.{is_same_port}
 use Rattle.pairing.specs.Marked.{Entry, entry}
 use Rattle.sync_watch.specs.declared.judgement.Judgement.{Judgement}
 use Rattle.sync_watch.specs.declared.judgement.Judgement.TheVariants.{Newer, Repeated, BeganAnew}
-use Rattle.sync_watch.specs.Told.{Arrival, arrival, Told, Sync, FollowUp, Refused, known}
-use Rattle.sync_watch.specs.Judged.{judged_sync, judged_follow_up, judged_refused}
+use Rattle.sync_watch.specs.declared.arrival.Arrival.{Arrival}
+use Rattle.sync_watch.specs.Told.{Told, Sync, FollowUp, known}
+use Rattle.sync_watch.specs.Judged.{judged_sync, judged_follow_up}
 use Rattle.slave_port.specs.declared.heard.Heard.{Heard}
 use Rattle.slave_port.specs.declared.heard.Heard.TheVariants as answers
 use Rattle.slave_port.specs.declared.heard.Report.{Report}
-use Rattle.slave_port.specs.declared.reason.Reason.TheVariants.{NotNewer}
 use Rattle.slave_port.specs.History as calls
 use Rattle.slave_port.specs.History.{Setup, Call, setup_of, next_number}
 use Rattle.slave_port.specs.Answer.{answer}
@@ -71,11 +71,6 @@ setup_in w l = setup_with w l.first
 abbrev pub is_of : Watched → PortIdentity → Header → Bool
 is_of w port header = header.domain == w.domain && is_same_port header.source port
 
--- the answer to a Sync is that it isn't newer than the last one that completed
-abbrev pub is_stale : Heard → Bool
-is_stale (answers.Ignored NotNewer) = true
-is_stale _ = false
-
 -- Syncs after which there is a tick
 abbrev pub ticks_every : ℕ
 ticks_every = 4096
@@ -98,9 +93,10 @@ answer_in w l call = answer (setup_in w l) l.calls call
 abbrev pub is_unicast : Header → Bool
 is_unicast header = slice_index header.flags 0 / 4 % 2 == 1
 
--- when a Sync or a Follow_Up with this header came, and under which number and flag
+-- a Sync or a Follow_Up with this header came
 abbrev pub arrival_of : Header → (time : ℕ) → Arrival
-arrival_of header time = arrival header.sequence.0 (is_unicast header) time
+arrival_of header time =
+    record { number = header.sequence; is_unicast = is_unicast header; log = header.log; time = time }
 
 -- the master began its numbers anew, with this Sync: the port is told it again, and forgets all that it heard
 abbrev pub with_master_anew : Watched → (line : ℕ) → Arrival → Listening → Listening
@@ -111,32 +107,18 @@ with_master_anew w line a l = record l {
   begun = line;
 }
 
--- a Sync is to be heard that the port refuses, since it isn't newer: where that says that the master began anew, the
--- port hears it once more
-abbrev pub ready_refused : Judgement → Watched → (line : ℕ) → Call → Arrival → Listening → Listening
-ready_refused Newer w line call a l = record l { heard = Refused a.number ∷ l.heard }
-ready_refused Repeated w line call a l = l
-ready_refused BeganAnew w line call a l = with_master_anew w line a (told call l)
-
--- a Sync is to be heard whose number says nothing, and which is known now
-abbrev pub ready_newer : Watched → (line : ℕ) → Call → Arrival → Listening → Listening
-ready_newer w line call a l =
-    if is_stale (answer_in w l call)
-    then ready_refused (judged_refused a table_capacity l.heard) w line call a l
-    else l
-
 -- the port that is to hear a Sync of the master, by what its number says; none hears a repeat
-abbrev pub ready_judged : Judgement → Watched → (line : ℕ) → Call → Arrival → Listening → Option Listening
-ready_judged Newer w line call a l = Some (ready_newer w line call a (record l { heard = Sync a ∷ l.heard }))
-ready_judged Repeated w line call a l = None
-ready_judged BeganAnew w line call a l = Some (with_master_anew w line a l)
+abbrev pub ready_judged : Judgement → Watched → (line : ℕ) → Arrival → Listening → Option Listening
+ready_judged Newer w line a l = Some (record l { heard = Sync a ∷ l.heard })
+ready_judged Repeated w line a l = None
+ready_judged BeganAnew w line a l = Some (with_master_anew w line a l)
 
 -- the port that is to hear a Sync; what isn't the master's is heard by the port as it is
 abbrev pub ready_sync : Watched → (line time : ℕ) → Contents → Listening → Option Listening
 ready_sync w line time m l =
     if is_of w w.master m.header
     then ready_judged (judged_sync (arrival_of m.header time) table_capacity l.heard) w line
-    (calls.Event (Ok m) time line) (arrival_of m.header time) l
+    (arrival_of m.header time) l
     else Some l
 
 -- the port that is to hear a Follow_Up of the master, by what its number says

@@ -9,7 +9,7 @@ use Rattle.event_codec.specs.declared.message.Body.{Body}
 use Rattle.event_codec.specs.declared.message.Body.TheVariants.{Sync, FollowUp}
 use Rattle.event_codec.specs.Packet.{Contents}
 use Rattle.event_codec.specs.Reading.{Reading}
-use Rattle.sync_watch.specs.Judged.{is_apart}
+use Rattle.sync_watch.specs.Life.{is_apart}
 use Rattle.slave_port.specs.declared.heard.Report.{Report}
 use Rattle.capture_model.specs.declared.watched.Watched.{Watched}
 use Rattle.capture_model.specs.Recorded.{Recorded}

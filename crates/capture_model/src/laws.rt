@@ -1,6 +1,7 @@
 //! Laws of recordings, each the contract of a function that does nothing: a caller that needs the law in its
 //! proof calls it.
 
+ghost use Rattle.capture_model.specs.Apart.{NoReportJoinsTwoLives};
 ghost use Rattle.capture_model.specs.Begins.{EachBeginningIsTold};
 ghost use Rattle.capture_model.specs.Completes.{WhatIsHeldCompletes};
 ghost use Rattle.capture_model.specs.Copies.{NoCopyIsReported};
@@ -55,18 +56,26 @@ pub fn no_reported_pair_is_apart()
     ensures { NoReportedPairIsApart }
 {}
 
+/// No report of a port that listens to a recording joins messages of two lives of its master whose Syncs are told apart:
+/// where a Sync tells a beginning, each line that a report names then, or later, is that of this Sync or one behind it. A
+/// Sync tells one for certain where its number isn't 1 to 256 ahead of that of the newest Sync of the life before, and each
+/// Sync of that life is a second or more from it or far from it by its number. This holds of whatever is recorded, in
+/// lines with growing numbers.
+pub fn no_report_joins_two_lives()
+    ensures { NoReportJoinsTwoLives }
+{}
+
 /// A port that listens to a recording begins anew exactly where a recording tells that the slave or the master did,
 /// whatever is recorded: the line at which it began last is that of the last of these, or 0.
 ///
 /// - A Delay_Req of the slave, not its first, whose number is neither its last one's again nor 1 to 256 ahead of that.
-/// - A Sync of the master by whose number and time the rules of `sync_watch` say that the master began anew: among the last
-///   256 Syncs with its flag since the master began, without copies, one has its number and came a second or more from
-///   it, or else such a Follow_Up did among the last 256.
-/// - A Sync of the master of which these say nothing, and which is the third in a row, with numbers that follow each
-///   other, that the port refuses (512): since the number isn't newer than that of the Sync that completed last, and the
-///   correction isn't too big.
+/// - A Sync of the master by which the rules of `sync_watch` say that it began anew. Of the Syncs with its flag since the master
+///   began, without copies, N is the newest. Among the last 256 of these one has its number and came a second or more from
+///   it, or else such a Follow_Up did among the last 256; or none of them has its number, and it isn't of the life of N:
+///   it is neither 1 to 256 ahead of N, unless it is more than 16 ahead, and more than twice as many as fit in the time since
+///   N by the interval that it tells, nor up to 255 behind N and less than a second from it.
 ///
-/// Of the port the rule asks only which Sync completed last.
+/// Of the port the rule asks nothing: it is one of what is recorded alone.
 pub fn each_beginning_is_told()
     ensures { EachBeginningIsTold }
 {}
@@ -90,9 +99,11 @@ pub fn what_is_held_completes()
 ///   Syncs of the master where the Sync came first, else at most 255 Follow_Ups and 4,095 Syncs, and the port hears none
 ///   of these that has their number: copies may stand there.
 /// - The port uses the Sync, and both where there are two. It does so where none of their number is among the last 256
-///   Syncs of a flag that it heard until the first of the two, nor among the last 256 Follow_Ups, and each number of which
-///   it was said when its Sync left, by a Follow_Up or as a one-step Sync, behind which fewer than 16,384 Syncs were heard,
-///   is the same or at most 32,767 behind. Of a one-step Sync that is asked only of those with its flag that came before it.
+///   Syncs of a flag that it heard until the first of the two, nor among the last 256 Follow_Ups; where the Follow_Up's
+///   number is up to 255 behind or up to 256 ahead of that of the newest Sync with its flag since the master began; and
+///   where each number of which it was said when its Sync left, by a Follow_Up or as a one-step Sync, behind which fewer than
+///   16,384 Syncs were heard, is the same or at most 32,767 behind. Of a one-step Sync that is asked only of those with its
+///   flag that came before it.
 /// - The Delay_Resp is to the slave, and its correction isn't too big. The Delay_Req, whose number it has, isn't the
 ///   slave's last one again, and those between them are at most 255 numbers ahead of it. The port uses the Delay_Resp,
 ///   as it does where no other of this number is among the last 256 to the slave that it heard.
@@ -102,11 +113,10 @@ pub fn what_is_held_completes()
 /// - No line behind the first of these tells that the slave or the master began anew, by [`each_beginning_is_told`].
 ///
 /// The premises are on what is recorded, with numbers below 65,536, as octets have them, but that the port is asked what it
-/// hears, so that copies don't count, and which Sync completed last, where three that aren't newer say that the master began
-/// anew; and in place of three of them what it answers may stand: that it uses the Sync, or the Delay_Resp, and that nothing
-/// completes after. They look back over the whole recording, behind a beginning too, where the port forgets: soon after
-/// one, while numbers come again, they may fail. The law says nothing of what more is reported: that each report is right
-/// is said by [`each_report_is_exact`].
+/// hears, so that copies don't count; and in place of three of them what it answers may stand: that it uses the Sync, or
+/// the Delay_Resp, and that nothing completes after. They look back over the whole recording, behind a beginning too, where
+/// the port forgets: soon after one, while numbers come again, they may fail. The law says nothing of what more is reported:
+/// that each report is right is said by [`each_report_is_exact`].
 pub fn each_exchange_is_found()
     ensures { EachExchangeIsFound }
 {}
