@@ -6,7 +6,6 @@ use Rattle.std.specs.List.{All}
 use Rattle.std.specs.Option.{option_or, option_map_or}
 use Rattle.std.proofs.lemmas.List.{length-map}
 use Rattle.std.proofs.lemmas.List.Elements.{All-head, All-tail}
-use Rattle.capture_file.specs.Packet.{InterfaceOf}
 use Rattle.capture_model.specs.declared.watched.Watched.{Watched}
 use Rattle.capture_model.specs.Recorded.{Recorded}
 use Rattle.capture_measure.specs.declared.watch.WantedPorts.{WantedPorts}
@@ -32,7 +31,7 @@ module _ (w : WantedPorts) (asks : AsksForNothing w) where
   nobody = ap (λ (domain : Option ℕ). watched_by (option_or domain None) (port_in is_request w.slave (option_or domain None) [])
       (port_in is_sync w.master (option_or domain None) [])) asks.domain
 
-module _ (interface : InterfaceOf) where
+module _ (interface : List ℕ) where
   abbrev AreAt : List InterfaceRow → Type 0
   AreAt rows = All (λ (r : InterfaceRow). r.interface ≡ interface) rows
 
@@ -44,11 +43,11 @@ module _ (interface : InterfaceOf) where
       ∙ ap (λ (rs : List Row). r.row ∷ rs) (all_rows rows (All-tail (λ (r : InterfaceRow). r.interface ≡ interface) r rows at))
 
   one_interface : (r : InterfaceRow) (rows : List InterfaceRow) → AreAt (r ∷ rows) → interfaces_in (r ∷ rows) ≡ interface ∷ []
-  one_interface r [] at = ap (λ (i : InterfaceOf). i ∷ []) (All-head (λ (r : InterfaceRow). r.interface ≡ interface) r [] at)
+  one_interface r [] at = ap (λ (i : List ℕ). i ∷ []) (All-head (λ (r : InterfaceRow). r.interface ≡ interface) r [] at)
   one_interface r (before ∷ rows) at =
       let known = one_interface before rows (All-tail (λ (r : InterfaceRow). r.interface ≡ interface) r (before ∷ rows) at) in
       let here = All-head (λ (r : InterfaceRow). r.interface ≡ interface) r (before ∷ rows) at in
-      ap (λ (known : List InterfaceOf). if is_among r.interface known || nat_le interfaces_most (length known) then known
+      ap (λ (known : List (List ℕ)). if is_among r.interface known || nat_le interfaces_most (length known) then known
       else known ++ r.interface ∷ []) known
       ∙ ap (λ b. if b || false || false then interface ∷ [] else interface ∷ r.interface ∷ [])
       ((same_interface interface r.interface).1 (sym here))
@@ -59,14 +58,14 @@ module _ (interface : InterfaceOf) where
       ∙ ap (λ b. b || false) ((same_interface interface r.interface).1
       (sym (All-head (λ (r : InterfaceRow). r.interface ≡ interface) r rows at)))
 
-module _ (w : WantedPorts) (asks : AsksForNothing w) (interface : InterfaceOf) where
+module _ (w : WantedPorts) (asks : AsksForNothing w) (interface : List ℕ) where
   -- whom the rows at the interface of the newest are of
   newest : (r : InterfaceRow) (rows : List InterfaceRow) → AreAt interface (r ∷ rows)
       → watched_at w (datagrams (rows_at r.interface (r ∷ rows))) ≡ watched_in w (datagrams (rows_of (r ∷ rows)))
   newest r rows at =
       let here = All-head (λ (r : InterfaceRow). r.interface ≡ interface) r rows at in
       watched_same w asks (datagrams (rows_at r.interface (r ∷ rows)))
-      ∙ ap (λ (i : InterfaceOf). watched_in w (datagrams (rows_at i (r ∷ rows)))) here
+      ∙ ap (λ (i : List ℕ). watched_in w (datagrams (rows_at i (r ∷ rows)))) here
       ∙ ap (λ (rs : List Row). watched_in w (datagrams rs)) (all_rows interface (r ∷ rows) at)
 
   chosen_newest : (r : InterfaceRow) (rows : List InterfaceRow) → AreAt interface (r ∷ rows)
@@ -76,7 +75,7 @@ module _ (w : WantedPorts) (asks : AsksForNothing w) (interface : InterfaceOf) w
       ap (λ b. if b && is_some (watched_at w (datagrams (rows_at r.interface (r ∷ rows)))) then Some r.interface else None)
       (looked_at interface r rows at)
       ∙ ap (λ o. if is_some o then Some r.interface else None) (newest r rows at)
-      ∙ ap (λ (i : InterfaceOf). if is_some (watched_in w (datagrams (rows_of (r ∷ rows)))) then Some i else None) here
+      ∙ ap (λ (i : List ℕ). if is_some (watched_in w (datagrams (rows_of (r ∷ rows)))) then Some i else None) here
       ∙ go (watched_in w (datagrams (rows_of (r ∷ rows))))
     where
       go : (o : Option Watched) → (if is_some o then Some interface else None) ≡ option_map (λ x. interface) o

@@ -3,7 +3,6 @@ use Rattle.std.proofs.Common.{◌≡◌, ◌∙◌, ℕ, ◌-◌, ◌≤◌, nat
 use Rattle.std.proofs.Common.{Option, Some, None, sym, ap, arith}
 use Rattle.std.specs.Prelude.{⊤, if◌then◌else◌}
 use Rattle.std.specs.Option.{option_map_or}
-use Rattle.capture_file.specs.Packet.{InterfaceOf}
 use Rattle.capture_model.specs.declared.watched.Watched.{Watched}
 use Rattle.capture_model.specs.Told.{AreNumbered}
 use Rattle.capture_model.specs.Exact.{IsExact, EachReportIsExact}
@@ -32,7 +31,7 @@ rising_if : (n : ℕ) (row : Row) (rows : List Row) (same : Bool) → row.datagr
 rising_if n row rows true most least rising = (most, least, rising)
 rising_if n row rows false most least rising = rising_more (row.datagram.line - 1) n rows (omega (arith, most, least)) rising
 
-rows_rising : (n : ℕ) (interface : InterfaceOf) (rows : List InterfaceRow) → ArePackets n rows → AreRising n (rows_at interface rows)
+rows_rising : (n : ℕ) (interface : List ℕ) (rows : List InterfaceRow) → ArePackets n rows → AreRising n (rows_at interface rows)
 rows_rising n interface [] rising = tt
 rows_rising n interface (r ∷ rows) rising =
     rising_if n r.row (rows_at interface rows) (is_same_interface interface r.interface) rising.0 rising.1
@@ -43,7 +42,7 @@ few_rising : (n : ℕ) (row : Row) (rows : List Row) (few : Bool) → row.datagr
 few_rising n row rows true most least rising = rising
 few_rising n row rows false most least rising = (most, least, tt)
 
-with_rising : (n : ℕ) (before now : Option InterfaceOf) (r : InterfaceRow) (rows : List InterfaceRow) (heard : List Row)
+with_rising : (n : ℕ) (before now : Option (List ℕ)) (r : InterfaceRow) (rows : List InterfaceRow) (heard : List Row)
     → ArePackets n (r ∷ rows) → AreRising (r.row.datagram.line - 1) heard → AreRising n (heard_with before now r rows heard)
 with_rising n (Some interface) now r rows heard rising those =
     rising_if n r.row heard (is_same_interface interface r.interface) rising.0 rising.1 those

@@ -1,6 +1,6 @@
 -- What a port becomes by a message of its master, by what the message's number says.
-use Rattle.std.proofs.Common.{◌≡◌, ◌∙◌, ◌⊎◌, ℕ, Bool, true, false, ◌∷◌, Some, None, Ok, inl, inr, refl}
-use Rattle.std.proofs.Common.{sym, ap, if◌then◌else◌, option_map}
+use Rattle.std.proofs.Common.{◌≡◌, ◌⊎◌, ℕ, Bool, true, false, ◌∷◌, Some, None, Ok, inl, inr, refl}
+use Rattle.std.proofs.Common.{ap, if◌then◌else◌, option_map}
 use Rattle.std.specs.Prelude.{◌&&◌, not, is_some}
 use Rattle.event_codec.specs.declared.port.PortIdentity.{PortIdentity}
 use Rattle.event_codec.specs.Packet.{Contents}
@@ -8,16 +8,17 @@ use Rattle.event_codec.specs.Port.{is_same_port}
 use Rattle.pairing.specs.Marked.{entry}
 use Rattle.sync_watch.specs.declared.judgement.Judgement.{Judgement}
 use Rattle.sync_watch.specs.declared.judgement.Judgement.TheVariants.{Newer, Repeated, BeganAnew}
-use Rattle.sync_watch.specs.Told.{Arrival, Sync, FollowUp, Refused, known}
-use Rattle.sync_watch.specs.Judged.{judged_sync, judged_follow_up, judged_refused, is_repeated, after}
+use Rattle.sync_watch.specs.declared.arrival.Arrival.{Arrival}
+use Rattle.sync_watch.specs.Told.{Sync, FollowUp, known}
+use Rattle.sync_watch.specs.Judged.{judged_sync, judged_follow_up, is_repeated, after}
 use Rattle.slave_port.specs.History.{Call, Event}
 use Rattle.capture_model.specs.declared.watched.Watched.{Watched}
-use Rattle.capture_model.specs.Listening.{Listening, table_capacity, is_of, is_stale, arrival_of, told, answer_in}
-use Rattle.capture_model.specs.Listening.{with_master_anew, ready_refused, ready_newer, ready_judged, ready_sync}
+use Rattle.capture_model.specs.Listening.{Listening, table_capacity, is_of, arrival_of, told}
+use Rattle.capture_model.specs.Listening.{with_master_anew, ready_judged, ready_sync}
 use Rattle.capture_model.specs.Listening.{ready_followed, ready_follow_up, ready_response, hears_ready}
-use Rattle.recording_listener.specs.Beginnings.{is_beginning, begins_newer, begins_judged, sync_begins}
-use Rattle.recording_listener.specs.Became.{reply_in}
-use Rattle.recording_listener.specs.Inner.Steps.{with_sync, with_follow_up, with_refused, with_response, told_again}
+use Rattle.capture_model.specs.Begins.{is_beginning}
+use Rattle.recording_listener.specs.Became.{sync_begins, reply_in}
+use Rattle.recording_listener.specs.Inner.Steps.{with_sync, with_follow_up, with_response, told_again}
 
 -- what a number says that came before, or that didn't
 pub says-newer : (again : Bool) (j : Judgement) → j ≡ (if again then Repeated else Newer) → j ≡ Newer → again ≡ false
@@ -30,74 +31,6 @@ says-repeated true j is repeated = refl
 says-repeated false j is (inl repeated) = cc
 says-repeated false j is (inr repeated) = cc
 
--- it says that the master didn't begin anew
-abbrev pub IsNoBeginning : Judgement → Type 0
-IsNoBeginning j = (j ≡ Newer) ⊎ (j ≡ Repeated)
-
-no-beginning : (j : Judgement) → IsNoBeginning j → is_beginning j ≡ false
-no-beginning BeganAnew (inl is) = cc
-no-beginning BeganAnew (inr is) = cc
-no-beginning _ started = refl
-
-module _ (w : Watched) (line : ℕ) (call : Call) (a : Arrival) (l : Listening) where
-  -- a Sync that isn't refused
-  pub newer-other : is_stale (answer_in w l call) ≡ false → ready_newer w line call a l ≡ l
-  newer-other other = ap (λ (b : Bool).
-      if b then ready_refused (judged_refused a table_capacity l.heard) w line call a l else l) other
-
-  pub newer-refused : (j : Judgement) → is_stale (answer_in w l call) ≡ true
-      → judged_refused a table_capacity l.heard ≡ j → ready_newer w line call a l ≡ ready_refused j w line call a l
-  newer-refused j stale is = λ i. if stale i then ready_refused (is i) w line call a l else l
-
-  told-refused : (j : Judgement) → IsNoBeginning j
-      → told call (ready_refused j w line call a l)
-      ≡ record (told call l) { heard = after j a (Refused a.number) l.heard }
-  told-refused BeganAnew (inl is) = cc
-  told-refused BeganAnew (inr is) = cc
-  told-refused _ started = refl
-
-  reply-refused : (j : Judgement) → IsNoBeginning j
-      → reply_in w (ready_refused j w line call a l) call ≡ reply_in w l call
-  reply-refused BeganAnew (inl is) = cc
-  reply-refused BeganAnew (inr is) = cc
-  reply-refused _ started = refl
-
-  -- one that is refused, and no beginning
-  pub refused-told : is_stale (answer_in w l call) ≡ true → IsNoBeginning (judged_refused a table_capacity l.heard)
-      → with_refused a (told call l) ≡ told call (ready_newer w line call a l)
-  refused-told stale started =
-      sym (told-refused (judged_refused a table_capacity l.heard) started)
-      ∙ ap (told call) (sym (newer-refused (judged_refused a table_capacity l.heard) stale refl))
-
-  pub refused-reply : is_stale (answer_in w l call) ≡ true → IsNoBeginning (judged_refused a table_capacity l.heard)
-      → reply_in w l call ≡ reply_in w (ready_newer w line call a l) call
-  refused-reply stale started =
-      sym (reply-refused (judged_refused a table_capacity l.heard) started)
-      ∙ ap (λ (k : Listening). reply_in w k call)
-      (sym (newer-refused (judged_refused a table_capacity l.heard) stale refl))
-
-  -- the third, by which the master began anew
-  pub refused-anew : is_stale (answer_in w l call) ≡ true → judged_refused a table_capacity l.heard ≡ BeganAnew
-      → told_again w line (with_refused a (told call l)) ≡ ready_newer w line call a l
-  refused-anew stale anew =
-      ap (λ (j : Judgement).
-      told_again w line (record (told call l) { heard = after j a (Refused a.number) l.heard })) anew
-      ∙ sym (newer-refused BeganAnew stale anew)
-
-  -- whether the master began anew by it
-  pub newer-begins-not : is_stale (answer_in w l call) ≡ false → begins_newer w call a l ≡ false
-  newer-begins-not other = ap (λ (b : Bool). b && is_beginning (judged_refused a table_capacity l.heard)) other
-
-  pub refused-begins-not : is_stale (answer_in w l call) ≡ true → IsNoBeginning (judged_refused a table_capacity l.heard)
-      → begins_newer w call a l ≡ false
-  refused-begins-not stale started =
-      ap (λ (b : Bool). b && is_beginning (judged_refused a table_capacity l.heard)) stale
-      ∙ no-beginning (judged_refused a table_capacity l.heard) started
-
-  pub refused-begins : is_stale (answer_in w l call) ≡ true → judged_refused a table_capacity l.heard ≡ BeganAnew
-      → begins_newer w call a l ≡ true
-  refused-begins stale anew = λ i. stale i && is_beginning (anew i)
-
 -- what a Sync becomes that isn't the master's
 module _ (w : Watched) (line time : ℕ) (m : Contents) (l : Listening) where
   abbrev call_of : Call
@@ -109,32 +42,32 @@ module _ (w : Watched) (line time : ℕ) (m : Contents) (l : Listening) where
   pub sync-other : is_of w w.master m.header ≡ false
       → hears_ready (is_of w w.master m.header) call_of (ready_sync w line time m l) l ≡ told call_of l
   sync-other other = ap (λ (b : Bool). hears_ready b call_of
-      (if b then ready_judged (judged_sync a_of table_capacity l.heard) w line call_of a_of l else Some l) l) other
+      (if b then ready_judged (judged_sync a_of table_capacity l.heard) w line a_of l else Some l) l) other
 
   pub sync-other-reply : is_of w w.master m.header ≡ false
       → option_map (λ l. reply_in w l call_of) (ready_sync w line time m l) ≡ Some (reply_in w l call_of)
   sync-other-reply other = ap (λ (b : Bool). option_map (λ l. reply_in w l call_of)
-      (if b then ready_judged (judged_sync a_of table_capacity l.heard) w line call_of a_of l else Some l)) other
+      (if b then ready_judged (judged_sync a_of table_capacity l.heard) w line a_of l else Some l)) other
 
   pub sync-judged : (j : Judgement) → is_of w w.master m.header ≡ true → judged_sync a_of table_capacity l.heard ≡ j
       → hears_ready (is_of w w.master m.header) call_of (ready_sync w line time m l) l
-      ≡ hears_ready true call_of (ready_judged j w line call_of a_of l) l
+      ≡ hears_ready true call_of (ready_judged j w line a_of l) l
   sync-judged j of is =
-      λ i. hears_ready (of i) call_of (if of i then ready_judged (is i) w line call_of a_of l else Some l) l
+      λ i. hears_ready (of i) call_of (if of i then ready_judged (is i) w line a_of l else Some l) l
 
   pub sync-judged-reply : (j : Judgement) → is_of w w.master m.header ≡ true
       → judged_sync a_of table_capacity l.heard ≡ j
       → option_map (λ l. reply_in w l call_of) (ready_sync w line time m l)
-      ≡ option_map (λ l. reply_in w l call_of) (ready_judged j w line call_of a_of l)
+      ≡ option_map (λ l. reply_in w l call_of) (ready_judged j w line a_of l)
   sync-judged-reply j of is = λ i. option_map (λ l. reply_in w l call_of)
-      (if of i then ready_judged (is i) w line call_of a_of l else Some l)
+      (if of i then ready_judged (is i) w line a_of l else Some l)
 
-  pub sync-begins-not : is_of w w.master m.header ≡ false → sync_begins w line time m l ≡ false
-  sync-begins-not other = ap (λ (b : Bool). b && begins_judged (judged_sync a_of table_capacity l.heard) w call_of a_of l) other
+  pub sync-begins-not : is_of w w.master m.header ≡ false → sync_begins w time m l ≡ false
+  sync-begins-not other = ap (λ (b : Bool). b && is_beginning (judged_sync a_of table_capacity l.heard)) other
 
   pub sync-begins : (j : Judgement) → is_of w w.master m.header ≡ true → judged_sync a_of table_capacity l.heard ≡ j
-      → sync_begins w line time m l ≡ begins_judged j w call_of a_of l
-  sync-begins j of is = λ i. of i && begins_judged (is i) w call_of a_of l
+      → sync_begins w time m l ≡ is_beginning j
+  sync-begins j of is = λ i. of i && is_beginning (is i)
 
   pub with_sync-judged : (j : Judgement) → judged_sync a_of table_capacity l.heard ≡ j
       → with_sync a_of l ≡ record l { heard = after j a_of (Sync a_of) l.heard }

@@ -10,9 +10,8 @@ use Rattle.capture_model.specs.Listening.{Listening, is_of, answer_in, answered}
 use Rattle.recording_listener.specs.declared.listener.Became.{Became}
 use Rattle.recording_listener.specs.declared.listener.Became.TheVariants as became
 use Rattle.recording_listener.specs.declared.listener.Reply.{Reply}
-use Rattle.recording_listener.specs.Beginnings.{sync_begins}
 use Rattle.recording_listener.specs.Exchanged.{exchange_after, exchanged}
-use Rattle.recording_listener.specs.Became.{reply_by, heard_by, exchange_by, became_called, became_of}
+use Rattle.recording_listener.specs.Became.{sync_begins, reply_by, heard_by, exchange_by, became_called, became_of}
 
 -- ---- what became of a message that a port hears, or not
 module _ (w : Watched) (call : Call) where
@@ -49,14 +48,14 @@ asked_unheard false next last = refl
 -- ---- any message
 module _ (w : Watched) (line time : ℕ) (m : Contents) where
   pub heard-became : (body : Body) (l : Listening) → heard_by (became_of w line time m body l) ≡ answered w line time m body l
-  heard-became (Sync origin) l = heard_called w (Event (Ok m) time line) (sync_begins w line time m l) _
+  heard-became (Sync origin) l = heard_called w (Event (Ok m) time line) (sync_begins w time m l) _
   heard-became (DelayReq origin) l = ap (option_map (λ (r : Reply). r.heard))
       (asked_unheard (is_of w w.slave m.header) _ _)
   heard-became _ l = heard_called w (General (Ok m) line) false _
 
   pub exchange-became : (body : Body) (l : Listening)
       → exchange_by (became_of w line time m body l) ≡ exchanged w line time m body l
-  exchange-became (Sync origin) l = exchange_called w (Event (Ok m) time line) (sync_begins w line time m l) _
+  exchange-became (Sync origin) l = exchange_called w (Event (Ok m) time line) (sync_begins w time m l) _
   exchange-became (DelayReq origin) l = ap (option_and_then (λ (r : Reply). r.exchange))
       (asked_unheard (is_of w w.slave m.header) _ _)
   exchange-became _ l = exchange_called w (General (Ok m) line) false _

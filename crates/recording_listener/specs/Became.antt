@@ -1,23 +1,24 @@
 -- What becomes of a message that a port hears, and what it replies.
-use Rattle.std.specs.Prelude.{ℕ, Bool, true, false, not, ◌||◌, ◌==◌, nat_lt, ◌∷◌, if◌then◌else◌}
+use Rattle.std.specs.Prelude.{ℕ, Bool, true, false, not, ◌&&◌, ◌||◌, ◌==◌, nat_lt, ◌∷◌, if◌then◌else◌}
 use Rattle.std.specs.Prelude.{Option, Some, None, Ok, option_map, option_and_then}
 use Rattle.ptp_units.specs.Sequence.{ahead}
 use Rattle.event_codec.specs.declared.message.Header.{Header}
 use Rattle.event_codec.specs.declared.message.Body.{Body}
 use Rattle.event_codec.specs.declared.message.Body.TheVariants as bodies
 use Rattle.event_codec.specs.Packet.{Contents}
+use Rattle.sync_watch.specs.Judged.{judged_sync}
 use Rattle.slave_port.specs.declared.heard.Heard.{Heard}
 use Rattle.slave_port.specs.declared.exchange.LastExchange.{LastExchange}
 use Rattle.slave_port.specs.Exchange.{last_exchange}
 use Rattle.slave_port.specs.History.{Call, Event, General, next_number}
 use Rattle.capture_model.specs.declared.watched.Watched.{Watched}
-use Rattle.capture_model.specs.Listening.{Listening, setup_in, table_capacity, is_of, answer_in}
+use Rattle.capture_model.specs.Listening.{Listening, setup_in, table_capacity, is_of, answer_in, arrival_of}
 use Rattle.capture_model.specs.Listening.{ready_sync, ready_follow_up, ready_response}
+use Rattle.capture_model.specs.Begins.{is_beginning}
 use Rattle.recording_listener.specs.declared.listener.Became.{Became}
 use Rattle.recording_listener.specs.declared.listener.Became.TheVariants as fates
 use Rattle.recording_listener.specs.declared.listener.Became.TheVariants.{HeardBefore, Asked, Repeated, Anew, Foreign}
 use Rattle.recording_listener.specs.declared.listener.Reply.{Reply}
-use Rattle.recording_listener.specs.Beginnings.{sync_begins}
 
 -- what a port replies to a call, by what it heard before: its answer, and the exchange of its last report then
 abbrev pub reply_in : Watched → Listening → Call → Reply
@@ -49,6 +50,11 @@ abbrev pub became_request : Header → Watched → Listening → Became
 became_request header w l =
     if is_of w w.slave header then became_own_request header.sequence.0 w l else Foreign
 
+-- a Sync tells that the master began anew, by what its number says
+abbrev pub sync_begins : Watched → (time : ℕ) → Contents → Listening → Bool
+sync_begins w time m l =
+    is_of w w.master m.header && is_beginning (judged_sync (arrival_of m.header time) table_capacity l.heard)
+
 -- what becomes of a message that was heard so, unless it came before, and by which the master began anew or didn't
 abbrev pub became_by : (begins : Bool) → Option Reply → Became
 became_by begins None = HeardBefore
@@ -62,7 +68,7 @@ became_called begins call w ready = became_by begins (option_map (λ l. reply_in
 -- what becomes of a message
 abbrev pub became_of : Watched → (line time : ℕ) → Contents → Body → Listening → Became
 became_of w line time m (bodies.Sync origin) l =
-    became_called (sync_begins w line time m l) (Event (Ok m) time line) w (ready_sync w line time m l)
+    became_called (sync_begins w time m l) (Event (Ok m) time line) w (ready_sync w line time m l)
 became_of w line time m (bodies.DelayReq origin) l = became_request m.header w l
 became_of w line time m (bodies.FollowUp precise) l =
     became_called false (General (Ok m) line) w (ready_follow_up w time m l)

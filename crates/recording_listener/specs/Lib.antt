@@ -1,4 +1,3 @@
-pub mod Beginnings
 pub mod Exchanged
 pub mod Became
 pub mod StandsFor

@@ -4,26 +4,24 @@ ghost use Rattle.std.specs.Prelude.{◌≡◌, ◌∷◌, ◌&&◌, ℕ, false, 
 ghost use Rattle.ptp_units.specs.Sequence.{ahead};
 ghost use Rattle.event_codec.specs.Packet.{contents};
 ghost use Rattle.event_codec.specs.Port.{is_same_port};
-ghost use Rattle.sync_watch.specs.Judged.{judged_sync, judged_follow_up, judged_refused, judged_response};
+ghost use Rattle.sync_watch.specs.Judged.{judged_sync, judged_follow_up, judged_response};
 ghost use Rattle.slave_port.specs.History.{Setup, Call, SetMaster, Event, General};
 ghost use Rattle.slave_port.specs.StandsFor.{StandsFor as StandsForCalls};
 ghost use Rattle.capture_model.specs.declared.watched.Watched.{Watched};
 ghost use Rattle.capture_model.specs.Listening.{Listening, setup_with, table_capacity, start, told, draws, is_of};
-ghost use Rattle.capture_model.specs.Listening.{is_stale, is_unicast, arrival_of, with_count, ready_newer, ready_sync};
+ghost use Rattle.capture_model.specs.Listening.{is_unicast, arrival_of, with_count, ready_sync};
 ghost use Rattle.capture_model.specs.Listening.{ready_follow_up, ready_response, hears_ready, asks, anew};
 ghost use Rattle.capture_model.specs.Listening.{hears_request, hears};
-ghost use Rattle.recording_listener.specs.Beginnings.{sync_begins, begins_newer};
-ghost use Rattle.recording_listener.specs.Became.{reply_by, became_own_request, became_request, became_called, became_of};
+ghost use Rattle.recording_listener.specs.Became.{sync_begins, reply_by, became_own_request, became_request, became_called, became_of};
 ghost use Rattle.recording_listener.specs.StandsFor.{StandsFor, Listens, Becomes, IsAnswered, IsExchanged};
-ghost use Rattle.recording_listener.specs.Inner.Steps.{Replies, Says, with_sync, with_follow_up, with_refused};
-ghost use Rattle.recording_listener.specs.Inner.Steps.{with_response, told_again};
+ghost use Rattle.recording_listener.specs.Inner.Steps.{Replies, Says, with_sync, with_follow_up, with_response, told_again};
 
 use capture_model::Watched;
 use event_codec::{Body, Header, Message, PortConfig, PortIdentity};
 use pairing::RingTable;
 use ptp_units::{ScaledTime, Seq};
-use slave_port::{Heard, HeldFollow, HeldRequest, HeldSync, LastExchange, Reason, SlavePort};
-use sync_watch::{Judgement, ResponseWatch, SyncWatch};
+use slave_port::{Heard, HeldFollow, HeldRequest, HeldSync, LastExchange, SlavePort};
+use sync_watch::{Arrival, Judgement, ResponseWatch, SyncWatch};
 
 /// How many messages of a kind the port holds.
 const CAPACITY: usize = 256;
@@ -59,8 +57,8 @@ pub enum Became {
     Heard(Reply),
     /// The port heard a Sync of the master, which began anew, and replied so.
     HeardAnew(Reply),
-    /// A message of the master whose number came before, or a Follow_Up whose Sync is a second or more apart: the port didn't
-    /// hear it.
+    /// A message of the master whose number came before, or a Follow_Up whose Sync is a second or more apart, or whose number is
+    /// far from that of the newest Sync: the port didn't hear it.
     HeardBefore,
     /// A Delay_Req of the slave: the first, or one whose number is 1 to 256 ahead of the last one's. The port drew requests up
     /// to it.
@@ -116,18 +114,23 @@ fn draw(port: &mut Port, count: u32, tag: u64)
     }
 }
 
-/// Whether a Sync was ignored since it isn't newer than the last one that completed.
-fn is_stale(heard: &Heard) -> bool
-    ensures { result ≡ is_stale heard.now }
-{
-    matches!(heard, Heard::Ignored(Reason::NotNewer))
-}
-
 /// Whether unicastFlag is set.
 fn is_unicast(header: &Header) -> bool
     ensures { result ≡ is_unicast header.now }
 {
     header.flags[0] & UNICAST != 0
+}
+
+/// A Sync or a Follow_Up with this header, which came at this time.
+fn arrival_of(header: &Header, time: ScaledTime) -> Arrival
+    ensures { result ≡ arrival_of header.now time }
+{
+    Arrival {
+        number: header.sequence,
+        is_unicast: is_unicast(header),
+        log: header.log,
+        time,
+    }
 }
 
 impl Listener {
@@ -194,43 +197,14 @@ impl Listener {
             self.old self.new }
         ensures became { let m = contents message.now in
             let call = Event (Ok m) time line in
-            Becomes (λ w l. became_called (sync_begins w line time m l) call w (ready_sync w line time m l)) self.old result }
+            Becomes (λ w l. became_called (sync_begins w time m l) call w (ready_sync w line time m l)) self.old result }
     {
         if !self.is_of(self.watched.master, &message.header) {
             return Became::Heard(self.tell_event(line, time, message));
         }
         match self.judge_sync(&message.header, time) {
-            Judgement::Newer => self.hear_newer(line, time, message),
+            Judgement::Newer => Became::Heard(self.hear_counted(line, time, message)),
             Judgement::Repeated => Became::HeardBefore,
-            Judgement::BeganAnew => {
-                self.tell_master();
-                Became::HeardAnew(self.hear_counted(line, time, message))
-            }
-        }
-    }
-
-    /// Hears a Sync of the master whose number says nothing. Where it is refused, that may say that the master began
-    /// anew, and then it is heard again.
-    fn hear_newer(&mut self, line: u64, time: ScaledTime, message: &Message<'_>) -> Became
-        ensures listens { let m = contents message.now in
-            let call = Event (Ok m) time line in
-            Listens (λ w l. with_count (told call (ready_newer w line call (arrival_of m.header time) l)))
-            self.old self.new }
-        ensures became { let m = contents message.now in
-            let call = Event (Ok m) time line in
-            let a = arrival_of m.header time in
-            Becomes (λ w l. became_called (begins_newer w call a l) call w (Some (ready_newer w line call a l))) self.old result }
-    {
-        let reply = self.tell_event(line, time, message);
-        if !is_stale(&reply.heard) {
-            self.count_sync();
-            return Became::Heard(reply);
-        }
-        match self.judge_refused(&message.header, time) {
-            Judgement::Newer | Judgement::Repeated => {
-                self.count_sync();
-                Became::Heard(reply)
-            }
             Judgement::BeganAnew => {
                 self.tell_master();
                 Became::HeardAnew(self.hear_counted(line, time, message))
@@ -319,17 +293,7 @@ impl Listener {
         ensures judgement { Says (λ l. judged_sync (arrival_of header.now time) table_capacity l.heard)
             self.old result }
     {
-        self.heard.sync(header.sequence, is_unicast(header), time)
-    }
-
-    /// What it says that the last Sync of the master was refused.
-    fn judge_refused(&mut self, header: &Header, time: ScaledTime) -> Judgement
-        ensures listens { Listens (λ w. with_refused (arrival_of header.now time)) self.old self.new }
-        ensures judgement { Says (λ l. judged_refused (arrival_of header.now time) table_capacity l.heard)
-            self.old result }
-    {
-        self.heard
-            .refused(header.sequence, is_unicast(header), time)
+        self.heard.sync(&arrival_of(header, time))
     }
 
     /// What the number of a Follow_Up of the master says, which is known from then on.
@@ -338,8 +302,7 @@ impl Listener {
         ensures judgement { Says (λ l. judged_follow_up (arrival_of header.now time) table_capacity l.heard)
             self.old result }
     {
-        self.heard
-            .follow_up(header.sequence, is_unicast(header), time)
+        self.heard.follow_up(&arrival_of(header, time))
     }
 
     /// What the number of a Delay_Resp of the master to the slave says, which is known from then on.

@@ -1,6 +1,7 @@
 use Rattle.std.proofs.Common.{◌≡◌, ◌∙◌, ◌∷◌, true, false, Option, Some, Ok, sym, ap, subst}
 use Rattle.event_codec.specs.Packet.{Contents, contents}
-use Rattle.sync_watch.specs.Told.{Arrival, FollowUp}
+use Rattle.sync_watch.specs.declared.arrival.Arrival.{Arrival}
+use Rattle.sync_watch.specs.Told.{FollowUp}
 use Rattle.sync_watch.specs.Judged.{is_repeated}
 use Rattle.slave_port.specs.History.{Call, General}
 use Rattle.capture_model.specs.declared.watched.Watched.{Watched}

@@ -32,14 +32,13 @@ returns-then-not-is_of-clause-became c = λ w l is.
 pub returns-in-Newer-clause-listens : goal.returns-in-Newer-clause-listens
 returns-in-Newer-clause-listens c = λ w l is.
     let m : Contents = contents c.args.message.now in
-    let call : Call = Event (Ok m) c.args.time c.args.line in
     let of : is_of w w.master m.header ≡ true =
     subst (λ (v : Watched). is_of v v.master m.header ≡ true) is.watched (sym c.is_of.ensures ∙ c.if-not-is_of.false) in
     let says = sym (c.judge_sync.ensures.judgement w l is) ∙ c.in-Newer.is in
     let known_now = subst (StandsFor w c.judge_sync.new.self)
     (with_sync-judged w c.args.line c.args.time m l Newer says) (c.judge_sync.ensures.listens w l is) in
-    subst (StandsFor w c.hear_newer.new.self) (sym (sync-judged w c.args.line c.args.time m l Newer of says))
-    (c.hear_newer.ensures.listens w _ known_now)
+    subst (StandsFor w c.hear_counted.new.self) (sym (sync-judged w c.args.line c.args.time m l Newer of says))
+    (c.hear_counted.ensures.listens w _ known_now)
 
 pub returns-in-Repeated-clause-listens : goal.returns-in-Repeated-clause-listens
 returns-in-Repeated-clause-listens c = λ w l is.
@@ -60,9 +59,10 @@ returns-in-Newer-clause-became c = λ w l is.
     let says = sym (c.judge_sync.ensures.judgement w l is) ∙ c.in-Newer.is in
     let known_now = subst (StandsFor w c.judge_sync.new.self)
     (with_sync-judged w c.args.line c.args.time m l Newer says) (c.judge_sync.ensures.listens w l is) in
-    let same = sync-judged-reply w c.args.line c.args.time m l Newer of says in
+    let same = ap Some (c.hear_counted.ensures.reply w _ known_now)
+    ∙ sym (sync-judged-reply w c.args.line c.args.time m l Newer of says) in
     let begins = sync-begins w c.args.line c.args.time m l Newer of says in
-    c.hear_newer.ensures.became w _ known_now ∙ (λ i. became_by (sym begins i) (sym same i))
+    λ i. became_by (sym begins i) (same i)
 
 pub returns-in-Repeated-clause-became : goal.returns-in-Repeated-clause-became
 returns-in-Repeated-clause-became c = λ w l is.
@@ -83,8 +83,8 @@ returns-in-BeganAnew-clause-listens c = λ w l is.
     let says = sym (c.judge_sync.ensures.judgement w l is) ∙ c.in-BeganAnew.is in
     let known_now = subst (StandsFor w c.tell_master.new.self) (sync-anew w c.args.line c.args.time m l says)
     (c.tell_master.ensures c.args.line w _ (c.judge_sync.ensures.listens w l is)) in
-    subst (StandsFor w c.hear_counted.new.self) (sym (sync-judged w c.args.line c.args.time m l BeganAnew of says))
-    (c.hear_counted.ensures.listens w _ known_now)
+    subst (StandsFor w c.hear_counted-in-BeganAnew.new.self) (sym (sync-judged w c.args.line c.args.time m l BeganAnew of says))
+    (c.hear_counted-in-BeganAnew.ensures.listens w _ known_now)
 
 pub returns-in-BeganAnew-clause-became : goal.returns-in-BeganAnew-clause-became
 returns-in-BeganAnew-clause-became c = λ w l is.
@@ -95,7 +95,7 @@ returns-in-BeganAnew-clause-became c = λ w l is.
     let says = sym (c.judge_sync.ensures.judgement w l is) ∙ c.in-BeganAnew.is in
     let known_now = subst (StandsFor w c.tell_master.new.self) (sync-anew w c.args.line c.args.time m l says)
     (c.tell_master.ensures c.args.line w _ (c.judge_sync.ensures.listens w l is)) in
-    let same = ap Some (c.hear_counted.ensures.reply w _ known_now)
+    let same = ap Some (c.hear_counted-in-BeganAnew.ensures.reply w _ known_now)
     ∙ sym (sync-judged-reply w c.args.line c.args.time m l BeganAnew of says) in
     let begins = sync-begins w c.args.line c.args.time m l BeganAnew of says in
     λ i. became_by (sym begins i) (same i)

@@ -1,5 +1,5 @@
-use Rattle.std.proofs.Common.{◌∙◌, Bool, ap, subst}
-use Rattle.sync_watch.specs.Told.{arrival}
+use Rattle.std.proofs.Common.{◌∙◌, ap, subst}
+use Rattle.sync_watch.specs.declared.arrival.Arrival.{Arrival}
 use Rattle.sync_watch.specs.Judged.{judged_sync, after_sync}
 use Rattle.sync_watch.specs.StandsFor.{StandsFor}
 use Rattle.capture_model.specs.Listening.{table_capacity}
@@ -9,12 +9,10 @@ use Rattle.recording_listener.proofs.listener.Listener.judge_sync.Goals as goal
 pub returns-clause-listens : goal.returns-clause-listens
 returns-clause-listens c = λ w l is.
     StandsFor-heard w c.args.self.now l c.sync.new.self _
-    (subst (λ (b : Bool). StandsFor table_capacity c.sync.new.self
-    (after_sync (arrival c.args.header.now.sequence.0 b c.args.time) table_capacity l.heard)) c.is_unicast.ensures
+    (subst (λ (a : Arrival). StandsFor table_capacity c.sync.new.self (after_sync a table_capacity l.heard)) c.arrival_of.ensures
     (c.sync.ensures.stands table_capacity l.heard is.heard)) is
 
 pub returns-clause-judgement : goal.returns-clause-judgement
 returns-clause-judgement c = λ w l is.
     c.sync.ensures.judgement table_capacity l.heard is.heard
-    ∙ ap (λ (b : Bool). judged_sync (arrival c.args.header.now.sequence.0 b c.args.time) table_capacity l.heard)
-    c.is_unicast.ensures
+    ∙ ap (λ (a : Arrival). judged_sync a table_capacity l.heard) c.arrival_of.ensures
