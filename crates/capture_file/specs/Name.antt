@@ -1,6 +1,8 @@
 -- The name by which an interface is asked for.
-use Rattle.std.specs.Prelude.{ℕ, nat_le, Bool, true, List, [], ◌∷◌, ◌++◌, length, take, drop, replicate, codes, decimal}
+use Rattle.std.specs.Prelude.{ℕ, nat_le, Bool, true, not, ◌&&◌, List, [], ◌∷◌, ◌++◌, length, take, drop, replicate, codes, decimal}
 use Rattle.std.specs.Prelude.{if◌then◌else◌, Option, Some, None}
+use Rattle.std.specs.Char.{is_ascii_digit}
+use Rattle.std.specs.List.{list_all}
 use Rattle.std.specs.Str.{bytes_eq}
 use Rattle.capture_file.specs.declared.name.InterfaceName.{InterfaceName}
 use Rattle.capture_file.specs.Packet.{InterfaceOf}
@@ -28,14 +30,22 @@ interface_name (x ∷ octets) =
 abbrev pub place_text : ℕ → List ℕ
 place_text place = codes "if" ++ decimal place
 
+-- a name as that of a place: `if`, and digits alone
+abbrev pub is_like_place : List ℕ → Bool
+is_like_place name =
+    bytes_eq (take 2 name) (codes "if") && not (bytes_eq (drop 2 name) []) && list_all is_ascii_digit (drop 2 name)
+
 -- what an interface is called
 abbrev pub called : (place : ℕ) → (own : Option (List ℕ)) → List ℕ
 called place None = place_text place
 called place (Some own) = own
 
+abbrev pub name_of : InterfaceOf → List ℕ
+name_of interface = called interface.place interface.name
+
 -- an interface is called so
 abbrev pub is_called : List ℕ → InterfaceOf → Bool
-is_called name interface = bytes_eq name (called interface.place interface.name)
+is_called name interface = bytes_eq name (name_of interface)
 
 -- an interface is the one that is asked for, if one is
 abbrev pub is_asked : Option InterfaceName → InterfaceOf → Bool

@@ -5,7 +5,7 @@ use Rattle.capture_file.specs.declared.packet.Interface.{Interface}
 use Rattle.capture_file.specs.declared.packet.Packet.{Packet}
 use Rattle.capture_file.specs.declared.packet.Packet.TheVariants as packets
 
--- an interface in its section: its place from 0, and its name where no earlier one has that
+-- an interface in its section: its place from 0, and its name where it has one of its own
 pub record InterfaceOf : Type 0 where
   pub place : ℕ
   pub name : Option (List ℕ)

@@ -9,6 +9,7 @@ use Rattle.capture_file.specs.declared.order.ByteOrder.{ByteOrder}
 use Rattle.capture_file.specs.Order.{number16, number32}
 use Rattle.capture_file.specs.Clock.{ResolutionOf, resolution_of, microseconds, time_at}
 use Rattle.capture_file.specs.Options.{OptionOf, FoundOf, AreOptions, found_in}
+use Rattle.capture_file.specs.Name.{is_like_place}
 use Rattle.capture_file.specs.Packet.{PacketOf, packet_at}
 use Rattle.capture_file.specs.Pcapng.{IsBlock, padded, BeginsSection, description_type, old_packet_type}
 use Rattle.capture_file.specs.Pcapng.{simple_packet_type, enhanced_packet_type}
@@ -37,11 +38,11 @@ with_interface d section = record section { interfaces = section.interfaces ++ d
 abbrev pub has_name : List ℕ → DescriptionOf → Bool
 has_name name d = option_map_or (bytes_eq name) d.name false
 
--- a name is an interface's own where it isn't empty, and no earlier one has it
+-- a name is an interface's own where it isn't empty or as that of a place, and no earlier one has it
 abbrev pub own_name : List DescriptionOf → Option (List ℕ) → Option (List ℕ)
 own_name interfaces None = None
 own_name interfaces (Some name) =
-    if bytes_eq name [] || list_any (has_name name) interfaces then None else Some name
+    if bytes_eq name [] || is_like_place name || list_any (has_name name) interfaces then None else Some name
 
 -- the interface of this link type, by what its options say
 abbrev pub description_of : (link : ℕ) → List DescriptionOf → FoundOf → DescriptionOf

@@ -1,11 +1,14 @@
 //! The name by which an interface is asked for.
-ghost use Rattle.std.specs.Prelude.{◌≡◌, option_map};
+ghost use Rattle.std.specs.Prelude.{◌≡◌, IfOk, option_map};
+ghost use Rattle.std.specs.Char.{is_ascii_digit};
+ghost use Rattle.std.specs.List.{list_all};
 ghost use Rattle.std.specs.Str.{bytes_eq};
-ghost use Rattle.capture_file.specs.Name.{interface_name, is_asked, is_called, name_octets, place_text};
+ghost use Rattle.capture_file.specs.Name.{interface_name, is_asked, is_called, is_like_place, name_octets, name_of, place_text};
 ghost use Rattle.capture_file.specs.Packet.{interface_of};
 
 use crate::packet::Interface;
 use itoa::Buffer;
+use std::alloc::{AllocError, Global};
 use std::fmt;
 use std::fmt::{Display, Formatter};
 
@@ -27,6 +30,60 @@ fn is_place(name: &[u8], place: u32) -> bool
     match name.strip_prefix(b"if") {
         Some(rest) => rest == digits.format(place).as_bytes(),
         None => false,
+    }
+}
+
+/// Whether all octets are digits of ASCII.
+fn are_digits(octets: &[u8]) -> bool
+    ensures { result ≡ list_all is_ascii_digit octets.now }
+{
+    for octet in octets {
+        if !octet.is_ascii_digit() {
+            return false;
+        }
+    }
+    true
+}
+
+/// Whether a name is as that of a place: `if`, and digits alone.
+pub(crate) fn is_like_place(name: &[u8]) -> bool
+    ensures { result ≡ is_like_place name.now }
+{
+    match name.strip_prefix(b"if") {
+        Some(digits) => !digits.is_empty() && are_digits(digits),
+        None => false,
+    }
+}
+
+/// The text of a place: what an interface is called that has no name of its own.
+fn place_octets(alloc: Global, place: u32) -> Result<Vec<u8>, AllocError>
+    ensures { IfOk result (λ text. text.items ≡ place_text place) }
+{
+    let mut digits = Buffer::new();
+    let mut text = Vec::from_slice(alloc, b"if")?;
+    text.extend_from_slice(digits.format(place).as_bytes())?;
+    Ok(text)
+}
+
+impl Interface<'_> {
+    /// What it is called: by its own name, or else by its place.
+    pub fn called(&self, alloc: Global) -> Result<Vec<u8>, AllocError>
+        ensures { IfOk result (λ text. text.items ≡ name_of (interface_of self.now)) }
+    {
+        match self.name {
+            Some(name) => Vec::from_slice(alloc, name),
+            None => place_octets(alloc, self.place),
+        }
+    }
+
+    /// Whether it is called so.
+    pub fn is_called(&self, name: &[u8]) -> bool
+        ensures { result ≡ is_called name.now (interface_of self.now) }
+    {
+        match self.name {
+            Some(own) => name == own,
+            None => is_place(name, self.place),
+        }
     }
 }
 
@@ -57,10 +114,7 @@ impl InterfaceName {
     pub fn is_of(&self, interface: &Interface<'_>) -> bool
         ensures { result ≡ is_called (name_octets self.now) (interface_of interface.now) }
     {
-        match interface.name {
-            Some(name) => self.octets() == name,
-            None => is_place(self.octets(), interface.place),
-        }
+        interface.is_called(self.octets())
     }
 }
 

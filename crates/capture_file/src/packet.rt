@@ -11,7 +11,7 @@ pub const PACKET_LIMIT: usize = 65_536;
 pub struct Interface<'a> {
     /// Its place among the interfaces of the section, from 0.
     pub place: u32,
-    /// Its name, where it has one that no earlier interface of the section has.
+    /// Its name, where it has one of its own: not empty, not `if` and digits alone, and not that of an earlier interface of the section.
     pub name: Option<&'a [u8]>,
 }
 

@@ -4,6 +4,7 @@ ghost use Rattle.std.specs.List.{list_any};
 ghost use Rattle.capture_file.specs.Section.{has_name};
 ghost use Rattle.capture_file.specs.Inner.Described.{described_in, descriptions_in, is_among};
 
+use crate::name::is_like_place;
 use crate::options::Options;
 use crate::order::ByteOrder;
 use crate::resolution::Resolution;
@@ -78,12 +79,12 @@ impl Section {
         self.interfaces.get(place as usize)
     }
 
-    /// A name, where it isn't empty and no interface has it.
+    /// A name, where it isn't empty or as that of a place, and no interface has it.
     fn own_name<'a>(&self, name: Option<&'a [u8]>) -> Option<&'a [u8]>
         ensures { option_map (λ own. own.now) result ≡ own_name (descriptions_in self.now.interfaces.items) (option_map (λ text. text.now) name.entry) }
     {
         let name = name?;
-        if name.is_empty() || self.names.contains(name) {
+        if name.is_empty() || is_like_place(name) || self.names.contains(name) {
             return None;
         }
         Some(name)

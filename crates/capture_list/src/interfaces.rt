@@ -65,47 +65,14 @@ impl Display for Argument<'_> {
     }
 }
 
-/// The interfaces of one place: at which index each stands among all that were met.
-#[derive(Drop)]
-struct AtPlace {
-    nameless: Option<usize>,
-    named: BTreeMap<Vec<u8>, usize>,
-}
-
-impl AtPlace {
-    /// None was met.
-    fn new(alloc: Global) -> AtPlace {
-        AtPlace {
-            nameless: None,
-            named: BTreeMap::new(alloc),
-        }
-    }
-
-    /// At which index the one of a name stands, or the one without.
-    fn find(&self, name: Option<&[u8]>) -> Option<usize> {
-        match name {
-            Some(name) => self.named.get(name).copied(),
-            None => self.nameless,
-        }
-    }
-
-    /// Adds the one of a name, or the one without, at an index.
-    fn add(&mut self, alloc: Global, name: Option<&[u8]>, index: usize) -> Result<(), AllocError> {
-        match name {
-            Some(name) => {
-                self.named.insert(Vec::from_slice(alloc, name)?, index)?;
-            }
-            None => self.nameless = Some(index),
-        }
-        Ok(())
-    }
-}
-
-/// The interfaces in the order in which they were met. Those of one place and name are one, whatever section they are in.
+/// The interfaces in the order in which they were met. Those that are called alike are one, whatever section they are in.
 #[derive(Drop)]
 pub(crate) struct Interfaces {
     met: Vec<Place>,
-    places: BTreeMap<u32, AtPlace>,
+    /// At which index the one of a name stands.
+    named: BTreeMap<Vec<u8>, usize>,
+    /// At which index the one of a place stands that has no name of its own.
+    nameless: BTreeMap<u32, usize>,
 }
 
 impl Interfaces {
@@ -113,13 +80,17 @@ impl Interfaces {
     pub(crate) fn new(alloc: Global) -> Interfaces {
         Interfaces {
             met: Vec::new(alloc),
-            places: BTreeMap::new(alloc),
+            named: BTreeMap::new(alloc),
+            nameless: BTreeMap::new(alloc),
         }
     }
 
     /// At which index one stands, if it was met.
     pub(crate) fn find(&self, interface: &Interface<'_>) -> Option<usize> {
-        self.places.get(&interface.place)?.find(interface.name)
+        match interface.name {
+            Some(name) => self.named.get(name).copied(),
+            None => self.nameless.get(&interface.place).copied(),
+        }
     }
 
     /// Adds one that wasn't met, and answers its index.
@@ -129,16 +100,17 @@ impl Interfaces {
         interface: &Interface<'_>,
     ) -> Result<usize, AllocError> {
         let index = self.met.len();
-        let name = match interface.name {
-            Some(name) => Some(Vec::from_slice(alloc, name)?),
-            None => None,
-        };
         self.met.reserve(1)?;
-        let at_place = self
-            .places
-            .entry(interface.place)?
-            .or_insert_with(|| AtPlace::new(alloc));
-        at_place.add(alloc, interface.name, index)?;
+        let name = match interface.name {
+            Some(name) => {
+                self.named.insert(Vec::from_slice(alloc, name)?, index)?;
+                Some(Vec::from_slice(alloc, name)?)
+            }
+            None => {
+                self.nameless.insert(interface.place, index)?;
+                None
+            }
+        };
         self.met.push(Place {
             number: interface.place,
             name,
