@@ -8,14 +8,14 @@ use Rattle.event_codec.specs.declared.message.Body.TheVariants.{Sync, DelayReq}
 use Rattle.event_codec.specs.Packet.{Contents}
 use Rattle.sync_watch.specs.declared.judgement.Judgement.{Judgement}
 use Rattle.sync_watch.specs.declared.judgement.Judgement.TheVariants.{Newer, Repeated, BeganAnew}
-use Rattle.sync_watch.specs.Told.{Arrival}
+use Rattle.sync_watch.specs.declared.arrival.Arrival.{Arrival}
 use Rattle.sync_watch.specs.Judged.{judged_sync}
 use Rattle.slave_port.specs.History.{Call, Event, General}
 use Rattle.capture_model.specs.declared.watched.Watched.{Watched}
 use Rattle.capture_model.specs.Listening.{Listening, table_capacity, is_of, arrival_of, ready_judged, answer_in}
 use Rattle.recording_listener.specs.declared.listener.Reply.{Reply}
-use Rattle.recording_listener.specs.Beginnings.{begins_judged, sync_begins}
-use Rattle.recording_listener.specs.Became.{became_by, became_called, became_of}
+use Rattle.capture_model.specs.Begins.{is_beginning}
+use Rattle.recording_listener.specs.Became.{sync_begins, became_by, became_called, became_of}
 use Rattle.recording_listener.proofs.Replied.{own, asked}
 use Rattle.measure_summary.specs.declared.no_report.NoReport.TheVariants as whys
 use Rattle.capture_measure.specs.Counts.{why_answered, why_heard, is_next, is_last, slave_begins, master_begins}
@@ -37,20 +37,16 @@ slave_called false None = refl
 slave_called true (Some reply) = refl
 slave_called false (Some reply) = refl
 
-master_called : (begins : Bool) (reply : Reply) → is_master_anew (became_by begins (Some reply)) ≡ begins
-master_called true reply = refl
-master_called false reply = refl
-
 master_called_not : (reply : Option Reply) → is_master_anew (became_by false reply) ≡ false
 master_called_not None = refl
 master_called_not (Some reply) = refl
 
 -- by what the number of a Sync says
 master_judged : (of : Bool) (j : Judgement) (w : Watched) (line : ℕ) (call : Call) (a : Arrival) (l : Listening)
-    → is_master_anew (became_called (of && begins_judged j w call a l) call w
-    (if of then ready_judged j w line call a l else Some l)) ≡ (of && begins_judged j w call a l)
+    → is_master_anew (became_called (of && is_beginning j) call w
+    (if of then ready_judged j w line a l else Some l)) ≡ (of && is_beginning j)
 master_judged false j w line call a l = refl
-master_judged true Newer w line call a l = master_called (begins_judged Newer w call a l) _
+master_judged true Newer w line call a l = refl
 master_judged true Repeated w line call a l = refl
 master_judged true BeganAnew w line call a l = refl
 
@@ -90,13 +86,13 @@ asked_master false next last = refl
 module _ (w : Watched) (line time : ℕ) (m : Contents) where
   pub why-became : (body : Body) (l : Listening)
       → why_by w.domain m.header (became_of w line time m body l) ≡ why_heard w line time m body l
-  why-became (Sync origin) l = why_called w (Event (Ok m) time line) w.domain m.header (sync_begins w line time m l) _
+  why-became (Sync origin) l = why_called w (Event (Ok m) time line) w.domain m.header (sync_begins w time m l) _
   why-became (DelayReq origin) l = asked_why w.domain m.header (is_of w w.slave m.header) (is_next w l m.header.sequence.0)
       (is_last w l m.header.sequence.0) (m.header.domain == w.domain) refl
   why-became _ l = why_called w (General (Ok m) line) w.domain m.header false _
 
   pub slave-became : (body : Body) (l : Listening) → is_slave_anew (became_of w line time m body l) ≡ slave_begins w m body l
-  slave-became (Sync origin) l = slave_called (sync_begins w line time m l) _
+  slave-became (Sync origin) l = slave_called (sync_begins w time m l) _
   slave-became (DelayReq origin) l =
       asked_slave (is_of w w.slave m.header) (is_next w l m.header.sequence.0) (is_last w l m.header.sequence.0)
   slave-became _ l = slave_called false _

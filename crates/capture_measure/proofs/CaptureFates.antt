@@ -1,9 +1,8 @@
 -- What comes of the rows of a capture at the interface that is measured, with one more.
-use Rattle.std.proofs.Common.{◌≡◌, ◌∙◌, Bool, true, false, List, [], ◌∷◌, ◌++◌, length, drop, Option, Some, None, refl, sym, ap, subst, arith}
+use Rattle.std.proofs.Common.{◌≡◌, ◌∙◌, ℕ, Bool, true, false, List, [], ◌∷◌, ◌++◌, length, drop, Option, Some, None, refl, sym, ap, subst, arith}
 use Rattle.std.specs.Prelude.{if◌then◌else◌}
 use Rattle.std.specs.Option.{option_map_or}
 use Rattle.std.proofs.Math.ListN.{drop_of_length-le}
-use Rattle.capture_file.specs.Packet.{InterfaceOf}
 use Rattle.capture_model.specs.declared.watched.Watched.{Watched}
 use Rattle.measure_summary.specs.declared.counts.Counts.{Counts}
 use Rattle.capture_measure.specs.declared.watch.WantedPorts.{WantedPorts}
@@ -14,7 +13,7 @@ use Rattle.capture_measure.specs.Counts.{Fate, fate_at, fates, early_with, early
 use Rattle.capture_measure.specs.Inner.Counting.{CountsSoFar}
 use Rattle.capture_measure.proofs.Chosen.{capture-stays, heard-known}
 
-module _ (w : WantedPorts) (interface : InterfaceOf) where
+module _ (w : WantedPorts) (interface : List ℕ) where
   -- where it is known
   pub known-fates : (rows : List InterfaceRow) (those : List Row) (watched : Watched) → capture_watched w rows ≡ Some watched
       → heard_at w rows ≡ those
@@ -75,18 +74,18 @@ module _ (w : WantedPorts) (interface : InterfaceOf) where
         ∙ first_early is_kept watched same known)
 
 -- what is counted so far, where the interface is known, or isn't
-pub so_far : (w : WantedPorts) (rows : List InterfaceRow) (interface : InterfaceOf) (counts : Counts) → chosen w rows ≡ Some interface
+pub so_far : (w : WantedPorts) (rows : List InterfaceRow) (interface : List ℕ) (counts : Counts) → chosen w rows ≡ Some interface
     → IsCounts (capture_fates w interface rows) counts → CountsSoFar w (chosen w rows) rows counts
-so_far w rows interface counts is so = subst (λ (o : Option InterfaceOf). CountsSoFar w o rows counts) (sym is) so
+so_far w rows interface counts is so = subst (λ (o : Option (List ℕ)). CountsSoFar w o rows counts) (sym is) so
 
-pub so_far_known : (w : WantedPorts) (rows : List InterfaceRow) (interface : InterfaceOf) (counts : Counts) → chosen w rows ≡ Some interface
+pub so_far_known : (w : WantedPorts) (rows : List InterfaceRow) (interface : List ℕ) (counts : Counts) → chosen w rows ≡ Some interface
     → CountsSoFar w (chosen w rows) rows counts → IsCounts (capture_fates w interface rows) counts
-so_far_known w rows interface counts is so = subst (λ (o : Option InterfaceOf). CountsSoFar w o rows counts) is so
+so_far_known w rows interface counts is so = subst (λ (o : Option (List ℕ)). CountsSoFar w o rows counts) is so
 
 pub none_so_far : (w : WantedPorts) (rows : List InterfaceRow) (counts : Counts) → chosen w rows ≡ None → IsCounts [] counts
     → CountsSoFar w (chosen w rows) rows counts
-none_so_far w rows counts none so = subst (λ (o : Option InterfaceOf). CountsSoFar w o rows counts) (sym none) so
+none_so_far w rows counts none so = subst (λ (o : Option (List ℕ)). CountsSoFar w o rows counts) (sym none) so
 
 pub none_known : (w : WantedPorts) (rows : List InterfaceRow) (counts : Counts) → chosen w rows ≡ None
     → CountsSoFar w (chosen w rows) rows counts → IsCounts [] counts
-none_known w rows counts none so = subst (λ (o : Option InterfaceOf). CountsSoFar w o rows counts) none so
+none_known w rows counts none so = subst (λ (o : Option (List ℕ)). CountsSoFar w o rows counts) none so

@@ -5,7 +5,6 @@ use Rattle.std.specs.Prelude.{if◌then◌else◌, is_some, option_and_then, opt
 use Rattle.std.specs.Option.{option_or, option_map_or}
 use Rattle.std.proofs.lemmas.Bool.{and_parts, and_from}
 use Rattle.event_codec.specs.declared.port.PortIdentity.{PortIdentity}
-use Rattle.capture_file.specs.Packet.{InterfaceOf}
 use Rattle.capture_model.specs.declared.watched.Watched.{Watched}
 use Rattle.capture_model.specs.Recorded.{Recorded}
 use Rattle.capture_measure.specs.Made.{Measured}
@@ -55,7 +54,7 @@ watched_at-stays w d ds watched known =
     ap (λ b. if b then watched_in w (d ∷ ds) else None) (met_stays w d ds met) ∙ watched-stays w d ds watched is
 
 -- ---- one more row
-rows_more : (interface : InterfaceOf) (r : InterfaceRow) (rows : List InterfaceRow) (w : WantedPorts) (watched : Watched) (same : Bool)
+rows_more : (interface : List ℕ) (r : InterfaceRow) (rows : List InterfaceRow) (w : WantedPorts) (watched : Watched) (same : Bool)
     → watched_at w (datagrams (rows_at interface rows)) ≡ Some watched
     → watched_at w (datagrams (if same then r.row ∷ rows_at interface rows else rows_at interface rows)) ≡ Some watched
 rows_more interface r rows w watched true known =
@@ -63,24 +62,24 @@ rows_more interface r rows w watched true known =
 rows_more interface r rows w watched false known = known
 
 module _ (w : WantedPorts) (rows : List InterfaceRow) (r : InterfaceRow) where
-  pub chosen-stays : (interface : InterfaceOf) → chosen w rows ≡ Some interface → chosen w (r ∷ rows) ≡ Some interface
+  pub chosen-stays : (interface : List ℕ) → chosen w rows ≡ Some interface → chosen w (r ∷ rows) ≡ Some interface
   chosen-stays interface is = ap (λ o. option_or o (chosen_by w r rows)) is
 
-  pub capture-stays : (interface : InterfaceOf) (watched : Watched) → chosen w rows ≡ Some interface
+  pub capture-stays : (interface : List ℕ) (watched : Watched) → chosen w rows ≡ Some interface
       → capture_watched w rows ≡ Some watched → capture_watched w (r ∷ rows) ≡ Some watched
   capture-stays interface watched is known =
       ap (option_and_then (λ i. watched_at w (datagrams (rows_at i (r ∷ rows))))) (chosen-stays interface is)
       ∙ rows_more interface r rows w watched (is_same_interface interface r.interface)
       (sym (ap (option_and_then (λ i. watched_at w (datagrams (rows_at i rows)))) is) ∙ known)
 
-  pub heard-known : (interface : InterfaceOf) (same : Bool) → chosen w rows ≡ Some interface
+  pub heard-known : (interface : List ℕ) (same : Bool) → chosen w rows ≡ Some interface
       → is_same_interface interface r.interface ≡ same
       → heard_at w (r ∷ rows) ≡ (if same then r.row ∷ heard_at w rows else heard_at w rows)
   heard-known interface same is at =
       ap (λ o. heard_with o (chosen w (r ∷ rows)) r rows (heard_at w rows)) is
       ∙ ap (λ b. if b then r.row ∷ heard_at w rows else heard_at w rows) at
 
-  pub heard-first : (interface : InterfaceOf) (few : Bool) → chosen w rows ≡ None → chosen w (r ∷ rows) ≡ Some interface
+  pub heard-first : (interface : List ℕ) (few : Bool) → chosen w rows ≡ None → chosen w (r ∷ rows) ≡ Some interface
       → nat_le (length (r ∷ rows)) kept_most ≡ few
       → heard_at w (r ∷ rows) ≡ (if few then rows_at interface (r ∷ rows) else r.row ∷ [])
   heard-first interface few none is count =
@@ -127,7 +126,7 @@ measured-unknown w rows none =
 
 module _ (w : WantedPorts) (rows : List InterfaceRow) (r : InterfaceRow) where
   -- one more that is heard
-  pub measured-more : (interface : InterfaceOf) (watched : Watched) → chosen w rows ≡ Some interface
+  pub measured-more : (interface : List ℕ) (watched : Watched) → chosen w rows ≡ Some interface
       → capture_watched w rows ≡ Some watched → is_same_interface interface r.interface ≡ true
       → capture_measured w (r ∷ rows) ≡ option_to_list (measured_at watched (heard_at w rows) r.row) ++ capture_measured w rows
   measured-more interface watched is known same =
@@ -137,7 +136,7 @@ module _ (w : WantedPorts) (rows : List InterfaceRow) (r : InterfaceRow) where
       (sym (measured-known w rows watched known))
 
   -- one at another interface
-  pub measured-other : (interface : InterfaceOf) (watched : Watched) → chosen w rows ≡ Some interface
+  pub measured-other : (interface : List ℕ) (watched : Watched) → chosen w rows ≡ Some interface
       → capture_watched w rows ≡ Some watched → is_same_interface interface r.interface ≡ false
       → capture_measured w (r ∷ rows) ≡ capture_measured w rows
   measured-other interface watched is known other =

@@ -1,32 +1,20 @@
 -- The interfaces that are looked at differ, and one that isn't among them has no row while there is room.
-use Rattle.std.proofs.Common.{◌≡◌, ◌≢◌, ◌∙◌, ◌⊎◌, inl, inr, ℕ, zero, suc, ◌<◌, ◌≤◌, nat_le, Bool, true, false, true≢false, ◌==◌, ◌||◌}
-use Rattle.std.proofs.Common.{List, [], ◌∷◌, ◌++◌, length, get_or, Option, Some, None, refl, sym, ap, arith, length-append}
+use Rattle.std.proofs.Common.{◌≡◌, ◌≢◌, ◌∙◌, ◌⊎◌, inl, inr, ℕ, zero, suc, ◌<◌, ◌≤◌, nat_le, Bool, true, false, true≢false, ◌||◌}
+use Rattle.std.proofs.Common.{List, [], ◌∷◌, ◌++◌, length, get_or, refl, sym, ap, arith, length-append}
 use Rattle.std.specs.Prelude.{Decides, if◌then◌else◌}
-use Rattle.std.specs.Str.{bytes_eq}
 use Rattle.std.proofs.lemmas.Bool.{cases_lt, or_parts}
-use Rattle.std.proofs.lemmas.Bool.Decides.{Decides-eqb, Decides-and, Decides-like, not_from_Decides}
+use Rattle.std.proofs.lemmas.Bool.Decides.{not_from_Decides}
 use Rattle.std.proofs.lemmas.List.{get_or_push}
 use Rattle.std.proofs.lemmas.List.Folds.{list_any-append}
 use Rattle.std.proofs.Math.ListN.{get_or-append}
 use Rattle.std.proofs.lemmas.Slice.Eq.{bytes_eq-Decides}
-use Rattle.capture_file.specs.Packet.{InterfaceOf}
-use Rattle.capture_measure.specs.Interfaces.{InterfaceRow, is_same_name, is_same_interface, rows_at, is_among}
+use Rattle.capture_measure.specs.Interfaces.{InterfaceRow, is_same_interface, rows_at, is_among}
 use Rattle.capture_measure.specs.Interfaces.{interfaces_in, interfaces_most}
 
-same_name : (one other : Option (List ℕ)) → Decides (is_same_name one other) (one ≡ other)
-same_name None None = (λ _. refl, λ _. refl)
-same_name (Some one) (Some other) =
-    Decides-like (bytes_eq one other) (ap Some) (λ e. cc e) (bytes_eq-Decides one other)
-same_name None (Some other) = (λ e. absurd (true≢false (sym e)), λ e. absurd cc)
-same_name (Some one) None = (λ e. absurd (true≢false (sym e)), λ e. absurd cc)
+pub same_interface : (one other : List ℕ) → Decides (is_same_interface one other) (one ≡ other)
+same_interface one other = bytes_eq-Decides one other
 
-pub same_interface : (one other : InterfaceOf) → Decides (is_same_interface one other) (one ≡ other)
-same_interface one other = Decides-like (is_same_interface one other)
-    (λ e i. record { place = e.0 i; name = e.1 i }) (λ e. (ap (λ x. x.place) e, ap (λ x. x.name) e))
-    (Decides-and (one.place == other.place) (is_same_name one.name other.name)
-    (Decides-eqb one.place other.place) (same_name one.name other.name))
-
-pub other_way : (one other : InterfaceOf) → is_same_interface one other ≡ false → is_same_interface other one ≡ false
+pub other_way : (one other : List ℕ) → is_same_interface one other ≡ false → is_same_interface other one ≡ false
 other_way one other differ = go (is_same_interface other one) refl
   where
     go : (b : Bool) → is_same_interface other one ≡ b → b ≡ false
@@ -36,7 +24,7 @@ other_way one other differ = go (is_same_interface other one) refl
         absurd (not_from_Decides (is_same_interface one other) (same_interface one other) differ (sym same))
 
 -- none among these is this one
-pub not_among : (interface : InterfaceOf) (known : List InterfaceOf) (k : ℕ) (d : InterfaceOf) → is_among interface known ≡ false
+pub not_among : (interface : List ℕ) (known : List (List ℕ)) (k : ℕ) (d : List ℕ) → is_among interface known ≡ false
     → k < length known → is_same_interface (get_or known k d) interface ≡ false
 not_among interface [] k d none within = absurd (omega (arith, within))
 not_among interface (x ∷ known) zero d none within =
@@ -46,11 +34,11 @@ not_among interface (x ∷ known) (suc k) d none within =
     (omega (arith, within))
 
 -- ---- no two are alike
-abbrev pub AreDistinct : List InterfaceOf → Type 0
-AreDistinct known = (j k : ℕ) (d : InterfaceOf) → j ≢ k → j < length known → k < length known
+abbrev pub AreDistinct : List (List ℕ) → Type 0
+AreDistinct known = (j k : ℕ) (d : List ℕ) → j ≢ k → j < length known → k < length known
     → is_same_interface (get_or known j d) (get_or known k d) ≡ false
 
-distinct_more : (known : List InterfaceOf) (interface : InterfaceOf) → is_among interface known ≡ false → AreDistinct known
+distinct_more : (known : List (List ℕ)) (interface : List ℕ) → is_among interface known ≡ false → AreDistinct known
     → AreDistinct (known ++ interface ∷ [])
 distinct_more known interface none distinct j k d other within within' =
     go (cases_lt j (length known)) (cases_lt k (length known))
@@ -71,7 +59,7 @@ distinct_more known interface none distinct j k d other within within' =
         (other_way (get_or known k d) interface (not_among interface known k d none before))
     go (inr past) (inr past') = absurd (other (omega (arith, past, past', within, within', length-append known (interface ∷ []))))
 
-distinct_with : (interface : InterfaceOf) (known : List InterfaceOf) (there full : Bool) → is_among interface known ≡ there
+distinct_with : (interface : List ℕ) (known : List (List ℕ)) (there full : Bool) → is_among interface known ≡ there
     → AreDistinct known
     → AreDistinct (if there || full then known else known ++ interface ∷ [])
 distinct_with interface known true full is distinct = distinct
@@ -85,7 +73,7 @@ distinct_in (r ∷ earlier) =
     (nat_le interfaces_most (length (interfaces_in earlier))) refl (distinct_in earlier)
 
 -- ---- one that isn't among them has no row, while there is room
-among_more : (interface other : InterfaceOf) (known : List InterfaceOf) (there full : Bool)
+among_more : (interface other : List ℕ) (known : List (List ℕ)) (there full : Bool)
     → is_among other known ≡ there → nat_le interfaces_most (length known) ≡ full
     → is_among interface (if there || full then known else known ++ other ∷ []) ≡ false
     → nat_le interfaces_most (length (if there || full then known else known ++ other ∷ [])) ≡ false
@@ -102,7 +90,7 @@ among_more interface other known false false is room none few =
     (sym (list_any-append (λ one. is_same_interface one interface) known (other ∷ [])) ∙ none) in
     (parts.0, room, other_way other interface (or_parts (is_same_interface other interface) false parts.1).0)
 
-pub no_rows : (interface : InterfaceOf) (rows : List InterfaceRow) → is_among interface (interfaces_in rows) ≡ false
+pub no_rows : (interface : List ℕ) (rows : List InterfaceRow) → is_among interface (interfaces_in rows) ≡ false
     → nat_le interfaces_most (length (interfaces_in rows)) ≡ false → rows_at interface rows ≡ []
 no_rows interface [] none few = refl
 no_rows interface (r ∷ earlier) none few =

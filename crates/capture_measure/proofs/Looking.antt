@@ -9,7 +9,7 @@ use Rattle.text_lines.specs.declared.line_fault.LineFault.{LineFault}
 use Rattle.text_lines.specs.declared.line_fault.LineFault.TheVariants.{Write, Field, Memory}
 use Rattle.text_lines.specs.Fault.{is_write}
 use Rattle.text_lines.specs.Task.{WentOut}
-use Rattle.capture_file.specs.Packet.{InterfaceOf, PacketOf}
+use Rattle.capture_file.specs.Packet.{PacketOf}
 use Rattle.capture_measure.specs.Made.{Measured}
 use Rattle.capture_model.specs.declared.watched.Watched.{Watched}
 use Rattle.capture_model.specs.Listening.{after_all}
@@ -71,17 +71,17 @@ module _ (w : WantedPorts) (rows : List InterfaceRow) (r : InterfaceRow) (record
     (there : (d : Recording) → interface_in (get_or recordings place d) ≡ r.interface) where
   -- what is known at the interface of the datagram
   pub noticed_there : (d : Recording) → IsNoticed w (datagrams (rows_at r.interface (r ∷ rows))) (get_or recordings place d)
-  noticed_there d = subst (λ (i : InterfaceOf). IsNoticed w (datagrams (rows_at i (r ∷ rows))) (get_or recordings place d)) (there d)
+  noticed_there d = subst (λ (i : List ℕ). IsNoticed w (datagrams (rows_at i (r ∷ rows))) (get_or recordings place d)) (there d)
       (are.each place d within).noticed
 
   pub early_there : (d : Recording)
       → IsCounts (early_at w (rows_at r.interface (r ∷ rows))) (get_or recordings place d).early.counts
-  early_there d = subst (λ (i : InterfaceOf). IsCounts (early_at w (rows_at i (r ∷ rows))) (get_or recordings place d).early.counts)
+  early_there d = subst (λ (i : List ℕ). IsCounts (early_at w (rows_at i (r ∷ rows))) (get_or recordings place d).early.counts)
       (there d) (are.each place d within).early
 
   pub kept_there : (d : Recording) → length rows < kept_most
       → AreKeptRows [] (get_or recordings place d).kept.items (rows_at r.interface (r ∷ rows))
-  kept_there d few = subst (λ (i : InterfaceOf). AreKeptRows [] (get_or recordings place d).kept.items (rows_at i (r ∷ rows))) (there d)
+  kept_there d few = subst (λ (i : List ℕ). AreKeptRows [] (get_or recordings place d).kept.items (rows_at i (r ∷ rows))) (there d)
       ((are.each place d within).kept (omega (arith, few)))
 
   pub begins_with : (is_kept : Bool) (newest : Row) → is_kept ≡ nat_lt (length rows) kept_most → r.row ≡ newest
@@ -125,7 +125,7 @@ began w rows r recordings place watched heard (Hearing at listener) within there
 )
 
 -- an interface that wasn't found isn't among them
-pub not_found : (interface : InterfaceOf) (known : List InterfaceOf) (found : Option ℕ) (recordings : List Recording)
+pub not_found : (interface : List ℕ) (known : List (List ℕ)) (found : Option ℕ) (recordings : List Recording)
     → IsFoundAt interface known found recordings → ((place : ℕ) → found ≡ Some place → ⊥) → is_among interface known ≡ false
 not_found interface known None recordings is none = is
 not_found interface known (Some place) recordings is none = absurd (none place refl)
@@ -170,7 +170,7 @@ module _ (w : WantedPorts) (rows : List InterfaceRow) (r : InterfaceRow) (record
 
 -- ---- whom the packets are of that are measured
 -- once that is known, one more row changes nothing of it
-row_whom : (w : WantedPorts) (interface : InterfaceOf) (r : InterfaceRow) (rows : List InterfaceRow) (watched : Watched) (same : Bool)
+row_whom : (w : WantedPorts) (interface : List ℕ) (r : InterfaceRow) (rows : List InterfaceRow) (watched : Watched) (same : Bool)
     → watched_at w (datagrams (rows_at interface rows)) ≡ Some watched
     → whom_in w (datagrams (if same then r.row ∷ rows_at interface rows else rows_at interface rows))
     ≡ whom_in w (datagrams (rows_at interface rows))
@@ -178,7 +178,7 @@ row_whom w interface r rows watched true known = whom_stays w r.row.datagram (da
     (where_met w (datagrams (rows_at interface rows)) watched (is_met w (datagrams (rows_at interface rows))) refl known).1
 row_whom w interface r rows watched false known = refl
 
-pub capture_whom_stays : (w : WantedPorts) (rows : List InterfaceRow) (r : InterfaceRow) (interface : InterfaceOf) (watched : Watched)
+pub capture_whom_stays : (w : WantedPorts) (rows : List InterfaceRow) (r : InterfaceRow) (interface : List ℕ) (watched : Watched)
     → chosen w rows ≡ Some interface → capture_watched w rows ≡ Some watched → capture_whom w (r ∷ rows) ≡ capture_whom w rows
 capture_whom_stays w rows r interface watched is known =
     ap (option_map (λ i. whom_in w (datagrams (rows_at i (r ∷ rows))))) (chosen-stays w rows r interface is)

@@ -13,7 +13,6 @@ use Rattle.event_codec.specs.declared.message.Header.{Header}
 use Rattle.event_codec.specs.declared.port.PortIdentity.{PortIdentity}
 use Rattle.event_codec.specs.Packet.{Contents}
 use Rattle.event_codec.specs.Port.{is_same_port}
-use Rattle.capture_file.specs.Packet.{InterfaceOf}
 use Rattle.capture_model.specs.Recorded.{Recorded}
 use Rattle.capture_measure.specs.declared.recording.Kept.{Kept}
 use Rattle.capture_measure.specs.declared.recording.Met.{Met}
@@ -77,7 +76,7 @@ AreKeptRows-more earlier rows (x ∷ kept) k row are is =
     (are.0, are.1, AreKeptRows-more (are.0 ∷ earlier) rows kept k row are.2 is)
 
 -- ---- which of them is that of an interface
-pub none_among : (interface : InterfaceOf) (xs : List Recording)
+pub none_among : (interface : List ℕ) (xs : List Recording)
     → ((k : ℕ) (d : Recording) → k < length xs → is_same_interface (interface_in (get_or xs k d)) interface ≡ false)
     → is_among interface (map interface_in xs) ≡ false
 none_among interface [] none = refl
@@ -85,7 +84,7 @@ none_among interface (x ∷ xs) none =
     ap (λ b. b || is_among interface (map interface_in xs)) (none 0 x (omega arith))
     ∙ none_among interface xs (λ k d within. none (suc k) d (omega (arith, within)))
 
-pub among_recordings : (interface : InterfaceOf) (xs : List Recording) (k : ℕ) → k < length xs
+pub among_recordings : (interface : List ℕ) (xs : List Recording) (k : ℕ) → k < length xs
     → ((d : Recording) → interface_in (get_or xs k d) ≡ interface) → is_among interface (map interface_in xs) ≡ true
 among_recordings interface [] k within is = absurd (omega (arith, within))
 among_recordings interface (x ∷ xs) zero within is =
@@ -95,11 +94,11 @@ among_recordings interface (x ∷ xs) (suc k) within is =
     (among_recordings interface xs k (omega (arith, within)) is)
 
 -- ---- one datagram more at an interface, and at others
-same_rows : (interface : InterfaceOf) (r : InterfaceRow) (rows : List InterfaceRow) → is_same_interface interface r.interface ≡ false
+same_rows : (interface : List ℕ) (r : InterfaceRow) (rows : List InterfaceRow) → is_same_interface interface r.interface ≡ false
     → rows_at interface (r ∷ rows) ≡ rows_at interface rows
 same_rows interface r rows other = ap (λ b. if b then r.row ∷ rows_at interface rows else rows_at interface rows) other
 
-more_rows : (interface : InterfaceOf) (r : InterfaceRow) (rows : List InterfaceRow) → interface ≡ r.interface
+more_rows : (interface : List ℕ) (r : InterfaceRow) (rows : List InterfaceRow) → interface ≡ r.interface
     → rows_at interface (r ∷ rows) ≡ r.row ∷ rows_at interface rows
 more_rows interface r rows is = ap (λ b. if b then r.row ∷ rows_at interface rows else rows_at interface rows)
     ((same_interface interface r.interface).1 is)
@@ -113,27 +112,27 @@ IsRecording-other w rows r x other is =
       early = subst (λ (rs : List Row). IsCounts (early_at w rs) x.early.counts) same is.early;
     }
 
-pub IsRecording-there : (w : WantedPorts) (rows : List InterfaceRow) (r : InterfaceRow) (interface : InterfaceOf) (x : Recording)
+pub IsRecording-there : (w : WantedPorts) (rows : List InterfaceRow) (r : InterfaceRow) (interface : List ℕ) (x : Recording)
     → interface ≡ r.interface → interface_in x ≡ interface
     → IsNoticed w (r.row.datagram ∷ datagrams (rows_at interface rows)) x
     → (length rows + 1 ≤ kept_most → AreKeptRows [] x.kept.items (r.row ∷ rows_at interface rows))
     → IsCounts (early_at w (r.row ∷ rows_at interface rows)) x.early.counts → IsRecording w (r ∷ rows) x
 IsRecording-there w rows r interface x there is noticed kept early =
     let same : r.row ∷ rows_at interface rows ≡ rows_at (interface_in x) (r ∷ rows) =
-    sym (ap (λ (i : InterfaceOf). rows_at i (r ∷ rows)) is ∙ more_rows interface r rows there) in record {
+    sym (ap (λ (i : List ℕ). rows_at i (r ∷ rows)) is ∙ more_rows interface r rows there) in record {
       noticed = subst (λ (rs : List Row). IsNoticed w (datagrams rs) x) same noticed;
       kept = λ few. subst (AreKeptRows [] x.kept.items) same (kept (omega (arith, few)));
       early = subst (λ (rs : List Row). IsCounts (early_at w rs) x.early.counts) same early;
     }
 
 -- the others are at other interfaces
-others_differ : (known : List InterfaceOf) (xs : List Recording) (j k : ℕ) (d : Recording) (interface : InterfaceOf)
+others_differ : (known : List (List ℕ)) (xs : List Recording) (j k : ℕ) (d : Recording) (interface : List ℕ)
     → map interface_in xs ≡ known → AreDistinct known → j ≢ k → j < length xs → k < length xs
     → interface_in (get_or xs k d) ≡ interface → is_same_interface (interface_in (get_or xs j d)) interface ≡ false
 others_differ known xs j k d interface are distinct other within within' is =
     let count : length known ≡ length xs = ap length (sym are) ∙ length-map xs interface_in in
     let at : (i : ℕ) → i < length xs → get_or known i (interface_in d) ≡ interface_in (get_or xs i d) =
-    λ i inside. ap (λ (l : List InterfaceOf). get_or l i (interface_in d)) (sym are) ∙ get_or-map interface_in xs i d (interface_in d) inside in
+    λ i inside. ap (λ (l : List (List ℕ)). get_or l i (interface_in d)) (sym are) ∙ get_or-map interface_in xs i d (interface_in d) inside in
     ap (is_same_interface (interface_in (get_or xs j d))) (sym is)
     ∙ (λ i. is_same_interface (sym (at j within) i) (sym (at k within') i))
     ∙ distinct j k (interface_in d) other (omega (arith, within, count)) (omega (arith, within', count))
@@ -142,8 +141,8 @@ others_differ known xs j k d interface are distinct other within within' is =
 map-set : (xs : List Recording) (place : ℕ) (x : Recording) → ((d : Recording) → interface_in x ≡ interface_in (get_or xs place d))
     → map interface_in (slice_set xs place x) ≡ map interface_in xs
 map-set [] place x same = refl
-map-set (y ∷ xs) zero x same = ap (λ (i : InterfaceOf). i ∷ map interface_in xs) (same x)
-map-set (y ∷ xs) (suc place) x same = ap (λ (is : List InterfaceOf). interface_in y ∷ is) (map-set xs place x same)
+map-set (y ∷ xs) zero x same = ap (λ (i : List ℕ). i ∷ map interface_in xs) (same x)
+map-set (y ∷ xs) (suc place) x same = ap (λ (is : List (List ℕ)). interface_in y ∷ is) (map-set xs place x same)
 
 pub taken_there : (w : WantedPorts) (rows : List InterfaceRow) (r : InterfaceRow) (added : List Recording) (place : ℕ) (x : Recording)
     → map interface_in added ≡ interfaces_in (r ∷ rows) → place < length added
@@ -170,22 +169,22 @@ taken_nowhere w rows r added are none each = record {
   interfaces = are;
   each = λ k d inside.
       IsRecording-other w rows r (get_or added k d)
-      (ap (λ (i : InterfaceOf). is_same_interface i r.interface) (sym (get_or-map interface_in added k d (interface_in d) inside))
+      (ap (λ (i : List ℕ). is_same_interface i r.interface) (sym (get_or-map interface_in added k d (interface_in d) inside))
       ∙ not_among r.interface (map interface_in added) k (interface_in d) none (omega (arith, inside, length-map added interface_in)))
       (each k d inside);
 }
 
 -- ---- an interface that was found or added
-fresh_recording : (w : WantedPorts) (rows : List InterfaceRow) (interface : InterfaceOf) (x : Recording) → IsFresh w interface x
+fresh_recording : (w : WantedPorts) (rows : List InterfaceRow) (interface : List ℕ) (x : Recording) → IsFresh w interface x
     → rows_at interface rows ≡ [] → IsRecording w rows x
 fresh_recording w rows interface x fresh none =
-    let nothing : [] ≡ rows_at (interface_in x) rows = sym (ap (λ (i : InterfaceOf). rows_at i rows) fresh.is_at ∙ none) in record {
+    let nothing : [] ≡ rows_at (interface_in x) rows = sym (ap (λ (i : List ℕ). rows_at i rows) fresh.is_at ∙ none) in record {
       noticed = subst (λ (rs : List Row). IsNoticed w (datagrams rs) x) nothing fresh.noticed;
       kept = λ few. subst (λ (kept : List Kept). AreKeptRows [] kept (rows_at (interface_in x) rows)) (sym fresh.kept) (sym nothing);
       early = subst (λ (rs : List Row). IsCounts (early_at w rs) x.early.counts) nothing fresh.early;
     }
 
-pub each_added : (w : WantedPorts) (rows : List InterfaceRow) (interface : InterfaceOf) (found : Option ℕ) (old new : List Recording)
+pub each_added : (w : WantedPorts) (rows : List InterfaceRow) (interface : List ℕ) (found : Option ℕ) (old new : List Recording)
     → AreRecordings w rows old → HasAdded w interface found old new → All (IsRecording w rows) new
 each_added w rows interface found old new are added = go added.recordings
   where
@@ -204,7 +203,7 @@ interfaces_added w rows r found old new are added =
     added.interfaces ∙ ap (with_interface r.interface) are.interfaces
 
 -- an interface that wasn't there was added
-pub added_one : (w : WantedPorts) (interface : InterfaceOf) (old new : List Recording) (x : Recording) → IsFresh w interface x
+pub added_one : (w : WantedPorts) (interface : List ℕ) (old new : List Recording) (x : Recording) → IsFresh w interface x
     → new ≡ old ++ x ∷ [] → (place : ℕ) → place ≡ length old → is_among interface (map interface_in old) ≡ false
     → length old < interfaces_most → HasAdded w interface (Some place) old new
 added_one w interface old new x fresh more place at none room = subst (λ (n : ℕ). HasAdded w interface (Some n) old new) (sym at) (
@@ -214,7 +213,7 @@ added_one w interface old new x fresh more place at none room = subst (λ (n : �
     ∙ ap interface_in (get_or_push old x d (length old) refl) ∙ fresh.is_at in
     let within : length old < length new = omega (arith, ap length more, length-append old (x ∷ [])) in record {
       interfaces = ap (map interface_in) more ∙ map-append interface_in old (x ∷ [])
-          ∙ ap (λ (i : InterfaceOf). map interface_in old ++ i ∷ []) fresh.is_at
+          ∙ ap (λ (i : List ℕ). map interface_in old ++ i ∷ []) fresh.is_at
           ∙ sym (ap (λ b. if b || nat_le interfaces_most (length (map interface_in old)) then map interface_in old
           else map interface_in old ++ interface ∷ []) none
           ∙ ap (λ b. if b then map interface_in old else map interface_in old ++ interface ∷ [])

@@ -12,7 +12,6 @@ use Rattle.text_lines.specs.Task as lines
 use Rattle.capture_file.specs.declared.fault.CaptureCause.{CaptureCause}
 use Rattle.capture_file.specs.declared.fault.CaptureCause.TheVariants as causes
 use Rattle.capture_file.specs.declared.fault.CaptureStop.{CaptureStop}
-use Rattle.capture_file.specs.Packet.{InterfaceOf}
 use Rattle.capture_file.specs.Parts.{Part, packets_of}
 use Rattle.capture_file.specs.Task as packets
 use Rattle.capture_model.specs.declared.watched.Watched.{Watched}
@@ -109,7 +108,7 @@ module _ {T : Type 0} (of : T → CaptureMeasuring) (is_left : T → T → LineF
         packets_until stop.packets stop.what parts rest state text has numbered left
 
 -- ---- what is told of a capture
-at_place : (place : ℕ) (known : List recordings.Recording) (interface : Option InterfaceOf) → place < length known
+at_place : (place : ℕ) (known : List recordings.Recording) (interface : Option (List ℕ)) → place < length known
     → ((d : recordings.Recording) → interface ≡ Some (interface_in (get_or known place d)))
     → option_map interface_in (slice_get known place) ≡ interface
 at_place zero [] interface within is = absurd (omega (arith, within))
@@ -122,7 +121,7 @@ pub interface_chosen : (w : WantedPorts) (rows : List InterfaceRow) (known : Lis
 interface_chosen w rows known (Looking count) (none, are, few) = sym none
 interface_chosen w rows known (Hearing place listener) (watched, within, is, of, listens) = at_place place known (chosen w rows) within is
 
-counted : (w : WantedPorts) (rows : List InterfaceRow) (interface : Option InterfaceOf) (watched : Watched) (counts : Counts)
+counted : (w : WantedPorts) (rows : List InterfaceRow) (interface : Option (List ℕ)) (watched : Watched) (counts : Counts)
     → option_and_then (λ i. watched_at w (datagrams (rows_at i rows))) interface ≡ Some watched
     → CountsSoFar w interface rows counts → AreCaptured w interface rows (Some counts)
 counted w rows None watched counts known so_far = absurd cc
@@ -132,6 +131,6 @@ pub counts_captured : (w : WantedPorts) (rows : List InterfaceRow) (known : List
     → IsCaptureStage w rows known stage → CountsSoFar w (chosen w rows) rows counts
     → AreCaptured w (chosen w rows) rows (counts_at stage counts)
 counts_captured w rows known (Looking count) counts (none, are, few) so_far =
-    subst (λ (i : Option InterfaceOf). AreCaptured w i rows None) (sym none) refl
+    subst (λ (i : Option (List ℕ)). AreCaptured w i rows None) (sym none) refl
 counts_captured w rows known (Hearing place listener) counts (watched, within, is, of, listens) so_far =
     counted w rows (chosen w rows) watched counts of so_far

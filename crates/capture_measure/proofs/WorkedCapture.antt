@@ -1,12 +1,12 @@
 -- A worked capture of two interfaces, at one of which alone a slave asks: which is measured, which of its rows are heard, and what
 -- is written of them.
-use Rattle.std.proofs.Common.{◌≡◌, refl, List, [], ◌∷◌, map, codes, Some, None}
+use Rattle.std.proofs.Common.{◌≡◌, refl, ℕ, List, [], ◌∷◌, map, codes, Some, None}
 use Rattle.ptp_units.specs.Moment.{stamp}
 use Rattle.event_codec.specs.declared.message.Body.TheVariants.{Sync, DelayReq, DelayResp}
 use Rattle.ptp_units.specs.Nanoseconds.{decimals}
 use Rattle.std.specs.Fmt.{digits}
-use Rattle.capture_file.specs.Packet.{InterfaceOf}
 use Rattle.capture_measure.specs.declared.measuring.Form.TheVariants.{Table}
+use Rattle.capture_file.specs.Name.{called}
 use Rattle.capture_measure.specs.Row.{Row}
 use Rattle.capture_measure.specs.Interfaces.{InterfaceRow, interfaces_in}
 use Rattle.capture_measure.specs.Chosen.{chosen, heard_at, capture_written}
@@ -15,13 +15,13 @@ use Rattle.measure_summary.specs.declared.no_report.NoReport.TheVariants.{OfSlav
 use Rattle.capture_measure.proofs.Worked.{port, said, a_line, anybody}
 
 -- an interface without a name, and one that has one
-abbrev first : InterfaceOf
-first = record { place = 0; name = None }
+abbrev first : List ℕ
+first = called 0 None
 
-abbrev tap : InterfaceOf
-tap = record { place = 1; name = Some (codes "tap") }
+abbrev tap : List ℕ
+tap = called 1 (Some (codes "tap"))
 
-abbrev at : InterfaceOf → Row → InterfaceRow
+abbrev at : List ℕ → Row → InterfaceRow
 at interface it = record { interface = interface; row = it }
 
 abbrev sync : Row
@@ -43,20 +43,30 @@ rows =
     ∷ at first (a_line 1 (codes "7") 7000000000 (said (port 5 0) 7 (Sync (stamp 7 0)))) ∷ []
 
 both : interfaces_in rows ≡ first ∷ tap ∷ []
+unfolding digits
 both = refl
 
+-- one without a name at another place, and one of that name in another section, which is the same
+nameless : called 3 None ≡ codes "if3"
+unfolding digits
+nameless = refl
+
 measured : chosen anybody rows ≡ Some tap
+unfolding digits
 measured = refl
 
 those_at_the_tap : heard_at anybody rows ≡ response ∷ request ∷ sync ∷ []
+unfolding digits
 those_at_the_tap = refl
 
 -- of a domain that was met nowhere nothing is measured
 not_met : chosen (record { slave = None; master = None; domain = Some 4; interface = None }) rows ≡ None
+unfolding digits
 not_met = refl
 
 -- the slave that is asked for sent nothing, though it is told to whom the tap's response goes
 no_slave : chosen (record { slave = Some (port 9 0).identity; master = None; domain = None; interface = None }) rows ≡ None
+unfolding digits
 no_slave = refl
 
 -- (5,000 - 3,000) / 2 ns and (5,000 + 3,000) / 2 ns
@@ -66,4 +76,5 @@ row_written = refl
 
 -- of those at the tap the Delay_Resp brings the report, and those at the first interface aren't counted
 why_not : map (λ fate. fate.why) (capture_fates anybody tap rows) ≡ None ∷ Some OfSlave ∷ Some Alone ∷ []
+unfolding digits
 why_not = refl

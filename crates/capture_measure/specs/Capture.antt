@@ -7,7 +7,7 @@ use Rattle.text_lines.specs.declared.line_fault.LineFault.{LineFault}
 use Rattle.text_lines.specs.declared.line_fault.LineFault.TheVariants.{Write, Field, Memory}
 use Rattle.text_lines.specs.Fault.{is_write}
 use Rattle.capture_file.specs.declared.name.InterfaceName.{InterfaceName}
-use Rattle.capture_file.specs.Name.{is_asked}
+use Rattle.capture_file.specs.Name.{is_asked, name_of}
 use Rattle.capture_file.specs.Packet.{PacketOf, Captured, Timeless, Simple}
 use Rattle.capture_file.specs.Task.{PacketRules}
 use Rattle.capture_frame.specs.Found.{Datagram, IsFound}
@@ -30,7 +30,7 @@ pub record IsDatagramRow (number : ℕ) (time : Stamp) (datagram : List ℕ) (ro
 abbrev pub IsPacketRow : Option InterfaceName → (number : ℕ) → PacketOf → InterfaceRow → Type 0
 IsPacketRow asked number (Captured interface time link octets) r =
     (is_asked asked interface ≡ true)
-    × (datagram : List ℕ) × IsFound link octets (Datagram datagram) × (r.interface ≡ interface)
+    × (datagram : List ℕ) × IsFound link octets (Datagram datagram) × (r.interface ≡ name_of interface)
     × IsDatagramRow number time datagram r.row
 IsPacketRow asked number Timeless r = ⊥
 IsPacketRow asked number Simple r = ⊥

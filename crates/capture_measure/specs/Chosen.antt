@@ -7,7 +7,6 @@ use Rattle.std.specs.Result.{result_ok}
 use Rattle.event_codec.specs.declared.message.Header.{Header}
 use Rattle.event_codec.specs.declared.port.PortIdentity.{PortIdentity}
 use Rattle.event_codec.specs.Port.{is_same_port}
-use Rattle.capture_file.specs.Packet.{InterfaceOf}
 use Rattle.capture_model.specs.declared.watched.Watched.{Watched}
 use Rattle.capture_model.specs.Recorded.{Recorded}
 use Rattle.capture_measure.specs.Made.{Measured}
@@ -41,20 +40,20 @@ abbrev pub watched_at : WantedPorts → List Recorded → Option Watched
 watched_at w ds = if is_met w ds then watched_in w ds else None
 
 -- the interface of the newest of these rows, where it is looked at and it is known whom its datagrams are of
-abbrev pub chosen_by : WantedPorts → InterfaceRow → (earlier : List InterfaceRow) → Option InterfaceOf
+abbrev pub chosen_by : WantedPorts → InterfaceRow → (earlier : List InterfaceRow) → Option (List ℕ)
 chosen_by w r earlier =
     if is_among r.interface (interfaces_in (r ∷ earlier))
     && is_some (watched_at w (datagrams (rows_at r.interface (r ∷ earlier))))
     then Some r.interface else None
 
 -- the interface that is measured
-abbrev pub chosen : WantedPorts → List InterfaceRow → Option InterfaceOf
+abbrev pub chosen : WantedPorts → List InterfaceRow → Option (List ℕ)
 chosen w [] = None
 chosen w (r ∷ earlier) = option_or (chosen w earlier) (chosen_by w r earlier)
 
 -- The rows that are heard with one more: those at the interface that is measured. Once that is known, and not too many
 -- rows came before, those before are heard, too.
-abbrev pub heard_with : (before now : Option InterfaceOf) → InterfaceRow → (earlier : List InterfaceRow)
+abbrev pub heard_with : (before now : Option (List ℕ)) → InterfaceRow → (earlier : List InterfaceRow)
     → (heard : List Row) → List Row
 heard_with (Some interface) now r earlier heard =
     if is_same_interface interface r.interface then r.row ∷ heard else heard

@@ -19,11 +19,10 @@ use Rattle.slave_port.specs.declared.heard.Heard.TheVariants as answers
 use Rattle.slave_port.specs.declared.reason.Reason.{Reason}
 use Rattle.slave_port.specs.declared.reason.Reason.TheVariants as reasons
 use Rattle.slave_port.specs.History.{next_number}
-use Rattle.capture_file.specs.Packet.{InterfaceOf}
 use Rattle.capture_model.specs.declared.watched.Watched.{Watched}
 use Rattle.capture_model.specs.Recorded.{Recorded}
 use Rattle.capture_model.specs.Listening.{Listening, setup_in, table_capacity, is_of, answered, after_all}
-use Rattle.recording_listener.specs.Beginnings.{sync_begins}
+use Rattle.recording_listener.specs.Became.{sync_begins}
 use Rattle.capture_measure.specs.Made.{Measured}
 use Rattle.recording_quality.specs.Noted.{Noted}
 use Rattle.recording_quality.specs.declared.others.Meeting.{Meeting}
@@ -143,7 +142,7 @@ slave_begins w m body l = false
 
 -- the master, by any message
 abbrev pub master_begins : Watched → (line time : ℕ) → Contents → Body → Listening → Bool
-master_begins w line time m (bodies.Sync origin) l = sync_begins w line time m l
+master_begins w line time m (bodies.Sync origin) l = sync_begins w time m l
 master_begins w line time m body l = false
 
 -- ---- what came of each datagram
@@ -216,7 +215,7 @@ early_at w [] = []
 early_at w (row ∷ earlier) = early_with (watched_at w (datagrams (row ∷ earlier))) row.datagram (early_at w earlier)
 
 -- what comes of the rows of a capture at the interface that is measured: of those that are heard, and of those before them
-abbrev pub capture_fates : WantedPorts → InterfaceOf → List InterfaceRow → List Fate
+abbrev pub capture_fates : WantedPorts → List ℕ → List InterfaceRow → List Fate
 capture_fates w interface rows = option_map_or (λ watched. fates watched (heard_at w rows)) (capture_watched w rows) []
     ++ early_at w (drop (length (heard_at w rows)) (rows_at interface rows))
 
@@ -265,6 +264,6 @@ AreCounted all None = ⊥
 AreCounted all (Some counts) = IsCounts all counts
 
 -- what is counted of a capture, at the interface that is measured, once that is known
-abbrev pub AreCaptured : WantedPorts → (measured : Option InterfaceOf) → List InterfaceRow → Option Counts → Type 0
+abbrev pub AreCaptured : WantedPorts → (measured : Option (List ℕ)) → List InterfaceRow → Option Counts → Type 0
 AreCaptured w None rows counts = counts ≡ None
 AreCaptured w (Some interface) rows counts = AreCounted (capture_fates w interface rows) counts

@@ -10,7 +10,6 @@ use Rattle.text_lines.specs.Task.{TakesLines}
 use Rattle.capture_file.specs.declared.fault.CaptureCause.{CaptureCause}
 use Rattle.capture_file.specs.declared.fault.CaptureCause.TheVariants as causes
 use Rattle.capture_file.specs.declared.fault.CaptureStop.{CaptureStop}
-use Rattle.capture_file.specs.Packet.{InterfaceOf}
 use Rattle.capture_file.specs.Parts.{Part, packets_of}
 use Rattle.capture_file.specs.Task.{HasTaken}
 use Rattle.capture_measure.specs.declared.input.Measured.{Measured}
@@ -41,22 +40,22 @@ told_whom summary = summary.whom
 abbrev pub told_counts : Summary → Option Counts
 told_counts summary = summary.counts
 
--- the interface of a place
-abbrev pub place_of : Place → InterfaceOf
-place_of place = record { place = place.number; name = option_map (λ name. name.items) place.name }
+-- what the interface of a place is called
+abbrev pub place_of : Place → List ℕ
+place_of place = place.name.items
 
-abbrev pub interface_in : Known → InterfaceOf
+abbrev pub interface_in : Known → List ℕ
 interface_in known = place_of known.place
 
-abbrev pub interface_at : PacketStage → List Known → Option InterfaceOf
+abbrev pub interface_at : PacketStage → List Known → Option (List ℕ)
 interface_at (Looking count) known = None
 interface_at (Hearing place listener) known = option_map interface_in (slice_get known place)
 
-abbrev pub interface_measured : Measured → Option InterfaceOf
+abbrev pub interface_measured : Measured → Option (List ℕ)
 interface_measured (measured.Lines task) = None
 interface_measured (measured.Capture task) = interface_at task.stage task.recordings.recordings.items
 
-abbrev pub told_interface : Summary → Option InterfaceOf
+abbrev pub told_interface : Summary → Option (List ℕ)
 told_interface summary = interface_measured summary.of
 
 -- what is told of lines that were read

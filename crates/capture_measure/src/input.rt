@@ -5,7 +5,6 @@ ghost use Rattle.std.specs.List.{All};
 ghost use Rattle.std.specs.Option.{ForSome};
 ghost use Rattle.text_lines.specs.Counted.{device_of};
 ghost use Rattle.text_lines.specs.Lines.{line_limit, lfs_in};
-ghost use Rattle.capture_file.specs.Packet.{interface_of};
 ghost use Rattle.capture_measure.specs.Measure.{Recording, begun};
 ghost use Rattle.capture_measure.specs.Capture.{Capture, capture_begun};
 ghost use Rattle.capture_measure.specs.Input.{MeasuresInput, OutcomeFailed};
@@ -17,7 +16,7 @@ ghost use Rattle.capture_measure.specs.Inner.Outcomes.{LinesAnswer, PacketsAnswe
 use crate::measuring::{Form, Measuring, Telling, write_head};
 use crate::packets::{CaptureMeasuring, CaptureTelling};
 use crate::watch::WantedPorts;
-use capture_file::{Beginning, CaptureStop, Interface, answer_packets_behind};
+use capture_file::{Beginning, CaptureStop, answer_packets_behind};
 use measure_summary::{Counts, Whom};
 use std::alloc::Global;
 use std::io::{Read, Write};
@@ -63,9 +62,9 @@ impl Summary {
         self.counts
     }
 
-    /// The interface of a capture that is measured, once that is known.
-    pub fn interface(&self) -> Option<Interface<'_>>
-        ensures { option_map interface_of result ≡ told_interface self.now }
+    /// What the interface of a capture is called that is measured, once that is known.
+    pub fn interface(&self) -> Option<&[u8]>
+        ensures { option_map (λ name. name.now) result ≡ told_interface self.now }
     {
         match &self.of {
             Measured::Lines(_) => None,

@@ -1,9 +1,9 @@
 //! An interface of a capture, apart from its packets.
 
 ghost use Rattle.std.specs.Prelude.{◌≡◌, IfOk};
+ghost use Rattle.capture_file.specs.Name.{name_of};
 ghost use Rattle.capture_file.specs.Packet.{interface_of};
-ghost use Rattle.capture_measure.specs.Interfaces.{is_same_interface, is_same_name};
-ghost use Rattle.capture_measure.specs.Inner.Recordings.{name_in};
+ghost use Rattle.capture_measure.specs.Interfaces.{is_same_interface};
 ghost use Rattle.capture_measure.specs.Told.{place_of};
 
 use capture_file::Interface;
@@ -11,67 +11,42 @@ use std::alloc::{AllocError, Global};
 use std::fmt;
 use std::fmt::{Display, Formatter};
 
-/// The place of an interface in its section, and its name where it has one of its own.
+/// An interface, by what it is called, in whichever section of the capture.
 #[derive(Drop)]
 pub(crate) struct Place {
-    number: u32,
-    name: Option<Vec<u8>>,
-}
-
-/// Whether both have this name, or none has any.
-fn is_same_name(one: Option<&[u8]>, other: Option<&[u8]>) -> bool
-    ensures { result ≡ is_same_name (name_in one.entry) (name_in other.entry) }
-{
-    match (one, other) {
-        (Some(one), Some(other)) => one == other,
-        (None, None) => true,
-        _ => false,
-    }
+    name: Vec<u8>,
 }
 
 impl Place {
     /// That of an interface.
     pub(crate) fn new(alloc: Global, interface: &Interface<'_>) -> Result<Place, AllocError>
-        ensures { IfOk result (λ place. place_of place ≡ interface_of interface.now) }
+        ensures { IfOk result (λ place. place_of place ≡ name_of (interface_of interface.now)) }
     {
-        let name = match interface.name {
-            Some(name) => Some(Vec::from_slice(alloc, name)?),
-            None => None,
-        };
         Ok(Place {
-            number: interface.place,
-            name,
+            name: interface.called(alloc)?,
         })
     }
 
-    /// The interface.
-    pub(crate) fn interface(&self) -> Interface<'_>
-        ensures { interface_of result ≡ place_of self.now }
+    /// What it is called.
+    pub(crate) fn name(&self) -> &[u8]
+        ensures { result.now ≡ place_of self.now }
     {
-        Interface {
-            place: self.number,
-            name: self.name.as_deref(),
-        }
+        &self.name
     }
 
     /// Whether it is that of an interface.
     pub(crate) fn is(&self, interface: &Interface<'_>) -> bool
-        ensures { result ≡ is_same_interface (place_of self.now) (interface_of interface.now) }
+        ensures { result ≡ is_same_interface (place_of self.now) (name_of (interface_of interface.now)) }
     {
-        self.number == interface.place && is_same_name(self.name.as_deref(), interface.name)
+        interface.is_called(&self.name)
     }
 }
 
 impl Display for Place {
     fn fmt<W: fmt::Write>(&self, f: &mut Formatter<W>) -> fmt::Result {
-        match &self.name {
-            Some(name) => {
-                for octet in name {
-                    write!(f, "{}", octet.escape_ascii())?;
-                }
-                Ok(())
-            }
-            None => write!(f, "if{}", self.number),
+        for octet in &self.name {
+            write!(f, "{}", octet.escape_ascii())?;
         }
+        Ok(())
     }
 }

@@ -26,6 +26,7 @@ ghost use Rattle.capture_measure.specs.Inner.Counting.{stays};
 use crate::reports::{Completed, Datagram, Made, Reports, message_in};
 use crate::tally::Tally;
 use crate::watch::{WantedPorts, Watch};
+use capture_extract::tell_compressed;
 use capture_lines::{Timed, read_timed, table_head};
 use capture_model::Watched;
 use measure_summary::{Counts, Whom};
@@ -313,6 +314,7 @@ impl<E: Write> LineTask for Telling<'_, E> {
     }
 
     fn take<W: Write>(&mut self, line: &[u8], output: &mut Counted<W>) -> Result<(), LineFault> {
+        tell_compressed(line, "measure", self.errors);
         self.measuring.take(line, output, self.errors)
     }
 

@@ -7,7 +7,7 @@ ghost use Rattle.datagram_text.specs.Shown.{stamp_text};
 ghost use Rattle.text_lines.specs.Counted.{device_of, HasNotFailed, HasFailedIf};
 ghost use Rattle.text_lines.specs.Fault.{is_write};
 ghost use Rattle.text_lines.specs.Task.{WentOut};
-ghost use Rattle.capture_file.specs.Packet.{packet_of, interface_of};
+ghost use Rattle.capture_file.specs.Packet.{packet_of};
 ghost use Rattle.capture_model.specs.Listening.{after_all};
 ghost use Rattle.capture_measure.specs.Row.{Row, datagrams};
 ghost use Rattle.capture_measure.specs.Measured.{measured_at, measurements};
@@ -27,7 +27,7 @@ use crate::recording::{Kept, Recording, Recordings, datagram_of};
 use crate::reports::{Datagram, Reports};
 use crate::watch::WantedPorts;
 use capture_extract::Summary as PacketCounts;
-use capture_file::{Captured, Interface, Packet, PacketTask, is_asked};
+use capture_file::{Captured, Packet, PacketTask, is_asked};
 use capture_frame::{Found, find_datagram};
 use capture_model::Watched;
 use measure_summary::{Counts, Whom};
@@ -385,9 +385,9 @@ impl CaptureMeasuring {
         }
     }
 
-    /// The interface that is measured, where that is known.
-    pub(crate) fn interface(&self) -> Option<Interface<'_>>
-        ensures { option_map interface_of result ≡ interface_at self.now.stage self.now.recordings.recordings.items }
+    /// What the interface is called that is measured, where that is known.
+    pub(crate) fn interface(&self) -> Option<&[u8]>
+        ensures { option_map (λ name. name.now) result ≡ interface_at self.now.stage self.now.recordings.recordings.items }
     {
         match &self.stage {
             PacketStage::Looking(_) => None,
@@ -439,6 +439,7 @@ impl CaptureMeasuring {
             }
             recording.watch.whom().tell("packet", errors);
             recording.early.counts.tell("packet", errors);
+            recording.tell_callers(errors);
         }
         self.tell_others(errors);
     }

@@ -3,6 +3,7 @@
 ghost use Rattle.std.specs.Prelude.{◌≡◌, ◌<◌, ◌&&◌, ◌||◌, ◌==◌, nat_lt, false, List, [], ◌∷◌, length, map, get_or, IfOk, IfSome, OnOk, option_map, slice_get};
 ghost use Rattle.std.specs.Option.{option_map_or};
 ghost use Rattle.event_codec.specs.Port.{is_same_port};
+ghost use Rattle.capture_file.specs.Name.{name_of};
 ghost use Rattle.capture_file.specs.Packet.{interface_of};
 ghost use Rattle.capture_model.specs.Recorded.{Recorded};
 ghost use Rattle.capture_measure.specs.Row.{Row, kept_most};
@@ -23,7 +24,7 @@ use crate::watch::{WantedPorts, Watch};
 use capture_file::{Captured, Interface};
 use capture_model::Watched;
 use event_codec::{Header, PortIdentity};
-use measure_summary::Whom;
+use measure_summary::{Callers, Whom};
 use ptp_units::{ScaledTime, Timestamp};
 use std::alloc::{AllocError, Global};
 use std::io::Write;
@@ -108,6 +109,8 @@ pub(crate) struct Recording {
     pub(crate) kept: Vec<Kept>,
     /// What came before it was known whom to watch.
     pub(crate) early: Tally,
+    /// Who sent what until then.
+    callers: Callers,
 }
 
 impl Recording {
@@ -117,7 +120,7 @@ impl Recording {
         wanted: &WantedPorts,
         interface: &Interface<'_>,
     ) -> Result<Recording, AllocError>
-        ensures { IfOk result (λ recording. IsFresh wanted.now (interface_of interface.now) recording) }
+        ensures { IfOk result (λ recording. IsFresh wanted.now (name_of (interface_of interface.now)) recording) }
     {
         Ok(Recording {
             place: Place::new(alloc, interface)?,
@@ -125,6 +128,7 @@ impl Recording {
             met: Met::new(wanted),
             kept: Vec::new(alloc),
             early: Tally::new(),
+            callers: Callers::new(),
         })
     }
 
@@ -139,6 +143,7 @@ impl Recording {
         if let Ok(message) = &datagram.said {
             self.watch.notice(datagram.number, message);
             self.met.notice(wanted, &message.header);
+            self.callers.take(message);
         }
     }
 
@@ -163,6 +168,17 @@ impl Recording {
         match self.watched() {
             Some(_) => {}
             None => self.early.count_early(datagram),
+        }
+    }
+
+    /// Tells in lines who sent Syncs and Delay_Reqs, where the master or the slave that is asked for sent no message. What can't be
+    /// written is lost.
+    pub(crate) fn tell_callers<E: Write>(&self, errors: &mut E) {
+        if !self.met.master {
+            self.callers.tell_masters(errors);
+        }
+        if !self.met.slave {
+            self.callers.tell_slaves(errors);
         }
     }
 
@@ -205,7 +221,7 @@ impl Recordings {
 
     /// Which of them is that of an interface.
     pub(crate) fn find(&self, interface: &Interface<'_>) -> Option<usize>
-        ensures { IsFoundAt (interface_of interface.now) (map interface_in self.now.recordings.items) result self.now.recordings.items }
+        ensures { IsFoundAt (name_of (interface_of interface.now)) (map interface_in self.now.recordings.items) result self.now.recordings.items }
     {
         for place in 0..self.recordings.len() {
             if self.recordings[place].place.is(interface) {
@@ -222,7 +238,7 @@ impl Recordings {
         wanted: &WantedPorts,
         interface: &Interface<'_>,
     ) -> Result<Option<usize>, AllocError>
-        ensures { IfOk result (λ found. HasAdded wanted.now (interface_of interface.now) found
+        ensures { IfOk result (λ found. HasAdded wanted.now (name_of (interface_of interface.now)) found
             self.old.recordings.items self.new.recordings.items) }
     {
         if let Some(place) = self.find(interface) {
@@ -249,7 +265,7 @@ impl Recordings {
         requires { IsDatagramRow datagram.now.number captured.now.time datagram.now.octets.now
             (row_at captured.now.time datagram.now) }
         ensures within { IfOk result (λ found. IfSome found (λ place. place < length self.new.recordings.items)) }
-        ensures taken { (rows : List InterfaceRow) (r : InterfaceRow) → r.interface ≡ interface_of captured.now.interface
+        ensures taken { (rows : List InterfaceRow) (r : InterfaceRow) → r.interface ≡ name_of (interface_of captured.now.interface)
             → r.row ≡ row_at captured.now.time datagram.now → is_kept ≡ nat_lt (length rows) kept_most
             → AreRecordings wanted.now rows self.old.recordings.items
             → IfOk result (λ found. AreRecordings wanted.now (r ∷ rows) self.new.recordings.items
@@ -293,12 +309,12 @@ impl Recordings {
         }
     }
 
-    /// The interface of this place, where there is one.
-    pub(crate) fn interface(&self, place: usize) -> Option<Interface<'_>>
-        ensures { option_map interface_of result ≡ option_map interface_in (slice_get self.now.recordings.items place) }
+    /// What the interface of this place is called, where there is one.
+    pub(crate) fn interface(&self, place: usize) -> Option<&[u8]>
+        ensures { option_map (λ name. name.now) result ≡ option_map interface_in (slice_get self.now.recordings.items place) }
     {
         match self.recordings.get(place) {
-            Some(recording) => Some(recording.place.interface()),
+            Some(recording) => Some(recording.place.name()),
             None => None,
         }
     }
@@ -307,7 +323,7 @@ impl Recordings {
     pub(crate) fn is_at(&self, place: usize, interface: &Interface<'_>) -> bool
         requires { place < length self.now.recordings.items }
         ensures { (d : Recording) → result
-            ≡ is_same_interface (interface_in (get_or self.now.recordings.items place d)) (interface_of interface.now) }
+            ≡ is_same_interface (interface_in (get_or self.now.recordings.items place d)) (name_of (interface_of interface.now)) }
     {
         self.recordings[place].place.is(interface)
     }

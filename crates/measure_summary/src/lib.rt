@@ -3,12 +3,14 @@
 #![tactic(auto)]
 
 mod beware;
+mod callers;
 mod counts;
 mod kind;
 mod no_report;
 mod others;
 mod whom;
 
+pub use callers::Callers;
 pub use counts::Counts;
 pub use kind::Kind;
 pub use no_report::NoReport;

@@ -2,6 +2,7 @@
 use Rattle.std.specs.Prelude.{◌≡◌, ℕ, ◌+◌, ◌<◌, nat_lt, Bool, min, ◌++◌, List, [], length, get_or, Some, None, Option, Result, OnOk}
 use Rattle.text_lines.specs.declared.line_fault.LineFault.{LineFault}
 use Rattle.capture_file.specs.declared.packet.Captured.{Captured}
+use Rattle.capture_file.specs.Name.{name_of}
 use Rattle.capture_file.specs.Packet.{interface_of}
 use Rattle.capture_measure.specs.Made.{Measured}
 use Rattle.capture_model.specs.declared.watched.Watched.{Watched}
@@ -61,7 +62,7 @@ pub record IsLooking (task : CaptureMeasuring) (c : Capture) (is_kept : Bool) : 
 
 -- the row of a datagram that a packet carries
 abbrev pub row_of_packet : Captured → Datagram → InterfaceRow
-row_of_packet captured d = record { interface = interface_of captured.interface; row = row_at captured.time d }
+row_of_packet captured d = record { interface = name_of (interface_of captured.interface); row = row_at captured.time d }
 
 -- a datagram was taken, and the reports that it brings went out, or some of them before a fault
 abbrev pub AddsRow : {T : Type 0} → Result T LineFault → Capture → InterfaceRow → CaptureMeasuring

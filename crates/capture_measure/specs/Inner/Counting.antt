@@ -2,7 +2,6 @@
 use Rattle.std.specs.Prelude.{ℕ, ◌==◌, Bool, true, false, List, [], if◌then◌else◌}
 use Rattle.std.specs.Prelude.{Option, Some, None}
 use Rattle.event_codec.specs.declared.message.Header.{Header}
-use Rattle.capture_file.specs.Packet.{InterfaceOf}
 use Rattle.recording_listener.specs.declared.listener.Became.{Became}
 use Rattle.recording_listener.specs.declared.listener.Became.TheVariants.{Heard, HeardAnew, HeardBefore, Asked, Repeated, Anew, Foreign}
 use Rattle.capture_measure.specs.declared.measuring.LineStage.{LineStage}
@@ -19,7 +18,7 @@ use Rattle.capture_measure.specs.Interfaces.{InterfaceRow}
 use Rattle.capture_measure.specs.Counts.{why_answered, Fate, capture_fates, IsCounts}
 
 -- what is counted of a capture so far: nothing until it is known which interface is measured
-abbrev pub CountsSoFar : WantedPorts → (measured : Option InterfaceOf) → List InterfaceRow → Counts → Type 0
+abbrev pub CountsSoFar : WantedPorts → (measured : Option (List ℕ)) → List InterfaceRow → Counts → Type 0
 CountsSoFar w None rows counts = IsCounts [] counts
 CountsSoFar w (Some interface) rows counts = IsCounts (capture_fates w interface rows) counts
 

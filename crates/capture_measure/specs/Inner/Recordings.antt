@@ -1,12 +1,10 @@
 -- What is kept of the interfaces of a capture while it isn't known whom to watch. Lists of rows have the newest in front,
 -- those of recordings and of what they keep the oldest.
 use Rattle.std.specs.Prelude.{◌≡◌, ◌⊎◌, ℕ, ◌<◌, ◌≤◌, nat_le, Bool, true, false, List, [], ◌∷◌, ◌++◌, length, map, get_or}
-use Rattle.std.specs.Prelude.{Option, option_map, Some, None}
-use Rattle.std.specs.Borrow.{Bor}
+use Rattle.std.specs.Prelude.{Option, Some, None}
 use Rattle.std.specs.List.{All}
 use Rattle.ptp_units.specs.Moment.{Stamp}
 use Rattle.datagram_text.specs.Shown.{stamp_text}
-use Rattle.capture_file.specs.Packet.{InterfaceOf}
 use Rattle.capture_model.specs.Recorded.{Recorded}
 use Rattle.capture_measure.specs.declared.recording.Kept.{Kept}
 use Rattle.capture_measure.specs.declared.recording.Met.{Met}
@@ -21,10 +19,6 @@ use Rattle.capture_measure.specs.Counts.{early_at, IsCounts}
 use Rattle.capture_measure.specs.Told.{interface_in}
 use Rattle.capture_measure.specs.Inner.Hearing.{recorded_of}
 use Rattle.capture_measure.specs.Inner.Watching.{IsWatch}
-
--- a name without where it lies in memory
-abbrev pub name_in : Option (Bor (List ℕ)) → Option (List ℕ)
-name_in name = option_map (λ n. n.now) name
 
 -- the row of a datagram whose packet has this time
 abbrev pub row_at : Stamp → Datagram → Row
@@ -42,7 +36,7 @@ pub record IsNoticed (w : WantedPorts) (ds : List Recorded) (recording : Recordi
   pub met : IsMet w ds recording.met
 
 -- before the first datagram of an interface
-pub record IsFresh (w : WantedPorts) (interface : InterfaceOf) (recording : Recording) : Type 0 where
+pub record IsFresh (w : WantedPorts) (interface : List ℕ) (recording : Recording) : Type 0 where
   pub is_at : interface_in recording ≡ interface
   pub noticed : IsNoticed w [] recording
   pub kept : recording.kept.items ≡ []
@@ -73,14 +67,14 @@ pub record AreRecordings (w : WantedPorts) (rows : List InterfaceRow) (recording
   pub each : All (IsRecording w rows) recordings
 
 -- a place of this interface, if it is among these
-abbrev pub IsFoundAt : InterfaceOf → (known : List InterfaceOf) → Option ℕ → List Recording → Type 0
+abbrev pub IsFoundAt : List ℕ → (known : List (List ℕ)) → Option ℕ → List Recording → Type 0
 IsFoundAt interface known None recordings = is_among interface known ≡ false
 IsFoundAt interface known (Some place) recordings =
     (is_among interface known ≡ true) × (place < length recordings)
     × ((d : Recording) → interface_in (get_or recordings place d) ≡ interface)
 
 -- an interface was found, or added where there was room
-pub record HasAdded (w : WantedPorts) (interface : InterfaceOf) (found : Option ℕ) (old new : List Recording) : Type 0 where
+pub record HasAdded (w : WantedPorts) (interface : List ℕ) (found : Option ℕ) (old new : List Recording) : Type 0 where
   pub interfaces : map interface_in new ≡ with_interface interface (map interface_in old)
   pub found_at : IsFoundAt interface (map interface_in new) found new
   pub recordings : (new ≡ old) ⊎ ((fresh : Recording) × IsFresh w interface fresh × (new ≡ old ++ fresh ∷ [])

@@ -1,6 +1,7 @@
 use Rattle.std.proofs.Common.{◌∙◌, ◌≤◌, ℕ, List, ◌∷◌, length, Option, Some, sym, ap, subst, arith}
 use Rattle.std.proofs.lemmas.Bool.{ltb-false}
-use Rattle.capture_file.specs.Packet.{InterfaceOf, interface_of}
+use Rattle.capture_file.specs.Name.{name_of}
+use Rattle.capture_file.specs.Packet.{interface_of}
 use Rattle.capture_model.specs.Recorded.{Recorded}
 use Rattle.capture_measure.specs.Row.{Row, datagrams, kept_most}
 use Rattle.capture_measure.specs.Chosen.{watched_at}
@@ -22,8 +23,8 @@ returns-in_ok-keep-clause-taken c = λ rows r at row few are.
     let old = c.args.self.now.recordings.items in
     let new = c.find_or_add.new.self.recordings.items in
     let has : HasAdded c.args.wanted.now r.interface (Some c.in-Some.place) old new =
-    subst (λ (i : InterfaceOf). HasAdded c.args.wanted.now i (Some c.in-Some.place) old new) (sym at)
-    (subst (λ (found : Option ℕ). HasAdded c.args.wanted.now (interface_of c.args.captured.now.interface) found old new) c.in-Some.is
+    subst (λ (i : List ℕ). HasAdded c.args.wanted.now i (Some c.in-Some.place) old new) (sym at)
+    (subst (λ (found : Option ℕ). HasAdded c.args.wanted.now (name_of (interface_of c.args.captured.now.interface)) found old new) c.in-Some.is
     c.in_ok-found.ensures) in
     added_taken c.args.wanted.now rows r c.in-Some.place old new was x are has c.index_mut-recording.ensures.value
     (ap interface_in c.keep.ensures.others ∙ ap interface_in c.count_early.ensures.others ∙ ap place_of c.notice.ensures.place)
@@ -54,8 +55,8 @@ returns-else-is_kept-clause-taken c = λ rows r at row few are.
     let old = c.args.self.now.recordings.items in
     let new = c.find_or_add.new.self.recordings.items in
     let has : HasAdded c.args.wanted.now r.interface (Some c.in-Some.place) old new =
-    subst (λ (i : InterfaceOf). HasAdded c.args.wanted.now i (Some c.in-Some.place) old new) (sym at)
-    (subst (λ (found : Option ℕ). HasAdded c.args.wanted.now (interface_of c.args.captured.now.interface) found old new) c.in-Some.is
+    subst (λ (i : List ℕ). HasAdded c.args.wanted.now i (Some c.in-Some.place) old new) (sym at)
+    (subst (λ (found : Option ℕ). HasAdded c.args.wanted.now (name_of (interface_of c.args.captured.now.interface)) found old new) c.in-Some.is
     c.in_ok-found.ensures) in
     let many : kept_most ≤ length rows = ltb-false (length rows) kept_most (sym few ∙ c.if-is_kept.false) in
     added_taken c.args.wanted.now rows r c.in-Some.place old new was x are has c.index_mut-recording.ensures.value
@@ -81,5 +82,5 @@ returns-in_default-clause-taken c = λ rows r at row few are.
     let old = c.args.self.now.recordings.items in
     let new = c.find_or_add.new.self.recordings.items in
     added_nowhere c.args.wanted.now rows r c.in_ok-found.found old new are
-    (subst (λ (i : InterfaceOf). HasAdded c.args.wanted.now i c.in_ok-found.found old new) (sym at) c.in_ok-found.ensures)
+    (subst (λ (i : List ℕ). HasAdded c.args.wanted.now i c.in_ok-found.found old new) (sym at) c.in_ok-found.ensures)
     c.in_default.not-Some
