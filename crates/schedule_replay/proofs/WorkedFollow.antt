@@ -9,7 +9,7 @@ use Rattle.tap_crossing.specs.declared.sighting.Kind.TheVariants as kinds
 use Rattle.tap_crossing.specs.Changes.{no_changes}
 use Rattle.tap_follow.specs.declared.fault.FollowFault.TheVariants.{Field, Memory, ThirdTap}
 use Rattle.tap_follow.specs.declared.input.InputOutcome.TheVariants.{Lines, Capture}
-use Rattle.schedule_replay.specs.Follow.{is_beyond_limit, leaves_sums, limited}
+use Rattle.schedule_replay.specs.Follow.{is_beyond_limit, leaves_sums, limited, lacking}
 
 -- ---- sums
 at_the_end : leaves_sums (Lines (Ok 60)) ≡ true
@@ -95,3 +95,13 @@ beyond_at_a_fault = refl
 
 beyond_at_a_third_tap : limited 2 true ≡ 2
 beyond_at_a_third_tap = refl
+
+-- ---- taps that are asked for
+without_a_tap : lacking 0 true ≡ 2
+without_a_tap = refl
+
+with_both_taps : lacking 0 false ≡ 0
+with_both_taps = refl
+
+without_a_tap_at_a_fault : lacking 3 true ≡ 3
+without_a_tap_at_a_fault = refl

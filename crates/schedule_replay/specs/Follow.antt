@@ -19,6 +19,7 @@ use Rattle.tap_follow.specs.declared.fault.FollowFault.TheVariants.{Write, Field
 use Rattle.tap_follow.specs.declared.input.InputOutcome.{InputOutcome}
 use Rattle.tap_follow.specs.declared.input.InputOutcome.TheVariants.{Lines, Capture}
 use Rattle.tap_crossing.specs.declared.crossing.Crossing.{Crossing}
+use Rattle.tap_choice.specs.Sides.{lacks_tap}
 use Rattle.tap_following.specs.Course.{Course}
 use Rattle.tap_following.specs.SoFar.{crossings_so_far}
 use Rattle.tap_sums.specs.Sums.{is_beyond}
@@ -132,16 +133,22 @@ is_beyond_limit (Some limit) all = is_beyond limit all
 abbrev pub limited : ℕ → Bool → ℕ
 limited status is_beyond = if status == 0 && is_beyond then 1 else status
 
--- `follow` ran by these options: what came of its input, its sums and its limit gave the status, and say what was read and
--- written
+-- ---- taps that are asked for
+-- the exit status: 2 where a tap that is asked for wasn't met, and nothing gives another
+abbrev pub lacking : ℕ → Bool → ℕ
+lacking status lacks = if status == 0 && lacks then 2 else status
+
+-- `follow` ran by these options: what came of its input, its sums, its limit and the taps that were met gave the status, and
+-- say what was read and written
 abbrev pub RunsFollow : {R W : Type 0} → (R → Option (List ℕ)) → (W → Option (List ℕ)) → FollowOptions → ℕ
     → (input input' : Counted R) (output output' : Counted W) → Type 0
 RunsFollow {W = W} remaining contents options status input input' output output' =
-    (outcome : InputOutcome) × (summary : Summary) × (followed : Counted W) × (ended : ℕ) × (is_beyond : Bool)
+    (outcome : InputOutcome) × (summary : Summary) × (followed : Counted W) × (ended : ℕ) × (is_beyond lacks : Bool)
     × OutcomeFailed outcome input input' output followed
     × FollowsInput (crossing_form options) (taps_wanted options) remaining contents outcome input input' output followed
     × ForSome (remaining (device_of input)) (λ octets.
     TellsInput (crossing_form options) (taps_wanted options) octets outcome summary)
     × EndsAs contents (options.sum && leaves_sums outcome) summary (follow_status outcome) ended followed output'
     × ((c : Course) → IsSummaryOf c summary → is_beyond ≡ is_beyond_limit options.limit (crossings_so_far c))
-    × (status ≡ limited ended is_beyond)
+    × ((c : Course) → IsSummaryOf c summary → lacks ≡ lacks_tap c.wanted c.sides)
+    × (status ≡ lacking (limited ended is_beyond) lacks)

@@ -55,5 +55,16 @@ pub(crate) fn report_capture<F: Numbered + Copy, E: Write>(
             "ptpx: fault {number} at octet {octet}, after {packets} {name}"
         ),
     };
+    tell_unpacking(&what, errors);
     3
+}
+
+/// Tells, of an input that isn't a capture, how one that is compressed is read. What can't be written is lost.
+fn tell_unpacking<F, E: Write>(cause: &CaptureCause<F>, errors: &mut E) {
+    if let CaptureCause::Capture(CaptureFault::NoCapture) = cause {
+        let _ = writeln!(
+            errors,
+            "ptpx: where it is compressed, unpack it: gunzip -c FILE | ptpx extract"
+        );
+    }
 }

@@ -3,7 +3,7 @@ ghost use Rattle.std.specs.Prelude.{◌≡◌, ◌&&◌, List};
 ghost use Rattle.tap_crossing.specs.declared.crossing.Crossing.{Crossing};
 ghost use Rattle.tap_sums.specs.Held.{AreSums};
 ghost use Rattle.schedule_replay.specs.Follow.{RunsFollow, EndsAs, EndsWithSums, capture_status, fault_status, follow_status};
-ghost use Rattle.schedule_replay.specs.Follow.{lines_status, crossing_form, leaves_sums, is_field, is_beyond_limit, limited};
+ghost use Rattle.schedule_replay.specs.Follow.{lines_status, crossing_form, leaves_sums, is_field, is_beyond_limit, limited, lacking};
 
 use crate::capture_faults::report_capture;
 use crate::program::report;
@@ -41,7 +41,21 @@ pub(crate) fn run_follow<R: Read, W: Write, E: Write>(
     let are_asked = asks_sums(&options, &outcome);
     let status = end_with_sums(alloc, are_asked, &summary, status, output, errors);
     summary.tell(errors);
-    limited(status, is_beyond(options.limit, &summary.sums()))
+    let status = limited(status, is_beyond(options.limit, &summary.sums()));
+    let lacks = summary.lacks_tap();
+    end_with_taps(&summary, lacks, status, errors)
+}
+
+/// Answers the exit status, 2 where a tap that is asked for wasn't met and nothing gives another; this is said then.
+fn end_with_taps<E: Write>(summary: &Summary, lacks: bool, status: u8, errors: &mut E) -> u8
+    ensures { result ≡ lacking status lacks }
+{
+    if status == 0 && lacks {
+        summary.tell_lacking(errors);
+        2
+    } else {
+        status
+    }
 }
 
 /// How crossings are asked for.
@@ -213,7 +227,21 @@ fn finish_fault<E: Write>(errors: &mut E, taps: &Sides, fault: FollowFault) -> u
 fn tell_third<E: Write>(errors: &mut E, taps: &Sides, third: &TapName) {
     let _ = write!(errors, "ptpx: PTP was met at a third tap, {}", third.text());
     if let (Some(first), Some(second)) = (taps.first, taps.second) {
-        let _ = write!(errors, ", beside {} and {}", first.text(), second.text());
+        let _ = match (taps.is_first_met, taps.is_second_met) {
+            (true, false) => write!(
+                errors,
+                ", beside {}, and not at {}",
+                first.text(),
+                second.text()
+            ),
+            (false, true) => write!(
+                errors,
+                ", beside {}, and not at {}",
+                second.text(),
+                first.text()
+            ),
+            _ => write!(errors, ", beside {} and {}", first.text(), second.text()),
+        };
     }
     let _ = writeln!(errors, "; --from and --to say which two are meant");
 }

@@ -1,7 +1,48 @@
-//! What a person is told after a fault.
+//! What a person is told after a fault or a mistake.
 
 use command_line::Subcommand;
+use std::io::Write;
 use transcript_text::FaultKind;
+
+/// The subcommands, all of which read their standard input.
+const SUBCOMMANDS: [&str; 7] = [
+    "show", "replay", "check", "extract", "measure", "follow", "explain",
+];
+
+/// The argument that is one too many and may be a file's name, by the mistake that clap tells.
+fn file_in(mistake: &str) -> Option<&str> {
+    let (_, behind) = mistake.split_once("unexpected argument '")?;
+    let (word, _) = behind.split_once("' found")?;
+    if word.is_empty() || word.starts_with('-') {
+        return None;
+    }
+    Some(word)
+}
+
+/// Tells, where a subcommand has an argument that may be a file's name, how it reads that. What can't be written is lost.
+pub(crate) fn tell_file<E: Write>(words: &[String], mistake: &str, errors: &mut E) {
+    let Some(subcommand) = words.get(1) else {
+        return;
+    };
+    let Some(file) = file_in(mistake) else {
+        return;
+    };
+    if !SUBCOMMANDS.iter().any(|name| subcommand.as_str() == *name) {
+        return;
+    }
+    let _ = write!(
+        errors,
+        "\nptpx: {subcommand} reads its standard input: ptpx {subcommand}"
+    );
+    for word in &words[2..] {
+        let _ = match word.as_str() {
+            "--" => Ok(()),
+            word if word == file => write!(errors, " < {word}"),
+            word => write!(errors, " {word}"),
+        };
+    }
+    let _ = writeln!(errors, "");
+}
 
 /// Whose faults are followed by a hint.
 #[derive(Clone, Copy)]

@@ -7,7 +7,7 @@ ghost use Rattle.text_lines.specs.Lines.{input_limit, lines_limit, GivesWithin};
 
 use crate::capture_faults::report_capture;
 use crate::following::run_follow;
-use crate::hints::Hints;
+use crate::hints::{Hints, tell_file};
 use crate::showing::show;
 use capture_extract::{Extraction, LineForm, extract};
 use capture_file::{CaptureStop, InterfaceName};
@@ -27,8 +27,8 @@ use transcript_text::{Fault, FaultKind, check_text, replay};
 
 /// The whole program over its arguments, of which the first is its own name: runs the subcommand that
 /// they name, and answers the exit status. Status 0: done or accepted, or help was asked for, which
-/// goes to `output`. Status 1: `check` or `explain` refused the transcript. Status 2: the arguments are no command,
-/// and the reason goes to `errors`. Status 3: a fault, whose number and line go to `errors`; at line 0
+/// goes to `output`. Status 1: `check` or `explain` refused the transcript. Status 2: the arguments are no command, or
+/// don't name the two taps that `follow` met, and the reason goes to `errors`. Status 3: a fault, whose number and line go to `errors`; at line 0
 /// stand want of memory before the subcommand ran, and a help text that can't be written. That nobody reads any
 /// more what `explain` writes, as behind `head`, is no fault: it ends then with status 0. What can't
 /// be written to `errors` is lost. Where that is a terminal, a line after the fault of `show`, `replay` or
@@ -70,6 +70,7 @@ pub fn command<R: Read, W: Write, E: Write>(
         },
         Ok(Invocation::Mistake(text)) => {
             let _ = errors.write_all(text.as_bytes());
+            tell_file(words, text.as_str(), errors);
             2
         }
         Err(_) => report(errors, before_lines(FaultKind::Memory)),

@@ -1,18 +1,22 @@
 //! The two taps that messages are followed between, by their names.
 ghost use Rattle.std.specs.Prelude.{◌≡◌};
-ghost use Rattle.tap_choice.specs.Sides.{is_named, side_of, sides_after, sides_wanted, both_named};
+ghost use Rattle.tap_choice.specs.Sides.{is_named, side_of, sides_after, sides_wanted, both_named, lacks_tap};
 
 use crate::met::Side;
 use crate::tap_name::TapName;
 use crate::wanted::WantedTaps;
 
-/// The names of two taps, as far as they are known.
+/// The names of two taps, as far as they are known, and which of them were met.
 #[derive(Clone, Copy, Debug, PartialEq, Eq)]
 pub struct Sides {
     /// The one that is asked for as `from`, or else the first that was met.
     pub first: Option<TapName>,
     /// The other.
     pub second: Option<TapName>,
+    /// Whether the first was met.
+    pub is_first_met: bool,
+    /// Whether the other was.
+    pub is_second_met: bool,
 }
 
 /// Whether a tap is called so.
@@ -33,6 +37,8 @@ impl Sides {
         Sides {
             first: wanted.from,
             second: wanted.to,
+            is_first_met: false,
+            is_second_met: false,
         }
     }
 
@@ -43,20 +49,32 @@ impl Sides {
         ensures sides { self.new ≡ sides_after self.old name }
     {
         if is_named(self.first, name) {
+            self.is_first_met = true;
             return Some(Side::First);
         }
         if is_named(self.second, name) {
+            self.is_second_met = true;
             return Some(Side::Second);
         }
         if self.first.is_none() {
             self.first = Some(name);
+            self.is_first_met = true;
             return Some(Side::First);
         }
         if self.second.is_none() {
             self.second = Some(name);
+            self.is_second_met = true;
             return Some(Side::Second);
         }
         None
+    }
+
+    /// Whether a tap that is asked for wasn't met.
+    pub fn lack_one_of(&self, wanted: &WantedTaps) -> bool
+        ensures { result ≡ lacks_tap wanted.now self.now }
+    {
+        (wanted.from.is_some() && !self.is_first_met)
+            || (wanted.to.is_some() && !self.is_second_met)
     }
 }
 

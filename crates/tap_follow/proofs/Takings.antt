@@ -29,10 +29,11 @@ third_side None both is = refl
 stays_by : (a b e g : Bool) (s : Sides) (name : List ℕ)
     → (if a then Some taps.First else if b then Some taps.Second else if e then Some taps.First else if g then Some taps.Second
     else None) ≡ None
-    → (if a then s else if b then s else if e then record s { first = Some name } else if g then record s { second = Some name }
-    else s) ≡ s
-stays_by true b e g s name none = refl
-stays_by false true e g s name none = refl
+    → (if a then record s { is_first_met = true } else if b then record s { is_second_met = true }
+    else if e then record s { first = Some name; is_first_met = true }
+    else if g then record s { second = Some name; is_second_met = true } else s) ≡ s
+stays_by true b e g s name none = absurd cc
+stays_by false true e g s name none = absurd cc
 stays_by false false true g s name none = absurd cc
 stays_by false false false true s name none = absurd cc
 stays_by false false false false s name none = refl

@@ -10,6 +10,7 @@ ghost use Rattle.tap_follow.specs.Inner.Taking.{datagram_of, IsLeft, IsEnded};
 
 use crate::fault::FollowFault;
 use crate::task::{Datagram, Taking, message_in};
+use capture_extract::tell_compressed;
 use capture_lines::{Timed, read_timed};
 use std::alloc::Global;
 use std::io::Write;
@@ -140,6 +141,7 @@ impl<E: Write> LineTask for LineTelling<'_, E> {
     }
 
     fn take<W: Write>(&mut self, line: &[u8], output: &mut Counted<W>) -> Result<(), FollowFault> {
+        tell_compressed(line, "follow", self.errors);
         let mut room = [0; DATAGRAM_LIMIT];
         match read_line(self.lines.count, line, &mut room) {
             Ok(datagram) => {

@@ -3,6 +3,7 @@ ghost use Rattle.std.specs.Prelude.{◌≡◌, MatchResult};
 ghost use Rattle.text_lines.specs.Counted.{device_of, HasNotFailed, HasFailedIf};
 ghost use Rattle.tap_figures.specs.Untold.{AreUntold};
 ghost use Rattle.tap_sums.specs.Held.{AreSums};
+ghost use Rattle.tap_choice.specs.Sides.{lacks_tap};
 ghost use Rattle.tap_following.specs.Course.{Course};
 ghost use Rattle.tap_following.specs.Held.{IsFollower};
 ghost use Rattle.tap_following.specs.SoFar.{followed_so_far, crossings_so_far, open_so_far, outcomes_so_far};
@@ -50,6 +51,32 @@ impl Summary {
         ensures { (c : Course) → IsSummaryOf c self.now → result ≡ c.sides }
     {
         self.follower.sides()
+    }
+
+    /// Whether a tap that is asked for wasn't met.
+    pub fn lacks_tap(&self) -> bool
+        ensures { (c : Course) → IsSummaryOf c self.now → result ≡ lacks_tap c.wanted c.sides }
+    {
+        self.follower.lacks_tap()
+    }
+
+    /// Tells, in lines, the taps that are asked for and weren't met, and those that were. What can't be written is lost.
+    pub fn tell_lacking<E: Write>(&self, errors: &mut E) {
+        let Sides {
+            first,
+            second,
+            is_first_met,
+            is_second_met,
+        } = self.taps();
+        for (tap, is_met, option) in [
+            (first, is_first_met, "--from"),
+            (second, is_second_met, "--to"),
+        ] {
+            match tap {
+                Some(tap) if !is_met => self.told.tell_lacking(&tap, option, errors),
+                _ => {}
+            }
+        }
     }
 
     /// Whose messages were followed, and between which taps, once that was known; the slave as far as it was known.
@@ -127,7 +154,7 @@ impl Summary {
 
     /// Tells what is known where it isn't known which messages are followed.
     fn tell_taps<E: Write>(&self, errors: &mut E) {
-        let Sides { first, second } = self.taps();
+        let Sides { first, second, .. } = self.taps();
         let _ = match (first, second) {
             (Some(first), Some(second)) => {
                 let (first, second) = (first.text(), second.text());

@@ -77,6 +77,7 @@ impl Taking {
             (λ _. HasNotFailed output.old output.new)
             (λ fault. HasFailedIf (is_write fault) output.old output.new) }
     {
+        self.told.meet(datagram.tap);
         match self.follower.arrive(datagram.tap) {
             Arrival::At(side) => self.take_at(side, datagram, output, errors),
             Arrival::Elsewhere => Ok(()),

@@ -1,5 +1,5 @@
 -- A worked case: the first Sync of a real capture at two ports of a clock, by its four packets, and the line that is written.
-use Rattle.std.proofs.Common.{◌≡◌, ℕ, ℤ, pos, List, [], ◌∷◌, Some, None, Option, codes, refl}
+use Rattle.std.proofs.Common.{◌≡◌, ℕ, ℤ, pos, Bool, true, false, List, [], ◌∷◌, Some, None, Option, codes, refl}
 use Rattle.std.specs.Fmt.{digits}
 use Rattle.ptp_units.specs.Moment.{Stamp, stamp}
 use Rattle.ptp_units.specs.Nanoseconds.{decimals}
@@ -10,6 +10,7 @@ use Rattle.tap_choice.specs.declared.met.Met.{Met}
 use Rattle.tap_choice.specs.declared.met.Side.{Side}
 use Rattle.tap_choice.specs.declared.met.Side.TheVariants as taps
 use Rattle.tap_choice.specs.declared.wanted.WantedTaps.{WantedTaps}
+use Rattle.tap_choice.specs.Sides.{lacks_tap}
 use Rattle.tap_following.specs.declared.follower.Arrival.TheVariants as arrivals
 use Rattle.tap_following.specs.declared.following.Form.TheVariants.{Json}
 use Rattle.tap_following.specs.Course.{Course, begun, arrival_of, with_tap, after, new_text, end_text}
@@ -87,3 +88,27 @@ at_end = refl
 -- a third tap is told as that
 third : arrival_of (taps_met None) (codes "mid") ≡ arrivals.Third
 third = refl
+
+-- ---- taps that are asked for, where left and right were met
+abbrev lacks : (from to : Option (List ℕ)) → Bool
+lacks from to =
+    let w : WantedTaps = record { from = from; to = to; domain = None; master = None; slave = None } in
+    lacks_tap w (with_tap (codes "right") (with_tap (codes "left") (begun Json w))).sides
+
+none_asked : lacks None None ≡ false
+none_asked = refl
+
+both_there : lacks (Some (codes "right")) (Some (codes "left")) ≡ false
+both_there = refl
+
+one_there : lacks None (Some (codes "left")) ≡ false
+one_there = refl
+
+no_from : lacks (Some (codes "Left")) (Some (codes "right")) ≡ true
+no_from = refl
+
+no_to : lacks (Some (codes "left")) (Some (codes "Right")) ≡ true
+no_to = refl
+
+neither : lacks (Some (codes "Left")) (Some (codes "Right")) ≡ true
+neither = refl

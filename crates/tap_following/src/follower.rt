@@ -1,6 +1,7 @@
 //! Messages from the first on: kept until it is known which of them are followed, and then followed.
 ghost use Rattle.std.specs.Prelude.{◌≡◌, ◌==◌, ◌++◌, ◌∷◌, List, [], OnOk, MatchOption, reverse};
 ghost use Rattle.std.specs.String.{string_bytes};
+ghost use Rattle.tap_choice.specs.Sides.{lacks_tap};
 ghost use Rattle.tap_following.specs.Followed.{slave_in};
 ghost use Rattle.tap_following.specs.Written.{written};
 ghost use Rattle.tap_following.specs.Course.{Course, begun, name_at, followed_by, arrival_of, with_tap, after, ended, new_text, end_text};
@@ -137,6 +138,14 @@ impl Follower {
         ensures { (c : Course) → IsFollower self.now c → result ≡ c.sides }
     {
         self.sides
+    }
+
+    /// Whether a tap that is asked for wasn't met.
+    pub fn lacks_tap(&self) -> bool
+        ensures { (c : Course) → IsFollower self.now c → result ≡ lacks_tap c.wanted c.sides }
+    {
+        let sides = self.sides;
+        sides.lack_one_of(&self.wanted)
     }
 
     /// Whose messages are followed, and between which taps, once that is known; the slave as far as it is known.

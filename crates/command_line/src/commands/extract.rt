@@ -72,8 +72,8 @@ decimals. The line
   1795328934.357259633 0012002c00000200000000000000000000000000001122fffe334455000100010100...
 is cut short here. 'ptpx measure' reads such lines: 'ptpx extract < capture.pcap | ptpx measure'. With
 --octets time and blank are left away, as 'ptpx show' reads lines. With --interface packets of one interface
-alone are taken. An interface is called as the capture names it, or, where it has no name or one that an
-earlier interface of its section has, as in a pcap, if0, if1, .. by its place.
+alone are taken. An interface is called as the capture names it, or, where it has no name, one of 'if' and
+digits alone, or one that an earlier interface of its section has, as in a pcap, if0, if1, .. by its place.
 
 With --list standard output has a table in place of lines, once all packets were read, or those before a
 fault: at which interface who sent how many messages of each type, and below it how to call 'ptpx measure'.

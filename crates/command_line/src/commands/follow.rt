@@ -202,7 +202,8 @@ from 1 and octets from 0, and what was written before stands. Line 0 is before a
 Exit statuses:
   0  each line or packet was read
   1  each was, and a rest is greater than --limit, either way
-  2  the arguments aren't a command, or 809: --from and --to have to name two of three taps
+  2  the arguments aren't a command; or 809: --from and --to have to name two of three taps; or each was
+     read, and nothing was met at a tap that --from or --to names
   3  any other fault
 
 Limits: a line has 4096 octets before its LF at the most, and there may be any number of lines. Of a line

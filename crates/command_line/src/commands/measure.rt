@@ -117,9 +117,9 @@ datagrams are kept until all three are known.
 
 Each interface of a capture is a recording of its own, and one alone is measured: the first at which all
 three are known. What is asked for is known at an interface once a message of that domain, or from that port,
-was met there. Interfaces of one place and name are one, also in several sections. Of more than 16 the
-first 16 at which PTP was met are looked at. With --interface the packets of one interface alone are looked
-at, which is called as 'ptpx extract' calls it; lines have none.
+was met there. Interfaces that are called alike, as 'ptpx extract' calls them, are one, also in several
+sections. Of more than 16 the first 16 at which PTP was met are looked at. With --interface the packets of
+one interface alone are looked at; lines have none.
 
 The results are exact for the times in the input, and the offset is that of the clock that stamped it: of the
 slave's where its own port did, at a tap or a mirror port of the box that captured. A capture on the slave's

@@ -6,7 +6,7 @@ use Rattle.tap_following.specs.declared.following.Form.{Form}
 use Rattle.tap_following.specs.SoFar.{crossings_so_far}
 use Rattle.tap_follow.specs.Input.{FollowsInput}
 use Rattle.tap_follow.specs.Told.{TellsInput}
-use Rattle.schedule_replay.specs.Follow.{EndsAs, follow_status, taps_wanted}
+use Rattle.schedule_replay.specs.Follow.{EndsAs, follow_status, taps_wanted, lacking}
 use Rattle.schedule_replay.proofs.following.run_follow.Goals as goal
 
 pub returns : goal.returns
@@ -20,6 +20,7 @@ returns g c =
       followed,
       c.end_with_sums-status.result,
       c.is_beyond.result,
+      c.lacks_tap-lacks.result,
       c.follow-summary.ensures.failures,
       subst (λ (f : Form). FollowsInput f wanted g.R.Read.remaining g.W.Write.contents outcome c.args.input.now c.follow-summary.new.input
           c.args.output.now followed) c.crossing_form-form.ensures c.follow-summary.ensures.followed,
@@ -30,5 +31,6 @@ returns g c =
           (subst (λ (s : ℕ). EndsAs g.W.Write.contents c.asks_sums-are_asked.result summary s c.end_with_sums-status.result followed
           c.end_with_sums-status.new.output) c.finish_followed-status.ensures c.end_with_sums-status.ensures),
       λ course is. c.is_beyond.ensures (crossings_so_far course) (c.sums.ensures course is),
-      c.limited.ensures,
+      c.lacks_tap-lacks.ensures,
+      c.end_with_taps.ensures ∙ ap (λ (s : ℕ). lacking s c.lacks_tap-lacks.result) c.limited-status.ensures,
     )
