@@ -4,7 +4,8 @@
  *
  * ./clock [-2] [-w MILLISECONDS] INTERFACE INTERFACE
  *
- * -2: over Ethernet, in place of UDP. -w: keeps each Sync and each Delay_Req for so long, to show that the stay counts.
+ * -2: over Ethernet, in place of UDP, for which both interfaces need an IPv4 address. -w: keeps each Sync and each
+ * Delay_Req for so long, to show that the stay counts.
  *
  * Both readings of a stay are of the system's clock: the kernel's stamp as the message came, and what the clock shows
  * as it is sent, which the message has to say itself. What the kernel takes from there to the wire counts as a part of
@@ -43,7 +44,7 @@ static void pass_event(const struct interface *from, const struct interface *to,
     if (refusal == PTPX_DONE)
         send_from(to, to->event, NULL, it->octets, it->length);
     else
-        fprintf(stderr, "%s: not passed on: %d\n", from->name, refusal);
+        fprintf(stderr, "%s: not passed on: %d, %s\n", from->name, refusal, ptpx_error_text(refusal));
 }
 
 /* Follow_Ups, Delay_Resps and all other general messages pass as they are. */

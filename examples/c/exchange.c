@@ -46,7 +46,7 @@ int main(void)
     static struct ptpx_slave_memory memory;
     const struct ptpx_config of_master = {{{0x00, 0x11, 0x22, 0xff, 0xfe, 0x33, 0x44, 0x55}, 1}, 0, 0};
     const struct ptpx_config of_slave = {{{0x00, 0xaa, 0xbb, 0xff, 0xfe, 0xcc, 0xdd, 0xee}, 1}, 0, 0};
-    struct ptpx_master master = {{{{0}, 0}, 0, 0}, 0, 0, false};
+    struct ptpx_master master = {{{{0}, 0}, 0, 0}, 0, 0, false, false};
     struct ptpx_slave slave = {NULL};
     struct ptpx_heard heard = {0, 0, false, {0, 0}, {0, 0}, 0, 0, 0, 0};
     uint8_t sync[PTPX_SYNC_LENGTH] = {0}, follow[PTPX_FOLLOW_UP_LENGTH] = {0};

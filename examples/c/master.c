@@ -88,7 +88,7 @@ static void answer(struct station *station, const struct arrival *it)
     }
     const uint16_t refusal = ptpx_master_delay_req(&station->master, it->octets, it->length, it->stamp, response);
     if (refusal != PTPX_DONE) {
-        fprintf(stderr, "not answered: %d\n", refusal);
+        fprintf(stderr, "not answered: %d, %s\n", refusal, ptpx_error_text(refusal));
         return;
     }
     response[6] |= is_unicast ? UNICAST_FLAG : 0;

@@ -64,7 +64,7 @@ static inline void fail(const char *what)
 static inline void must(uint16_t refusal)
 {
     if (refusal != PTPX_DONE) {
-        fprintf(stderr, "refused %d\n", refusal);
+        fprintf(stderr, "refused %d: %s\n", refusal, ptpx_error_text(refusal));
         exit(1);
     }
 }
@@ -81,8 +81,7 @@ static inline int64_t milliseconds(void)
 /* Whether there is a stamp: the kernel writes 0 where there is none, and the library would take that for a time. */
 static inline bool moment_of(struct timespec stamp, struct ptpx_time *moment)
 {
-    const struct ptpx_timestamp timestamp = {(uint64_t)stamp.tv_sec, (uint32_t)stamp.tv_nsec};
-    return (stamp.tv_sec != 0 || stamp.tv_nsec != 0) && ptpx_time_join(timestamp, 0, moment) == PTPX_DONE;
+    return (stamp.tv_sec != 0 || stamp.tv_nsec != 0) && ptpx_time_of_timespec(&stamp, moment) == PTPX_DONE;
 }
 
 /* What the clock shows by which the kernel stamps. */
@@ -168,8 +167,12 @@ static inline struct interface open_interface(const char *name, bool is_ethernet
         fail(name);
     net.event = is_ethernet ? ethernet_socket(&net, true) : udp_socket(&net, EVENT_PORT);
     net.general = is_ethernet ? ethernet_socket(&net, false) : udp_socket(&net, GENERAL_PORT);
-    ask_for_stamps(&net, stamps);
     strncpy(request.ifr_name, name, sizeof request.ifr_name - 1);
+    if (!is_ethernet && ioctl(net.event, SIOCGIFADDR, &request) != 0) {
+        fprintf(stderr, "%s has no IPv4 address: give it one, or speak PTP over Ethernet (-2)\n", name);
+        exit(1);
+    }
+    ask_for_stamps(&net, stamps);
     if (ioctl(net.event, SIOCGIFHWADDR, &request) != 0)
         fail(name);
     memcpy(net.identity.clock, request.ifr_hwaddr.sa_data, 3);
@@ -180,10 +183,7 @@ static inline struct interface open_interface(const char *name, bool is_ethernet
 /* Takes what a socket has, or with MSG_ERRQUEUE the copy of what it sent. Doesn't wait. */
 static inline bool take(const struct interface *net, int fd, int flags, struct arrival *it)
 {
-    union {
-        struct cmsghdr aligned;
-        char octets[512];
-    } control = {.octets = {0}};
+    union { struct cmsghdr aligned; char octets[512]; } control = {.octets = {0}};
     struct scm_timestamping stamps;
     struct iovec part = {it->octets, sizeof it->octets};
     struct msghdr message = {.msg_name = &it->from, .msg_namelen = sizeof it->from, .msg_iov = &part, .msg_iovlen = 1,

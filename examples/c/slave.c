@@ -59,13 +59,12 @@ static void print(const char *what, const struct ptpx_identity *identity)
 /* The time for the watch, by a clock that nobody sets: one that is set could seem to say that the master began anew. */
 static struct ptpx_time now(void)
 {
-    const uint64_t at = (uint64_t)milliseconds();
     struct ptpx_time time = {0, 0};
-    must(ptpx_time_join((struct ptpx_timestamp){at / 1000, (uint32_t)(at % 1000) * 1000000}, 0, &time));
+    must(ptpx_time_of_nanoseconds(milliseconds() * 1000000, &time));
     return time;
 }
 
-/* No call takes a master away: a slave that is restarted has none. One that is back sooner may begin anew, see judge. */
+/* No call takes a master away: a slave that is restarted has none. The watch finds one that is back sooner. */
 static void judge_master(struct station *station)
 {
     if (!station->has_master || milliseconds() < station->silent_at)
@@ -119,10 +118,10 @@ static void told(struct station *station, const struct ptpx_heard *heard)
     const uint16_t reason = heard->reason;
     if (reason == PTPX_REASON_NO_MESSAGE || reason == PTPX_REASON_TOO_BIG || reason == PTPX_REASON_NOT_NEWER ||
         reason == PTPX_REASON_UNKNOWN_REQUEST || reason == PTPX_REASON_EGRESS_UNKNOWN)
-        fprintf(stderr, "ignored: %d\n", reason);
+        fprintf(stderr, "ignored: %d, %s\n", reason, ptpx_error_text(reason));
     if (heard->kind != PTPX_REPORT || station->reports == 0)
         return;
-    if (ptpx_nanoseconds_of_twice(heard->offset2, &offset) != 0 || ptpx_nanoseconds_of_twice(heard->path2, &path) != 0) {
+    if (ptpx_result_to_nanoseconds(heard->offset2, &offset) || ptpx_result_to_nanoseconds(heard->path2, &path)) {
         fprintf(stderr, "a report of more nanoseconds than 64 bits hold\n");
         return;
     }
@@ -130,24 +129,23 @@ static void told(struct station *station, const struct ptpx_heard *heard)
     station->reports--;
 }
 
-/* What the number of the master's Sync or Follow_Up says, or of a Sync that was refused. Only what decodes is told. */
-static uint16_t judge(struct station *station, const struct arrival *it, bool refused)
+/* Whether the slave is to hear a message: not a Sync or a Follow_Up of the master that came before. */
+static bool is_to_be_heard(struct station *station, const struct arrival *it)
 {
     struct ptpx_message message = {0};
     uint16_t judgement = PTPX_NEWER;
     if (!station->has_master || ptpx_decode(it->octets, it->length, &message) != PTPX_DONE ||
         !is_same(&message.source, &station->master))
-        return PTPX_NEWER;
-    const bool is_unicast = (message.flags[0] & UNICAST_FLAG) != 0;
+        return true; /* and the slave ignores it */
     if (message.kind == PTPX_SYNC)
-        must(ptpx_watch_sync(&station->watch, message.sequence, is_unicast, now(), refused, &judgement));
+        must(ptpx_watch_sync(&station->watch, &message, now(), &judgement));
     else if (message.kind == PTPX_FOLLOW_UP)
-        must(ptpx_watch_follow_up(&station->watch, message.sequence, is_unicast, now(), &judgement));
+        must(ptpx_watch_follow_up(&station->watch, &message, now(), &judgement));
     if (judgement == PTPX_BEGAN_ANEW) {
         print("began its numbers anew:", &station->master);
         must(ptpx_slave_set_master(&station->slave, &station->master));
     }
-    return judgement;
+    return judgement != PTPX_REPEATED;
 }
 
 static void hear_event(struct station *station, const struct arrival *it)
@@ -159,11 +157,9 @@ static void hear_event(struct station *station, const struct arrival *it)
         fprintf(stderr, "a Sync without a time stamp\n");
         return;
     }
-    if (judge(station, it, false) == PTPX_REPEATED)
+    if (!is_to_be_heard(station, it))
         return;
     must(ptpx_slave_sync(&station->slave, it->octets, it->length, it->stamp, station->tag++, &heard));
-    if (heard.reason == PTPX_REASON_NOT_NEWER && judge(station, it, true) == PTPX_BEGAN_ANEW)
-        must(ptpx_slave_sync(&station->slave, it->octets, it->length, it->stamp, station->tag++, &heard));
     told(station, &heard);
 }
 
@@ -175,7 +171,7 @@ static void hear_general(struct station *station, const struct arrival *it)
         hear_announce(station, it);
         return;
     }
-    if (judge(station, it, false) == PTPX_REPEATED)
+    if (!is_to_be_heard(station, it))
         return;
     must(ptpx_slave_general(&station->slave, it->octets, it->length, station->tag++, &heard));
     told(station, &heard);

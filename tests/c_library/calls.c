@@ -2,6 +2,7 @@
  * Each call of ptpx.h: what it answers, where the fields of each struct lie, each refusal, and that a refusal writes
  * nothing.
  */
+#define _POSIX_C_SOURCE 199309L /* for struct timespec, which C99 alone hasn't */
 #include "check.h"
 
 /* A Delay_Resp with three octets of suffix, and no two fields alike. */
@@ -64,6 +65,7 @@ static void places(void)
     LIES(ptpx_master, next, 12, 14);
     LIES(ptpx_master, waiting, 14, 16);
     LIES(ptpx_master, waits, 16, 17);
+    LIES(ptpx_master, made, 17, 18);
     LIES(ptpx_slave, memory, 0, 8);
     LIES(ptpx_slave_memory, octets, 0, PTPX_SLAVE_SIZE);
     LIES(ptpx_wide_slave, memory, 0, 8);
@@ -128,6 +130,141 @@ static void numbers(void)
     CHECK(ptpx_nanoseconds_of_twice(above, &result) == PTPX_DONE && result == (int64_t)1 << 46);
     CHECK(ptpx_nanoseconds_of_twice(huge, &result) == PTPX_WIDE && result == (int64_t)1 << 46);
     CHECK(ptpx_signed_to_int64(most, NULL) == PTPX_NULL && ptpx_nanoseconds_of_twice(most, NULL) == PTPX_NULL);
+}
+
+static void versions(void)
+{
+    CHECK(ptpx_archive_version() == PTPX_VERSION_NUMBER);
+    CHECK(PTPX_VERSION_NUMBER == PTPX_VERSION_MAJOR * 1000000 + PTPX_VERSION_MINOR * 1000 + PTPX_VERSION_PATCH);
+}
+
+static bool is_text(uint16_t number, const char *text)
+{
+    return strcmp(ptpx_error_text(number), text) == 0;
+}
+
+/* tests/numbers/run sees that each number has its text. */
+static void texts(void)
+{
+    unsigned said = 0;
+    CHECK(is_text(PTPX_DONE, "done") && is_text(PTPX_OTHER_VERSION, "versionPTP isn't 2"));
+    CHECK(is_text(PTPX_NO_MOMENT, "no moment: it is below 0, or 2^48 s or more"));
+    CHECK(is_text(PTPX_REASON_NO_MASTER, "the slave has no master"));
+    CHECK(is_text(PTPX_NO_TIMESPEC, "no struct timespec: tv_nsec is below 0, or 10^9 or more"));
+    CHECK(is_text(1, "no such number") && is_text(506, "no such number") && is_text(65535, "no such number"));
+    for (unsigned number = 0; number <= UINT16_MAX; number++)
+        said += !is_text((uint16_t)number, "no such number");
+    CHECK(said == 43);
+}
+
+/* Twice a number of nanoseconds, and so many 2^-17 ns. */
+static struct ptpx_signed twice_of(int64_t nanoseconds, int64_t more)
+{
+    struct ptpx_signed twice = {0, 0};
+    CHECK(ptpx_result_of_nanoseconds(nanoseconds, &twice) == PTPX_DONE);
+    if (more >= 0) {
+        twice.low += (uint64_t)more;
+        twice.high += twice.low < (uint64_t)more;
+    } else {
+        twice.high -= twice.low < (uint64_t)-more;
+        twice.low -= (uint64_t)-more;
+    }
+    return twice;
+}
+
+static int64_t nearest_of(struct ptpx_signed twice)
+{
+    int64_t nanoseconds = 77;
+    CHECK(ptpx_result_to_nanoseconds(twice, &nanoseconds) == PTPX_DONE);
+    return nanoseconds;
+}
+
+/* A result of 2^-17 ns less than a half goes down, and a half and more goes up, also below 0. */
+static void results(void)
+{
+    const struct ptpx_signed huge = {0x10000, 0}, wanted = {-1, UINT64_MAX - 131071};
+    struct ptpx_signed twice = {7, 7};
+    int64_t nanoseconds = 7;
+    CHECK(is_signed(twice_of(-1, 0), wanted) && narrow(twice_of(3, 0)) == 3 * 131072);
+    CHECK(nearest_of(twice_of(0, 65535)) == 0 && nearest_of(twice_of(0, 65536)) == 1);
+    CHECK(nearest_of(twice_of(0, -65536)) == 0 && nearest_of(twice_of(0, -65537)) == -1);
+    CHECK(nearest_of(twice_of(-5, -65536)) == -5 && nearest_of(twice_of(-5, 65536)) == -4);
+    CHECK(nearest_of(twice_of(INT64_MAX, 65535)) == INT64_MAX && nearest_of(twice_of(INT64_MIN, -65536)) == INT64_MIN);
+    CHECK(ptpx_result_to_nanoseconds(twice_of(INT64_MAX, 65536), &nanoseconds) == PTPX_WIDE && nanoseconds == 7);
+    CHECK(ptpx_result_to_nanoseconds(twice_of(INT64_MIN, -65537), &nanoseconds) == PTPX_WIDE && nanoseconds == 7);
+    CHECK(ptpx_result_to_nanoseconds(huge, &nanoseconds) == PTPX_WIDE && nanoseconds == 7);
+    CHECK(ptpx_result_to_nanoseconds(huge, NULL) == PTPX_NULL && ptpx_result_of_nanoseconds(1, NULL) == PTPX_NULL);
+    CHECK(twice.high == 7 && twice.low == 7);
+}
+
+/* The same with moments: INT64_MAX ns are 9223372036 s and 854775807 ns. */
+static void moments(void)
+{
+    struct ptpx_time time = {7, 7};
+    int64_t nanoseconds = 7;
+    CHECK(ptpx_time_of_nanoseconds(-1, &time) == PTPX_NO_MOMENT && time.high == 7 && time.low == 7);
+    CHECK(ptpx_time_of_nanoseconds(INT64_MIN, &time) == PTPX_NO_MOMENT);
+    CHECK(ptpx_time_of_nanoseconds(0, &time) == PTPX_DONE && time.high == 0 && time.low == 0);
+    CHECK(ptpx_time_of_nanoseconds(INT64_MAX, &time) == PTPX_DONE);
+    CHECK(time.high == 0x7fff && time.low == UINT64_MAX - 65535);
+    CHECK(ptpx_time_to_nanoseconds(time, &nanoseconds) == PTPX_DONE && nanoseconds == INT64_MAX);
+    CHECK(ptpx_time_to_nanoseconds(at(9223372036, 854775807, 32767), &nanoseconds) == PTPX_DONE);
+    CHECK(nanoseconds == INT64_MAX);
+    CHECK(ptpx_time_to_nanoseconds(at(5, 6, 32767), &nanoseconds) == PTPX_DONE && nanoseconds == 5000000006);
+    CHECK(ptpx_time_to_nanoseconds(at(5, 6, 32768), &nanoseconds) == PTPX_DONE && nanoseconds == 5000000007);
+    CHECK(ptpx_time_to_nanoseconds(at(9223372036, 854775807, 32768), &nanoseconds) == PTPX_WIDE);
+    CHECK(ptpx_time_to_nanoseconds(no_moment, &nanoseconds) == PTPX_NO_MOMENT && nanoseconds == 5000000007);
+    CHECK(ptpx_time_to_nanoseconds(time, NULL) == PTPX_NULL && ptpx_time_of_nanoseconds(1, NULL) == PTPX_NULL);
+}
+
+/* Seconds and nanoseconds past the second, which are 0 to 999,999,999. */
+static void timespecs(void)
+{
+    const struct ptpx_timestamp last = {((uint64_t)1 << 48) - 1, 999999999};
+    struct timespec said;
+    struct ptpx_time time = {7, 7}, same = {0, 0};
+    said.tv_sec = 3;
+    said.tv_nsec = 1000000000;
+    CHECK(ptpx_time_of_timespec(&said, &time) == PTPX_NO_TIMESPEC);
+    said.tv_nsec = -1;
+    CHECK(ptpx_time_of_timespec(&said, &time) == PTPX_NO_TIMESPEC);
+    said.tv_sec = -1;
+    said.tv_nsec = 999999999;
+    CHECK(ptpx_time_of_timespec(&said, &time) == PTPX_NO_MOMENT);
+    said.tv_sec = (int64_t)1 << 48;
+    CHECK(ptpx_time_of_timespec(&said, &time) == PTPX_NO_MOMENT && time.high == 7 && time.low == 7);
+    said.tv_sec--;
+    CHECK(ptpx_time_join(last, 0, &same) == PTPX_DONE && ptpx_time_of_timespec(&said, &time) == PTPX_DONE);
+    CHECK(time.high == same.high && time.low == same.low);
+    CHECK(ptpx_time_to_timespec(at(3, 999999999, 32767), &said) == PTPX_DONE && said.tv_sec == 3);
+    CHECK(said.tv_nsec == 999999999 && ptpx_time_to_timespec(at(3, 999999999, 32768), &said) == PTPX_DONE);
+    CHECK(said.tv_sec == 4 && said.tv_nsec == 0 && ptpx_time_to_timespec(no_moment, &said) == PTPX_NO_MOMENT);
+    CHECK(ptpx_time_join(last, 65535, &time) == PTPX_DONE && ptpx_time_to_timespec(time, &said) == PTPX_DONE);
+    CHECK(said.tv_sec == (int64_t)1 << 48 && said.tv_nsec == 0);
+    CHECK(ptpx_time_to_timespec(time, NULL) == PTPX_NULL && ptpx_time_of_timespec(&said, NULL) == PTPX_NULL);
+    CHECK(ptpx_time_of_timespec(NULL, &time) == PTPX_NULL);
+}
+
+static void timespecs_of_results(void)
+{
+    const struct ptpx_signed huge = {INT64_MAX, 0};
+    struct timespec said;
+    struct ptpx_signed twice = {0, 0};
+    CHECK(ptpx_result_to_timespec(twice_of(-1, 0), &said) == PTPX_DONE);
+    CHECK(said.tv_sec == -1 && said.tv_nsec == 999999999);
+    CHECK(ptpx_result_of_timespec(&said, &twice) == PTPX_DONE && narrow(twice) == -131072);
+    CHECK(ptpx_result_to_timespec(twice_of(-1000000001, 0), &said) == PTPX_DONE);
+    CHECK(said.tv_sec == -2 && said.tv_nsec == 999999999);
+    CHECK(ptpx_result_to_timespec(twice_of(2999999999, 65536), &said) == PTPX_DONE && said.tv_sec == 3);
+    CHECK(said.tv_nsec == 0 && ptpx_result_to_timespec(twice_of(2999999999, 65535), &said) == PTPX_DONE);
+    CHECK(said.tv_sec == 2 && said.tv_nsec == 999999999);
+    CHECK(ptpx_result_to_timespec(huge, &said) == PTPX_WIDE && said.tv_sec == 2 && said.tv_nsec == 999999999);
+    said.tv_nsec = 1000000000;
+    CHECK(ptpx_result_of_timespec(&said, &twice) == PTPX_NO_TIMESPEC);
+    said.tv_nsec = -1;
+    CHECK(ptpx_result_of_timespec(&said, &twice) == PTPX_NO_TIMESPEC && narrow(twice) == -131072);
+    CHECK(ptpx_result_to_timespec(huge, NULL) == PTPX_NULL && ptpx_result_of_timespec(NULL, &twice) == PTPX_NULL);
+    CHECK(ptpx_result_of_timespec(&said, NULL) == PTPX_NULL);
 }
 
 static void times(void)
@@ -211,7 +348,7 @@ static void refused_octets(void)
     octets[0] = 0xAB;
     CHECK(ptpx_decode(octets, 57, &message) == PTPX_OTHER_TYPE);
     octets[1] = 0x11;
-    CHECK(ptpx_decode(octets, 57, &message) == PTPX_VERSION && is_all(&message, 0x55, sizeof message));
+    CHECK(ptpx_decode(octets, 57, &message) == PTPX_OTHER_VERSION && is_all(&message, 0x55, sizeof message));
     CHECK(ptpx_decode(NULL, 57, &message) == PTPX_NULL && ptpx_decode(octets, 57, NULL) == PTPX_NULL);
     CHECK(ptpx_decode(octets, (size_t)PTRDIFF_MAX + 1, &message) == PTPX_TOO_LONG);
 }
@@ -247,11 +384,13 @@ static void refused_fields(void)
 static void clocks(void)
 {
     struct ptpx_stay stay = {{0, 0}, false};
-    struct ptpx_master master = {config_of_master, 0, 0, false};
+    struct ptpx_master master;
     struct ptpx_message message;
     uint8_t octets[44] = {0};
     uint16_t number = 0;
     memset(&message, 0, sizeof message);
+    memset(&master, 0, sizeof master);
+    CHECK(ptpx_master_init(&master, &config_of_master, 0) == PTPX_DONE);
     CHECK(ptpx_master_next_sync(&master, octets, &number) == PTPX_DONE);
     CHECK(ptpx_clock_leave(&stay, octets, 44, at(2, 0, 0)) == PTPX_LEFT_ALREADY);
     CHECK(ptpx_clock_enter(&stay, at(1, 0, 0)) == PTPX_DONE && ptpx_clock_enter(&stay, no_moment) == PTPX_NO_MOMENT);
@@ -274,7 +413,7 @@ static void clocks(void)
 
 static void masters(void)
 {
-    struct ptpx_master master = {config_of_slave, 9, 9, true};
+    struct ptpx_master master = {config_of_slave, 9, 9, true, true};
     struct ptpx_message message;
     uint8_t octets[44] = {0};
     uint16_t number = 0;
@@ -304,15 +443,38 @@ static void masters(void)
     CHECK(ptpx_master_sync_left(&master, 0, at(1, 0, 0), NULL) == PTPX_NULL);
 }
 
+/* A master that is still {0} and was never made; and one that was made and copied goes on. */
+static void unmade_masters(void)
+{
+    struct ptpx_master unmade, made, copied;
+    uint8_t octets[44] = {0}, response[54] = {0};
+    uint16_t number = 7;
+    memset(&unmade, 0, sizeof unmade);
+    CHECK(ptpx_master_next_sync(&unmade, octets, &number) == PTPX_NULL);
+    CHECK(ptpx_master_one_step_sync(&unmade, at(1, 0, 0), octets, &number) == PTPX_NULL);
+    CHECK(ptpx_master_sync_left(&unmade, 0, at(1, 0, 0), octets) == PTPX_NULL);
+    CHECK(ptpx_master_delay_req(&unmade, octets, 44, at(1, 0, 0), response) == PTPX_NULL);
+    CHECK(number == 7 && is_all(octets, 0, 44) && is_all(response, 0, 54) && is_all(&unmade, 0, sizeof unmade));
+    memset(&made, 0, sizeof made);
+    CHECK(ptpx_master_init(&made, &config_of_master, 5) == PTPX_DONE);
+    CHECK(ptpx_master_next_sync(&made, octets, &number) == PTPX_DONE && number == 5);
+    copied = made;
+    CHECK(ptpx_master_one_step_sync(&copied, at(1, 0, 0), octets, &number) == PTPX_DONE && number == 6);
+    CHECK(ptpx_master_sync_left(&copied, 5, at(1, 0, 0), octets) == PTPX_DONE);
+    CHECK(ptpx_master_next_sync(&copied, octets, &number) == PTPX_DONE && number == 7);
+}
+
 static void answers_of_masters(void)
 {
     static struct ptpx_slave_memory memory;
-    struct ptpx_master master = {config_of_master, 0, 0, false};
+    struct ptpx_master master;
     struct ptpx_slave slave = {NULL};
     struct ptpx_message message;
     uint8_t request[44] = {0}, response[54] = {0};
     uint16_t number = 0;
     memset(&message, 0, sizeof message);
+    memset(&master, 0, sizeof master);
+    CHECK(ptpx_master_init(&master, &config_of_master, 0) == PTPX_DONE);
     CHECK(ptpx_slave_init(&slave, &memory, sizeof memory, &config_of_slave, 300) == PTPX_DONE);
     CHECK(ptpx_slave_next_request(&slave, 1, request, &number) == PTPX_DONE && number == 300);
     CHECK(ptpx_master_delay_req(&master, request, 44, no_moment, response) == PTPX_NO_MOMENT);
@@ -330,51 +492,63 @@ static void answers_of_masters(void)
     CHECK(ptpx_master_delay_req(&master, request, (size_t)PTRDIFF_MAX + 1, at(1, 0, 1), response) == PTPX_TOO_LONG);
 }
 
+/* A message of this kind with this number, unicastFlag and logMessageInterval. */
+static struct ptpx_message message_of(uint8_t kind, uint16_t number, bool is_unicast, int8_t log)
+{
+    struct ptpx_message message;
+    memset(&message, 0, sizeof message);
+    message.kind = kind;
+    message.sequence = number;
+    message.flags[0] = is_unicast ? 4 : 0xfb;
+    message.log = log;
+    return message;
+}
+
 static void refused_watches(void)
 {
     static struct ptpx_watch_memory memory;
+    const struct ptpx_message sync = message_of(PTPX_SYNC, 1, false, 0);
+    const struct ptpx_message follow = message_of(PTPX_FOLLOW_UP, 1, false, 0);
     struct ptpx_watch watch = {NULL};
     uint16_t judgement = 77;
     CHECK(ptpx_watch_init(NULL, &memory, sizeof memory) == PTPX_NULL);
     CHECK(ptpx_watch_init(&watch, NULL, sizeof memory) == PTPX_NULL);
     CHECK(ptpx_watch_init(&watch, &memory, sizeof memory - 1) == PTPX_SMALL_MEMORY);
     CHECK(ptpx_watch_init(&watch, memory.octets + 8, sizeof memory) == PTPX_UNALIGNED_MEMORY);
-    CHECK(ptpx_watch_sync(&watch, 1, false, at(1, 0, 0), false, &judgement) == PTPX_NULL);
-    CHECK(ptpx_watch_follow_up(&watch, 1, false, at(1, 0, 0), &judgement) == PTPX_NULL);
+    CHECK(ptpx_watch_sync(&watch, &sync, at(1, 0, 0), &judgement) == PTPX_NULL);
+    CHECK(ptpx_watch_follow_up(&watch, &follow, at(1, 0, 0), &judgement) == PTPX_NULL);
     CHECK(ptpx_watch_init(&watch, &memory, sizeof memory) == PTPX_DONE);
-    CHECK(ptpx_watch_sync(NULL, 1, false, at(1, 0, 0), false, &judgement) == PTPX_NULL);
-    CHECK(ptpx_watch_sync(&watch, 1, false, at(1, 0, 0), false, NULL) == PTPX_NULL);
-    CHECK(ptpx_watch_follow_up(&watch, 1, false, at(1, 0, 0), NULL) == PTPX_NULL);
-    CHECK(ptpx_watch_sync(&watch, 1, false, no_moment, false, &judgement) == PTPX_NO_MOMENT);
-    CHECK(ptpx_watch_sync(&watch, 1, false, no_moment, true, &judgement) == PTPX_NO_MOMENT);
-    CHECK(ptpx_watch_follow_up(&watch, 1, false, no_moment, &judgement) == PTPX_NO_MOMENT);
+    CHECK(ptpx_watch_sync(NULL, &sync, at(1, 0, 0), &judgement) == PTPX_NULL);
+    CHECK(ptpx_watch_sync(&watch, NULL, at(1, 0, 0), &judgement) == PTPX_NULL);
+    CHECK(ptpx_watch_sync(&watch, &sync, at(1, 0, 0), NULL) == PTPX_NULL);
+    CHECK(ptpx_watch_follow_up(NULL, &follow, at(1, 0, 0), &judgement) == PTPX_NULL);
+    CHECK(ptpx_watch_follow_up(&watch, NULL, at(1, 0, 0), &judgement) == PTPX_NULL);
+    CHECK(ptpx_watch_follow_up(&watch, &follow, at(1, 0, 0), NULL) == PTPX_NULL);
+    CHECK(ptpx_watch_sync(&watch, &follow, no_moment, &judgement) == PTPX_WRONG_KIND);
+    CHECK(ptpx_watch_follow_up(&watch, &sync, no_moment, &judgement) == PTPX_WRONG_KIND);
+    CHECK(ptpx_watch_sync(&watch, &sync, no_moment, &judgement) == PTPX_NO_MOMENT);
+    CHECK(ptpx_watch_follow_up(&watch, &follow, no_moment, &judgement) == PTPX_NO_MOMENT);
     CHECK(judgement == 77);
 }
 
-/* What a watch says of a Sync, or that the slave refused it, or of a Follow_Up, of this number at this time. */
-static uint16_t of_sync(struct ptpx_watch *watch, uint16_t number, bool is_unicast, struct ptpx_time time)
+/* What a watch says of a Sync, or of a Follow_Up, of this number at this time. */
+static uint16_t of_sync(struct ptpx_watch *watch, uint16_t number, bool is_unicast, int8_t log, struct ptpx_time time)
 {
+    const struct ptpx_message message = message_of(PTPX_SYNC, number, is_unicast, log);
     uint16_t judgement = 77;
-    CHECK(ptpx_watch_sync(watch, number, is_unicast, time, false, &judgement) == PTPX_DONE);
-    return judgement;
-}
-
-static uint16_t of_refused(struct ptpx_watch *watch, uint16_t number, struct ptpx_time time)
-{
-    uint16_t judgement = 77;
-    CHECK(ptpx_watch_sync(watch, number, false, time, false, &judgement) == PTPX_DONE && judgement == PTPX_NEWER);
-    CHECK(ptpx_watch_sync(watch, number, false, time, true, &judgement) == PTPX_DONE);
+    CHECK(ptpx_watch_sync(watch, &message, time, &judgement) == PTPX_DONE);
     return judgement;
 }
 
 static uint16_t of_follow_up(struct ptpx_watch *watch, uint16_t number, bool is_unicast, struct ptpx_time time)
 {
+    const struct ptpx_message message = message_of(PTPX_FOLLOW_UP, number, is_unicast, 0);
     uint16_t judgement = 77;
-    CHECK(ptpx_watch_follow_up(watch, number, is_unicast, time, &judgement) == PTPX_DONE);
+    CHECK(ptpx_watch_follow_up(watch, &message, time, &judgement) == PTPX_DONE);
     return judgement;
 }
 
-/* A number that comes again, less than a second apart and a second apart, and three that are refused in a row. */
+/* A number that comes again, less than a second apart and a second apart. */
 static void watches(void)
 {
     static struct ptpx_watch_memory memory;
@@ -382,28 +556,72 @@ static void watches(void)
     CHECK(sizeof watch == 8 && ptpx_raw_watch_size() == PTPX_WATCH_SIZE && sizeof memory == PTPX_WATCH_SIZE);
     CHECK(ptpx_raw_watch_alignment() == PTPX_SLAVE_ALIGNMENT);
     CHECK(ptpx_watch_init(&watch, &memory, sizeof memory) == PTPX_DONE);
-    CHECK(of_sync(&watch, 7, false, at(10, 0, 0)) == PTPX_NEWER);
-    CHECK(of_sync(&watch, 7, true, at(20, 0, 0)) == PTPX_NEWER);
-    CHECK(of_sync(&watch, 7, false, at(10, 999999999, 65535)) == PTPX_REPEATED);
+    CHECK(of_sync(&watch, 7, false, 0, at(10, 0, 0)) == PTPX_NEWER);
+    CHECK(of_sync(&watch, 7, true, 0, at(20, 0, 0)) == PTPX_NEWER);
+    CHECK(of_sync(&watch, 7, false, 0, at(10, 999999999, 65535)) == PTPX_REPEATED);
     CHECK(of_follow_up(&watch, 7, false, at(11, 0, 0)) == PTPX_REPEATED);
     CHECK(of_follow_up(&watch, 7, false, at(10, 999999999, 65535)) == PTPX_NEWER);
     CHECK(of_follow_up(&watch, 7, false, at(10, 0, 0)) == PTPX_REPEATED);
     CHECK(of_follow_up(&watch, 8, false, at(12, 0, 0)) == PTPX_NEWER);
-    CHECK(of_sync(&watch, 8, false, at(11, 0, 1)) == PTPX_NEWER);
+    CHECK(of_sync(&watch, 8, false, 0, at(11, 0, 1)) == PTPX_NEWER);
     CHECK(of_follow_up(&watch, 9, false, at(12, 0, 0)) == PTPX_NEWER);
-    CHECK(of_sync(&watch, 9, false, at(11, 0, 0)) == PTPX_BEGAN_ANEW);
-    CHECK(of_sync(&watch, 7, false, at(11, 0, 0)) == PTPX_NEWER);
-    CHECK(of_sync(&watch, 7, false, at(12, 0, 0)) == PTPX_BEGAN_ANEW);
-    CHECK(of_refused(&watch, 65534, at(13, 0, 0)) == PTPX_NEWER);
-    CHECK(of_refused(&watch, 65535, at(14, 0, 0)) == PTPX_NEWER);
-    CHECK(of_refused(&watch, 1, at(15, 0, 0)) == PTPX_NEWER);
-    CHECK(of_refused(&watch, 2, at(16, 0, 0)) == PTPX_NEWER);
-    CHECK(of_sync(&watch, 3, false, at(17, 0, 0)) == PTPX_NEWER);
-    CHECK(of_refused(&watch, 4, at(18, 0, 0)) == PTPX_NEWER);
-    CHECK(of_refused(&watch, 5, at(19, 0, 0)) == PTPX_NEWER);
-    CHECK(of_refused(&watch, 6, at(20, 0, 0)) == PTPX_BEGAN_ANEW);
-    CHECK(of_sync(&watch, 5, false, at(30, 0, 0)) == PTPX_NEWER);
-    CHECK(of_sync(&watch, 6, false, at(20, 0, 0)) == PTPX_REPEATED);
+    CHECK(of_sync(&watch, 9, false, 0, at(11, 0, 0)) == PTPX_BEGAN_ANEW);
+    CHECK(of_sync(&watch, 8, false, 0, at(11, 0, 0)) == PTPX_NEWER);
+    CHECK(of_sync(&watch, 8, false, 0, at(12, 0, 0)) == PTPX_BEGAN_ANEW);
+    CHECK(of_sync(&watch, 7, true, 0, at(12, 0, 0)) == PTPX_NEWER);
+}
+
+/* The Sync of number 100 at 50 s, in a watch that knows nothing else. */
+static struct ptpx_watch watch_of_100(struct ptpx_watch_memory *memory)
+{
+    struct ptpx_watch watch = {NULL};
+    CHECK(ptpx_watch_init(&watch, memory, sizeof *memory) == PTPX_DONE);
+    CHECK(of_sync(&watch, 100, false, 0, at(50, 0, 0)) == PTPX_NEWER);
+    return watch;
+}
+
+/* A number that doesn't fit to the newest one, by itself, by the time, and by the interval that is told. */
+static void lives(void)
+{
+    static struct ptpx_watch_memory memory;
+    static const struct {
+        uint16_t number;
+        int8_t log;
+        uint64_t seconds;
+        uint32_t nanos;
+        uint16_t judgement;
+    } rows[] = {
+        {101, 0, 50, 0, PTPX_NEWER}, {116, 0, 50, 0, PTPX_NEWER}, {116, 6, 50, 0, PTPX_NEWER},
+        {117, 0, 58, 499999999, PTPX_BEGAN_ANEW}, {117, 0, 58, 500000000, PTPX_NEWER},
+        {117, -7, 50, 66406249, PTPX_BEGAN_ANEW}, {117, -7, 50, 66406250, PTPX_NEWER},
+        {117, 6, 593, 999999999, PTPX_BEGAN_ANEW}, {117, 6, 594, 0, PTPX_NEWER},
+        {117, 7, 50, 0, PTPX_NEWER}, {117, -8, 50, 0, PTPX_NEWER}, {117, 127, 50, 0, PTPX_NEWER},
+        {356, 0, 178, 0, PTPX_NEWER}, {356, 0, 177, 999999999, PTPX_BEGAN_ANEW}, {357, 0, 1000, 0, PTPX_BEGAN_ANEW},
+        {99, 0, 50, 999999999, PTPX_NEWER}, {99, 0, 51, 0, PTPX_BEGAN_ANEW}, {99, 0, 49, 0, PTPX_BEGAN_ANEW},
+        {65381, 0, 50, 0, PTPX_NEWER}, {65380, 0, 50, 0, PTPX_BEGAN_ANEW}, {100, 0, 50, 5, PTPX_REPEATED},
+    };
+    for (size_t i = 0; i < sizeof rows / sizeof rows[0]; i++) {
+        struct ptpx_watch watch = watch_of_100(&memory);
+        const struct ptpx_time time = at(rows[i].seconds, rows[i].nanos, 0);
+        CHECK(of_sync(&watch, rows[i].number, false, rows[i].log, time) == rows[i].judgement);
+        CHECK(of_sync(&watch, 5000, true, rows[i].log, time) == PTPX_NEWER);
+    }
+}
+
+/* A Follow_Up from afar, and one of a life that is over. */
+static void follow_ups_of_lives(void)
+{
+    static struct ptpx_watch_memory memory;
+    struct ptpx_watch watch = watch_of_100(&memory);
+    CHECK(of_follow_up(&watch, 357, false, at(50, 0, 0)) == PTPX_REPEATED);
+    CHECK(of_follow_up(&watch, 65380, false, at(50, 0, 0)) == PTPX_REPEATED);
+    CHECK(of_follow_up(&watch, 357, true, at(50, 0, 0)) == PTPX_NEWER);
+    CHECK(of_follow_up(&watch, 356, false, at(50, 0, 0)) == PTPX_NEWER);
+    CHECK(of_follow_up(&watch, 65381, false, at(50, 0, 0)) == PTPX_NEWER);
+    CHECK(of_sync(&watch, 0, false, 0, at(60, 0, 0)) == PTPX_BEGAN_ANEW);
+    CHECK(of_follow_up(&watch, 356, false, at(60, 0, 0)) == PTPX_REPEATED);
+    CHECK(of_follow_up(&watch, 0, false, at(60, 0, 0)) == PTPX_NEWER);
+    CHECK(of_sync(&watch, 1, false, 0, at(61, 0, 0)) == PTPX_NEWER);
 }
 
 int main(void)
@@ -413,7 +631,13 @@ int main(void)
     places_in_messages();
     places_in_answers();
     places_in_exchanges();
+    versions();
+    texts();
     numbers();
+    results();
+    moments();
+    timespecs();
+    timespecs_of_results();
     times();
     brackets();
     codec();
@@ -421,9 +645,12 @@ int main(void)
     refused_fields();
     clocks();
     masters();
+    unmade_masters();
     answers_of_masters();
     refused_watches();
     watches();
+    lives();
+    follow_ups_of_lives();
     printf("calls: %lu checks\n", checks_made);
     return 0;
 }

@@ -122,7 +122,7 @@ static bool is_time(struct ptpx_time time, struct ptpx_time wanted)
 }
 
 /* That there is no last exchange, and nothing is written. */
-static void check_no_last(struct pair *pair)
+static void check_no_last(const struct pair *pair)
 {
     struct ptpx_exchange last = no_exchange;
     last.request_number = 7;

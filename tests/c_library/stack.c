@@ -70,10 +70,15 @@ static void watch_init(void)
 static void watch_calls(void)
 {
     const struct ptpx_time zero = {0, 0};
+    struct ptpx_message message;
     uint16_t judgement = 0;
-    CHECK(ptpx_watch_sync(&watch, 1, false, zero, false, &judgement) == PTPX_DONE);
-    CHECK(ptpx_watch_sync(&watch, 1, false, zero, true, &judgement) == PTPX_DONE);
-    CHECK(ptpx_watch_follow_up(&watch, 1, false, zero, &judgement) == PTPX_DONE);
+    memset(&message, 0, sizeof message);
+    CHECK(ptpx_watch_sync(&watch, &message, zero, &judgement) == PTPX_DONE && judgement == PTPX_NEWER);
+    message.kind = PTPX_FOLLOW_UP;
+    CHECK(ptpx_watch_follow_up(&watch, &message, zero, &judgement) == PTPX_DONE && judgement == PTPX_NEWER);
+    message.kind = PTPX_SYNC;
+    message.sequence = 1000;
+    CHECK(ptpx_watch_sync(&watch, &message, zero, &judgement) == PTPX_DONE && judgement == PTPX_BEGAN_ANEW);
 }
 
 static void codec_calls(void)
@@ -94,6 +99,7 @@ static void time_calls(void)
     struct ptpx_time time = {0, 0};
     struct ptpx_signed a = {0, 0}, b = {0, 0}, twice = {0, 0};
     uint16_t fraction = 0;
+    struct timespec spec = {0, 0};
     int64_t result = 0;
     CHECK(ptpx_time_join(second, 1, &time) == PTPX_DONE && ptpx_time_split(time, &second, &fraction) == PTPX_DONE);
     CHECK(ptpx_sync_bracket(time, second, 2, 3, &a) == PTPX_DONE);
@@ -101,6 +107,12 @@ static void time_calls(void)
     CHECK(ptpx_offset2(a, b, &twice) == PTPX_DONE && ptpx_path2(a, b, &twice) == PTPX_DONE);
     CHECK(ptpx_signed_to_int64(twice, &result) == PTPX_DONE);
     CHECK(ptpx_nanoseconds_of_twice(twice, &result) == PTPX_DONE);
+    CHECK(ptpx_result_to_nanoseconds(twice, &result) == PTPX_DONE);
+    CHECK(ptpx_result_of_nanoseconds(result, &twice) == PTPX_DONE);
+    CHECK(ptpx_result_to_timespec(twice, &spec) == PTPX_DONE && ptpx_result_of_timespec(&spec, &twice) == PTPX_DONE);
+    CHECK(ptpx_time_to_nanoseconds(time, &result) == PTPX_DONE && ptpx_time_of_nanoseconds(result, &time) == PTPX_DONE);
+    CHECK(ptpx_time_to_timespec(time, &spec) == PTPX_DONE && ptpx_time_of_timespec(&spec, &time) == PTPX_DONE);
+    CHECK(ptpx_archive_version() == PTPX_VERSION_NUMBER);
 }
 
 /* How many octets of the stack the calls change. */

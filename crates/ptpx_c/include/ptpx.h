@@ -5,13 +5,14 @@
  *
  * Numbers. Each call answers 0, or the number of the first refusal that applies, in the order in which its comment
  * names them (enum ptpx_refusal). On a refusal nothing is written, and ports and stays are as before, unless the
- * comment says otherwise: so look at the number first. 901 is answered before all others, where a pointer is null or a
- * slave or a watch is still {0} and was never made, and then 902, where a length is more than PTRDIFF_MAX; the comments
- * don't repeat these two.
+ * comment says otherwise: so use what a call wrote only where it answered 0. 901 is answered before all others, where a
+ * pointer is null or a master, a slave or a watch is still {0} and was never made, and then 902, where a length is more
+ * than PTRDIFF_MAX; the comments don't repeat these two. ptpx_error_text has a number in words.
  *
  * Times. A moment is a whole number of 2^-16 ns since the beginning of the timescale, below 2^48 s, in two words
- * (struct ptpx_time). ptpx_time_join makes one of seconds and nanoseconds. The comments say whose clock each time is
- * of. 0 is a moment as any other: a stamp that the kernel leaves at 0, since there is none, isn't to be passed on.
+ * (struct ptpx_time). ptpx_time_of_timespec makes one of a struct timespec, ptpx_time_of_nanoseconds of a number of
+ * nanoseconds, and ptpx_time_join of a timestamp of the protocol. The comments say whose clock each time is of. 0 is a
+ * moment as any other: a stamp that the kernel leaves at 0, since there is none, isn't to be passed on.
  *
  * Messages. Over UDP event messages come to port 319 and general messages to port 320. Ethernet has no ports: there
  * messageType says it, the low four bits of the first octet: 0 to 7 are event messages, 8 to 15 general ones. Where
@@ -41,18 +42,41 @@
 #ifndef PTPX_H
 #define PTPX_H
 
+/* The version of this header. That of the archive is ptpx_archive_version(), in the form of PTPX_VERSION_NUMBER. */
+#define PTPX_VERSION_MAJOR 0
+#define PTPX_VERSION_MINOR 9
+#define PTPX_VERSION_PATCH 0
+#define PTPX_VERSION_STRING "0.9.0"
+#define PTPX_VERSION_NUMBER (PTPX_VERSION_MAJOR * 1000000 + PTPX_VERSION_MINOR * 1000 + PTPX_VERSION_PATCH)
+
+/* There is an archive for these alone. */
+#if defined(__SIZEOF_POINTER__) && __SIZEOF_POINTER__ != 8
+#error "ptpx.h is 64-bit only: there is no archive for processors of 32 bits, as Cortex-M or 32-bit RISC-V"
+#elif !(defined(__x86_64__) || defined(__aarch64__)) || defined(__AARCH64EB__) || !defined(__linux__)
+#error "ptpx.h is for Linux on x86-64 or on little-endian aarch64: there is no archive for this target"
+#endif
+
 #include <stdbool.h>
 #include <stddef.h>
 #include <stdint.h>
+
+#if !defined(__STDC_HOSTED__) || __STDC_HOSTED__
+#include <time.h>
+/* C has struct timespec from C11 on, C++ from C++17 on, and POSIX has it in each of them. */
+#if (defined(__STDC_VERSION__) && __STDC_VERSION__ >= 201112L) || (defined(__cplusplus) && __cplusplus >= 201703L) \
+    || (defined(_POSIX_C_SOURCE) && _POSIX_C_SOURCE >= 199309L)
+#define PTPX_HAS_TIMESPEC
+#endif
+#endif
 
 #ifdef __cplusplus
 extern "C" {
 #endif
 
 #if defined(__GNUC__)
-#define PTPX_LOOK_AT_IT __attribute__((warn_unused_result))
+#define PTPX_WARN_UNUSED __attribute__((warn_unused_result))
 #else
-#define PTPX_LOOK_AT_IT
+#define PTPX_WARN_UNUSED
 #endif
 
 #if defined(__cplusplus) && __cplusplus < 201103L
@@ -70,10 +94,10 @@ extern "C" {
 #endif
 
 #if defined(__cplusplus)
-#define PTPX_OCTETS_OF(memory) static_cast<uint8_t *>(memory)
+#define PTPX_CAST(type, value) static_cast<type>(value)
 #define PTPX_ADDRESS_OF(memory) reinterpret_cast<uintptr_t>(memory)
 #else
-#define PTPX_OCTETS_OF(memory) ((uint8_t *)(memory))
+#define PTPX_CAST(type, value) ((type)(value))
 #define PTPX_ADDRESS_OF(memory) ((uintptr_t)(memory))
 #endif
 
@@ -93,7 +117,7 @@ enum ptpx_refusal {
     PTPX_SECONDS = 102,             /* no timestamp: the seconds are 2^48 or more */
     PTPX_NANOSECONDS = 103,         /* no timestamp: the nanoseconds are 10^9 or more */
     PTPX_SHORT = 201,               /* there are fewer than the 34 octets of a header */
-    PTPX_VERSION = 202,             /* versionPTP isn't 2 */
+    PTPX_OTHER_VERSION = 202,       /* versionPTP isn't 2 */
     PTPX_OTHER_TYPE = 203,          /* messageType isn't Sync (0), Delay_Req (1), Follow_Up (8) or Delay_Resp (9) */
     PTPX_LENGTH_FIELD = 204,        /* messageLength is below 44, or 54 for a Delay_Resp */
     PTPX_TRUNCATED = 205,           /* there are fewer octets than messageLength */
@@ -109,7 +133,7 @@ enum ptpx_refusal {
     PTPX_NOT_EVENT = 402,           /* the message is neither Sync nor Delay_Req */
     PTPX_NEGATIVE_RESIDENCE = 403,  /* the clock reads less than when the message entered */
     PTPX_NOT_HELD = 511,            /* no held Delay_Req has this number */
-    PTPX_NULL = 901,                /* a pointer is null */
+    PTPX_NULL = 901,                /* a pointer is null, or the master, slave or watch was never made */
     PTPX_TOO_LONG = 902,            /* a length is more than PTRDIFF_MAX */
     PTPX_NO_KIND = 903,             /* the type isn't Sync (0), Delay_Req (1), Follow_Up (8) or Delay_Resp (9) */
     PTPX_NIBBLE = 904,              /* majorSdoId or minorVersionPTP is 16 or more */
@@ -118,7 +142,9 @@ enum ptpx_refusal {
     PTPX_UNALIGNED_MEMORY = 907,    /* the address of the memory isn't a multiple of 16 */
     PTPX_NO_BRACKET = 908,          /* a bracket isn't strictly between -2^96 and 2^96 */
     PTPX_WIDE = 909,                /* the number doesn't fit a signed number of 64 bits */
-    PTPX_NO_EXCHANGE = 910 /* there is no last exchange: none was reported, or a half of it was dropped since */
+    PTPX_NO_EXCHANGE = 910, /* there is no last exchange: none was reported, or a half of it was dropped since */
+    PTPX_NO_TIMESPEC = 911,         /* no struct timespec: tv_nsec is below 0, or 10^9 or more */
+    PTPX_WRONG_KIND = 912           /* the message isn't of the type that the call is for */
 };
 
 /* Why a slave ignores a message, in the order in which it is tested. */
@@ -209,6 +235,7 @@ struct ptpx_master {
     uint16_t next;
     uint16_t waiting;
     bool waits;
+    bool made;
 };
 
 /* A slave port, which holds 16 Syncs, 16 Follow_Ups and 16 Delay_Reqs at most. The field is the library's. */
@@ -245,7 +272,7 @@ struct ptpx_watch {
 };
 
 /* What the memory of a watch takes. Its address is a multiple of what that of a slave port is. */
-#define PTPX_WATCH_SIZE 37072
+#define PTPX_WATCH_SIZE 37152
 
 /* Memory for a watch. */
 struct ptpx_watch_memory {
@@ -255,7 +282,7 @@ struct ptpx_watch_memory {
 /* What the number of a master's Sync or Follow_Up says. */
 enum ptpx_judgement {
     PTPX_NEWER = 0,     /* nothing: the slave is to hear it */
-    PTPX_REPEATED = 1,  /* it came before: the slave isn't to hear it again */
+    PTPX_REPEATED = 1,  /* it came before, or is a Follow_Up of another Sync: the slave isn't to hear it */
     PTPX_BEGAN_ANEW = 2 /* the master began its numbers anew: the slave is to be told it again, and then to hear it */
 };
 
@@ -317,7 +344,8 @@ PTPX_HOLDS(layout_of_message,
                && PTPX_LIES(ptpx_message, requesting, 56) && PTPX_LIES(ptpx_message, suffix_length, 66));
 PTPX_HOLDS(layout_of_stay, sizeof(struct ptpx_stay) == 24 && PTPX_LIES(ptpx_stay, inside, 16));
 PTPX_HOLDS(layout_of_master, sizeof(struct ptpx_master) == 18 && PTPX_LIES(ptpx_master, next, 12)
-                                 && PTPX_LIES(ptpx_master, waiting, 14) && PTPX_LIES(ptpx_master, waits, 16));
+                                 && PTPX_LIES(ptpx_master, waiting, 14) && PTPX_LIES(ptpx_master, waits, 16)
+                                 && PTPX_LIES(ptpx_master, made, 17));
 PTPX_HOLDS(layout_of_slave, sizeof(struct ptpx_slave) == 8 && sizeof(struct ptpx_wide_slave) == 8);
 PTPX_HOLDS(layout_of_memory, sizeof(struct ptpx_slave_memory) == PTPX_SLAVE_SIZE
                                  && sizeof(struct ptpx_wide_slave_memory) == PTPX_WIDE_SLAVE_SIZE);
@@ -337,8 +365,17 @@ PTPX_HOLDS(layout_of_exchange,
 #undef PTPX_HOLDS
 
 /* The library's own calls. Use the inline functions below. */
+uint32_t ptpx_raw_version(void);
 uint16_t ptpx_raw_signed_to_int64(struct ptpx_signed value, int64_t *narrow);
 uint16_t ptpx_raw_nanoseconds_of_twice(struct ptpx_signed twice, int64_t *nanoseconds);
+void ptpx_raw_result_of_nanoseconds(int64_t nanoseconds, struct ptpx_signed *twice);
+uint16_t ptpx_raw_result_to_nanoseconds(struct ptpx_signed twice, int64_t *nanoseconds);
+uint16_t ptpx_raw_result_of_timespec(int64_t seconds, int64_t nanoseconds, struct ptpx_signed *twice);
+uint16_t ptpx_raw_result_to_timespec(struct ptpx_signed twice, int64_t *seconds, int64_t *nanoseconds);
+uint16_t ptpx_raw_time_of_nanoseconds(int64_t nanoseconds, struct ptpx_time *time);
+uint16_t ptpx_raw_time_to_nanoseconds(struct ptpx_time time, int64_t *nanoseconds);
+uint16_t ptpx_raw_time_of_timespec(int64_t seconds, int64_t nanoseconds, struct ptpx_time *time);
+uint16_t ptpx_raw_time_to_timespec(struct ptpx_time time, int64_t *seconds, int64_t *nanoseconds);
 uint16_t ptpx_raw_time_join(struct ptpx_timestamp timestamp, uint16_t fraction, struct ptpx_time *time);
 uint16_t ptpx_raw_time_split(struct ptpx_time time, struct ptpx_timestamp *timestamp, uint16_t *fraction);
 uint16_t ptpx_raw_sync_bracket(struct ptpx_time t2, struct ptpx_timestamp precise, int64_t c_follow, int64_t c_sync,
@@ -372,7 +409,7 @@ uint16_t ptpx_raw_slave_sync(struct ptpx_slave *slave, const uint8_t *octets, si
                              uint64_t tag, struct ptpx_heard *heard);
 void ptpx_raw_slave_general(struct ptpx_slave *slave, const uint8_t *octets, size_t length, uint64_t tag,
                             struct ptpx_heard *heard);
-uint16_t ptpx_raw_slave_last(struct ptpx_slave *slave, struct ptpx_exchange *exchange);
+uint16_t ptpx_raw_slave_last(const struct ptpx_slave *slave, struct ptpx_exchange *exchange);
 size_t ptpx_raw_wide_slave_size(void);
 size_t ptpx_raw_wide_slave_alignment(void);
 void ptpx_raw_wide_slave_init(struct ptpx_wide_slave *slave, const struct ptpx_config *config, uint16_t first);
@@ -385,21 +422,80 @@ uint16_t ptpx_raw_wide_slave_sync(struct ptpx_wide_slave *slave, const uint8_t *
                                   struct ptpx_time t2, uint64_t tag, struct ptpx_heard *heard);
 void ptpx_raw_wide_slave_general(struct ptpx_wide_slave *slave, const uint8_t *octets, size_t length, uint64_t tag,
                                  struct ptpx_heard *heard);
-uint16_t ptpx_raw_wide_slave_last(struct ptpx_wide_slave *slave, struct ptpx_exchange *exchange);
+uint16_t ptpx_raw_wide_slave_last(const struct ptpx_wide_slave *slave, struct ptpx_exchange *exchange);
 void ptpx_raw_watch_init(struct ptpx_watch *watch);
-uint16_t ptpx_raw_watch_sync(struct ptpx_watch *watch, uint16_t number, bool is_unicast, struct ptpx_time time,
-                             uint16_t *judgement);
-uint16_t ptpx_raw_watch_refused(struct ptpx_watch *watch, uint16_t number, bool is_unicast, struct ptpx_time time,
-                                uint16_t *judgement);
-uint16_t ptpx_raw_watch_follow_up(struct ptpx_watch *watch, uint16_t number, bool is_unicast, struct ptpx_time time,
-                                  uint16_t *judgement);
+uint16_t ptpx_raw_watch_sync(struct ptpx_watch *watch, uint16_t number, bool is_unicast, int8_t log,
+                             struct ptpx_time time, uint16_t *judgement);
+uint16_t ptpx_raw_watch_follow_up(struct ptpx_watch *watch, uint16_t number, bool is_unicast, int8_t log,
+                                  struct ptpx_time time, uint16_t *judgement);
 size_t ptpx_raw_watch_size(void);
 size_t ptpx_raw_watch_alignment(void);
+
+/* ---- the version, and numbers in words ---- */
+
+/* The version of the archive. Where it isn't PTPX_VERSION_NUMBER, the archive isn't the one of this header. */
+PTPX_WARN_UNUSED
+static inline uint32_t ptpx_archive_version(void)
+{
+    return ptpx_raw_version();
+}
+
+/* A number of enum ptpx_refusal or enum ptpx_reason in English words. Of any other number: "no such number". */
+PTPX_WARN_UNUSED
+static inline const char *ptpx_error_text(uint16_t number)
+{
+    switch (number) {
+    case 0: return "done";
+    case PTPX_NO_MOMENT: return "no moment: it is below 0, or 2^48 s or more";
+    case PTPX_SECONDS: return "no timestamp: the seconds are 2^48 or more";
+    case PTPX_NANOSECONDS: return "no timestamp: the nanoseconds are 10^9 or more";
+    case PTPX_SHORT: return "there are fewer than the 34 octets of a header";
+    case PTPX_OTHER_VERSION: return "versionPTP isn't 2";
+    case PTPX_OTHER_TYPE: return "messageType isn't Sync (0), Delay_Req (1), Follow_Up (8) or Delay_Resp (9)";
+    case PTPX_LENGTH_FIELD: return "messageLength is below 44, or 54 for a Delay_Resp";
+    case PTPX_TRUNCATED: return "there are fewer octets than messageLength";
+    case PTPX_STAMP_NANOSECONDS: return "the nanoseconds of the timestamp are 10^9 or more";
+    case PTPX_NO_ROOM: return "the buffer is shorter than the message";
+    case PTPX_SUFFIX_TOO_LONG: return "the suffix is too long: messageLength would pass 65535";
+    case PTPX_NOT_WAITING: return "no Sync of this number waits for its departure time";
+    case PTPX_MASTER_NO_MESSAGE: return "the octets are no message";
+    case PTPX_NOT_REQUEST: return "the message is no Delay_Req";
+    case PTPX_MASTER_OTHER_DOMAIN: return "domainNumber isn't that of the master";
+    case PTPX_CORRECTION_TOO_LOW: return "the correction of the Delay_Resp would be below -2^63 units of 2^-16 ns";
+    case PTPX_CLOCK_NO_MESSAGE: return "the octets are no message";
+    case PTPX_NOT_EVENT: return "the message is neither Sync nor Delay_Req";
+    case PTPX_NEGATIVE_RESIDENCE: return "the clock reads less than when the message entered";
+    case PTPX_NOT_HELD: return "no held Delay_Req has this number";
+    case PTPX_NULL: return "a pointer is null, or the master, slave or watch was never made";
+    case PTPX_TOO_LONG: return "a length is more than PTRDIFF_MAX";
+    case PTPX_NO_KIND: return "the type isn't Sync (0), Delay_Req (1), Follow_Up (8) or Delay_Resp (9)";
+    case PTPX_NIBBLE: return "majorSdoId or minorVersionPTP is 16 or more";
+    case PTPX_LEFT_ALREADY: return "no message stays: it left already, or never entered";
+    case PTPX_SMALL_MEMORY: return "the memory is smaller than a slave port, or than a watch";
+    case PTPX_UNALIGNED_MEMORY: return "the address of the memory isn't a multiple of 16";
+    case PTPX_NO_BRACKET: return "a bracket isn't strictly between -2^96 and 2^96";
+    case PTPX_WIDE: return "the number doesn't fit a signed number of 64 bits";
+    case PTPX_NO_EXCHANGE: return "there is no last exchange: none was reported, or a half of it was dropped since";
+    case PTPX_NO_TIMESPEC: return "no struct timespec: tv_nsec is below 0, or 10^9 or more";
+    case PTPX_WRONG_KIND: return "the message isn't of the type that the call is for";
+    case PTPX_REASON_NO_MESSAGE: return "the octets are no message";
+    case PTPX_REASON_WRONG_TYPE: return "the message is of another type than the ones that are heard here";
+    case PTPX_REASON_OTHER_DOMAIN: return "domainNumber isn't that of the slave";
+    case PTPX_REASON_NO_MASTER: return "the slave has no master";
+    case PTPX_REASON_OTHER_MASTER: return "sourcePortIdentity isn't that of the present master";
+    case PTPX_REASON_TOO_BIG: return "the correction is too big to be represented";
+    case PTPX_REASON_NOT_NEWER: return "sequenceId is neither that of the last Sync that was completed nor newer";
+    case PTPX_REASON_OTHER_REQUESTER: return "requestingPortIdentity isn't that of the slave";
+    case PTPX_REASON_UNKNOWN_REQUEST: return "no held Delay_Req has this sequenceId";
+    case PTPX_REASON_EGRESS_UNKNOWN: return "it isn't known when the Delay_Req of this sequenceId left";
+    default: return "no such number";
+    }
+}
 
 /* ---- numbers ---- */
 
 /* The number in 64 bits. 909 where it doesn't fit. */
-PTPX_LOOK_AT_IT
+PTPX_WARN_UNUSED
 static inline uint16_t ptpx_signed_to_int64(struct ptpx_signed value, int64_t *narrow)
 {
     if (narrow == NULL)
@@ -407,8 +503,59 @@ static inline uint16_t ptpx_signed_to_int64(struct ptpx_signed value, int64_t *n
     return ptpx_raw_signed_to_int64(value, narrow);
 }
 
-/* Half of offset2 or path2 in whole nanoseconds, rounded down. 909 where that doesn't fit. */
-PTPX_LOOK_AT_IT
+/*
+ * A result in nanoseconds, that is half of offset2 or path2, rounded to the nearest, and a half to the greater: -0.5 ns
+ * becomes 0, and 0.5 ns becomes 1. 909 where that doesn't fit 64 bits.
+ */
+PTPX_WARN_UNUSED
+static inline uint16_t ptpx_result_to_nanoseconds(struct ptpx_signed twice, int64_t *nanoseconds)
+{
+    if (nanoseconds == NULL)
+        return PTPX_NULL;
+    return ptpx_raw_result_to_nanoseconds(twice, nanoseconds);
+}
+
+/* What offset2 or path2 is where the result is this number of nanoseconds, as a limit of a servo may be. */
+PTPX_WARN_UNUSED
+static inline uint16_t ptpx_result_of_nanoseconds(int64_t nanoseconds, struct ptpx_signed *twice)
+{
+    if (twice == NULL)
+        return PTPX_NULL;
+    ptpx_raw_result_of_nanoseconds(nanoseconds, twice);
+    return PTPX_DONE;
+}
+
+#ifdef PTPX_HAS_TIMESPEC
+/*
+ * The same in seconds and nanoseconds, rounded so. As POSIX has it tv_nsec is 0 to 999,999,999, also of a result below
+ * 0: -1 ns is -1 s and 999,999,999 ns. 909 where the seconds don't fit 64 bits.
+ */
+PTPX_WARN_UNUSED
+static inline uint16_t ptpx_result_to_timespec(struct ptpx_signed twice, struct timespec *timespec)
+{
+    int64_t seconds = 0, nanoseconds = 0;
+    if (timespec == NULL)
+        return PTPX_NULL;
+    const uint16_t refusal = ptpx_raw_result_to_timespec(twice, &seconds, &nanoseconds);
+    if (refusal != PTPX_DONE)
+        return refusal;
+    timespec->tv_sec = seconds;
+    timespec->tv_nsec = nanoseconds;
+    return PTPX_DONE;
+}
+
+/* What offset2 or path2 is where the result is this. 911. */
+PTPX_WARN_UNUSED
+static inline uint16_t ptpx_result_of_timespec(const struct timespec *timespec, struct ptpx_signed *twice)
+{
+    if (timespec == NULL || twice == NULL)
+        return PTPX_NULL;
+    return ptpx_raw_result_of_timespec(timespec->tv_sec, timespec->tv_nsec, twice);
+}
+#endif
+
+/* As ptpx_result_to_nanoseconds, but rounded down: -0.5 ns becomes -1. 909. */
+PTPX_WARN_UNUSED
 static inline uint16_t ptpx_nanoseconds_of_twice(struct ptpx_signed twice, int64_t *nanoseconds)
 {
     if (nanoseconds == NULL)
@@ -418,8 +565,55 @@ static inline uint16_t ptpx_nanoseconds_of_twice(struct ptpx_signed twice, int64
 
 /* ---- times ---- */
 
+/* The moment so many nanoseconds after the beginning of the timescale. 101. */
+PTPX_WARN_UNUSED
+static inline uint16_t ptpx_time_of_nanoseconds(int64_t nanoseconds, struct ptpx_time *time)
+{
+    if (time == NULL)
+        return PTPX_NULL;
+    return ptpx_raw_time_of_nanoseconds(nanoseconds, time);
+}
+
+/*
+ * The nanoseconds from the beginning of the timescale to a moment, rounded to the nearest, and a half to the later.
+ * 101; 909 where that doesn't fit 64 bits, which is so from 292 years on.
+ */
+PTPX_WARN_UNUSED
+static inline uint16_t ptpx_time_to_nanoseconds(struct ptpx_time time, int64_t *nanoseconds)
+{
+    if (nanoseconds == NULL)
+        return PTPX_NULL;
+    return ptpx_raw_time_to_nanoseconds(time, nanoseconds);
+}
+
+#ifdef PTPX_HAS_TIMESPEC
+/* The moment that a struct timespec is. 911, 101. */
+PTPX_WARN_UNUSED
+static inline uint16_t ptpx_time_of_timespec(const struct timespec *timespec, struct ptpx_time *time)
+{
+    if (timespec == NULL || time == NULL)
+        return PTPX_NULL;
+    return ptpx_raw_time_of_timespec(timespec->tv_sec, timespec->tv_nsec, time);
+}
+
+/* A moment as a struct timespec, rounded to the nearest nanosecond, and a half to the later. 101. */
+PTPX_WARN_UNUSED
+static inline uint16_t ptpx_time_to_timespec(struct ptpx_time time, struct timespec *timespec)
+{
+    int64_t seconds = 0, nanoseconds = 0;
+    if (timespec == NULL)
+        return PTPX_NULL;
+    const uint16_t refusal = ptpx_raw_time_to_timespec(time, &seconds, &nanoseconds);
+    if (refusal != PTPX_DONE)
+        return refusal;
+    timespec->tv_sec = seconds;
+    timespec->tv_nsec = nanoseconds;
+    return PTPX_DONE;
+}
+#endif
+
 /* The moment of a timestamp, and a fraction of a nanosecond in 2^-16 ns. 102, 103. */
-PTPX_LOOK_AT_IT
+PTPX_WARN_UNUSED
 static inline uint16_t ptpx_time_join(struct ptpx_timestamp timestamp, uint16_t fraction, struct ptpx_time *time)
 {
     if (time == NULL)
@@ -428,7 +622,7 @@ static inline uint16_t ptpx_time_join(struct ptpx_timestamp timestamp, uint16_t 
 }
 
 /* The timestamp of a moment, and its fraction of a nanosecond in 2^-16 ns. 101. */
-PTPX_LOOK_AT_IT
+PTPX_WARN_UNUSED
 static inline uint16_t ptpx_time_split(struct ptpx_time time, struct ptpx_timestamp *timestamp, uint16_t *fraction)
 {
     if (timestamp == NULL || fraction == NULL)
@@ -441,7 +635,7 @@ static inline uint16_t ptpx_time_split(struct ptpx_time time, struct ptpx_timest
  * (timestamp and correction), less the Sync's own correction: strictly between -2^96 and 2^96, in 2^-16 ns. 101, 102,
  * 103.
  */
-PTPX_LOOK_AT_IT
+PTPX_WARN_UNUSED
 static inline uint16_t ptpx_sync_bracket(struct ptpx_time t2, struct ptpx_timestamp precise, int64_t c_follow,
                                          int64_t c_sync, struct ptpx_signed *bracket)
 {
@@ -454,7 +648,7 @@ static inline uint16_t ptpx_sync_bracket(struct ptpx_time t2, struct ptpx_timest
  * The Delay_Req's arrival by the master's clock, which its Delay_Resp says (timestamp less correction), less its
  * departure t3 by the slave's clock: strictly between -2^96 and 2^96, in 2^-16 ns. 101, 102, 103.
  */
-PTPX_LOOK_AT_IT
+PTPX_WARN_UNUSED
 static inline uint16_t ptpx_delay_bracket(struct ptpx_timestamp receive, int64_t c_resp, struct ptpx_time t3,
                                           struct ptpx_signed *bracket)
 {
@@ -467,7 +661,7 @@ static inline uint16_t ptpx_delay_bracket(struct ptpx_timestamp receive, int64_t
  * Twice offsetFromMaster (11.2), a - b, of a Sync's bracket a and a Delay_Req's b; positive where the slave is ahead.
  * 908.
  */
-PTPX_LOOK_AT_IT
+PTPX_WARN_UNUSED
 static inline uint16_t ptpx_offset2(struct ptpx_signed a, struct ptpx_signed b, struct ptpx_signed *twice)
 {
     if (twice == NULL)
@@ -476,7 +670,7 @@ static inline uint16_t ptpx_offset2(struct ptpx_signed a, struct ptpx_signed b, 
 }
 
 /* Twice meanPathDelay (11.3), a + b, of a Sync's bracket a and a Delay_Req's b. 908. */
-PTPX_LOOK_AT_IT
+PTPX_WARN_UNUSED
 static inline uint16_t ptpx_path2(struct ptpx_signed a, struct ptpx_signed b, struct ptpx_signed *twice)
 {
     if (twice == NULL)
@@ -490,7 +684,7 @@ static inline uint16_t ptpx_path2(struct ptpx_signed a, struct ptpx_signed b, st
  * The fields of the message that the octets begin with. Its suffix, the TLVs, are the suffix_length octets from octet
  * 54 of a Delay_Resp on, and from octet 44 of the others. 201 to 206.
  */
-PTPX_LOOK_AT_IT
+PTPX_WARN_UNUSED
 static inline uint16_t ptpx_decode(const uint8_t *octets, size_t length, struct ptpx_message *message)
 {
     if (octets == NULL || message == NULL)
@@ -505,7 +699,7 @@ static inline uint16_t ptpx_decode(const uint8_t *octets, size_t length, struct 
  * of the buffer stays. The fields suffix_length, and requesting but in a Delay_Resp, aren't looked at: ptpx_decode
  * gives all others as they were. A suffix of no octets may be null. 903, 904, 102, 103, 211, 212.
  */
-PTPX_LOOK_AT_IT
+PTPX_WARN_UNUSED
 static inline uint16_t ptpx_encode(const struct ptpx_message *message, const uint8_t *suffix, size_t suffix_length,
                                    uint8_t *buffer, size_t room, size_t *length)
 {
@@ -520,7 +714,7 @@ static inline uint16_t ptpx_encode(const struct ptpx_message *message, const uin
 /*
  * Puts the correctionField, in 2^-16 ns, into octets 8 to 15; all others stay. A checksum of UDP is the caller's. 201.
  */
-PTPX_LOOK_AT_IT
+PTPX_WARN_UNUSED
 static inline uint16_t ptpx_patch_correction(uint8_t *octets, size_t length, int64_t correction)
 {
     if (octets == NULL)
@@ -537,7 +731,7 @@ static inline uint16_t ptpx_patch_correction(uint8_t *octets, size_t length, int
  * counts. A stay that was begun in this struct and isn't over is given up, so each message that is inside needs a
  * struct of its own. 101.
  */
-PTPX_LOOK_AT_IT
+PTPX_WARN_UNUSED
 static inline uint16_t ptpx_clock_enter(struct ptpx_stay *stay, struct ptpx_time reading)
 {
     if (stay == NULL)
@@ -552,7 +746,7 @@ static inline uint16_t ptpx_clock_enter(struct ptpx_stay *stay, struct ptpx_time
  * On any refusal the octets are as before, and no Sync or Delay_Req is to be sent so. Follow_Up and Delay_Resp (402)
  * pass a clock as they are, best without a call; messages of other types, as Pdelay_Req, are 401.
  */
-PTPX_LOOK_AT_IT
+PTPX_WARN_UNUSED
 static inline uint16_t ptpx_clock_leave(struct ptpx_stay *stay, uint8_t *octets, size_t length,
                                         struct ptpx_time reading)
 {
@@ -569,6 +763,7 @@ static inline uint16_t ptpx_clock_leave(struct ptpx_stay *stay, uint8_t *octets,
  * Makes a master port whose Syncs are numbered from first on; after 65,535 comes 0. A port that is made again after a
  * restart begins best where the last one stopped: slaves take a number for newer where it is 1 to 32,767 ahead.
  */
+PTPX_WARN_UNUSED
 static inline uint16_t ptpx_master_init(struct ptpx_master *master, const struct ptpx_config *config, uint16_t first)
 {
     if (master == NULL || config == NULL)
@@ -581,20 +776,25 @@ static inline uint16_t ptpx_master_init(struct ptpx_master *master, const struct
  * The 44 octets of the next two-step Sync, and its number. It waits for ptpx_master_sync_left; one that was waiting
  * is given up, since one alone can wait.
  */
+PTPX_WARN_UNUSED
 static inline uint16_t ptpx_master_next_sync(struct ptpx_master *master, uint8_t octets[44], uint16_t *number)
 {
-    if (master == NULL || octets == NULL || number == NULL)
+    if (master == NULL || !master->made || octets == NULL || number == NULL)
         return PTPX_NULL;
     ptpx_raw_master_next_sync(master, octets, number);
     return PTPX_DONE;
 }
 
-/* The 44 octets of the next one-step Sync, which leaves at t1 by the master's clock, and its number. 101. */
-PTPX_LOOK_AT_IT
+/*
+ * The 44 octets of the next one-step Sync, which leaves at t1 by the master's clock, and its number. An earlier
+ * two-step Sync that waits for its Follow_Up goes on waiting: ptpx_master_sync_left takes its number after this call,
+ * too. 101.
+ */
+PTPX_WARN_UNUSED
 static inline uint16_t ptpx_master_one_step_sync(struct ptpx_master *master, struct ptpx_time t1, uint8_t octets[44],
                                                  uint16_t *number)
 {
-    if (master == NULL || octets == NULL || number == NULL)
+    if (master == NULL || !master->made || octets == NULL || number == NULL)
         return PTPX_NULL;
     return ptpx_raw_master_one_step_sync(master, t1, octets, number);
 }
@@ -603,11 +803,11 @@ static inline uint16_t ptpx_master_one_step_sync(struct ptpx_master *master, str
  * The 44 octets of the Follow_Up of the Sync that waits, which left at t1 by the master's clock; none waits then. 101,
  * 301.
  */
-PTPX_LOOK_AT_IT
+PTPX_WARN_UNUSED
 static inline uint16_t ptpx_master_sync_left(struct ptpx_master *master, uint16_t number, struct ptpx_time t1,
                                              uint8_t octets[44])
 {
-    if (master == NULL || octets == NULL)
+    if (master == NULL || !master->made || octets == NULL)
         return PTPX_NULL;
     return ptpx_raw_master_sync_left(master, number, t1, octets);
 }
@@ -618,11 +818,11 @@ static inline uint16_t ptpx_master_sync_left(struct ptpx_master *master, uint16_
  * Delay_Reqs, so write there what they are to keep to. Where the Delay_Req came by unicast (4 in octet 6), the answer
  * goes to its sender, with 4 in octet 6, too, and 0x7f in octet 33. 101, 302 to 305.
  */
-PTPX_LOOK_AT_IT
+PTPX_WARN_UNUSED
 static inline uint16_t ptpx_master_delay_req(const struct ptpx_master *master, const uint8_t *octets, size_t length,
                                              struct ptpx_time t4, uint8_t response[54])
 {
-    if (master == NULL || octets == NULL || response == NULL)
+    if (master == NULL || !master->made || octets == NULL || response == NULL)
         return PTPX_NULL;
     if (length > PTRDIFF_MAX)
         return PTPX_TOO_LONG;
@@ -637,7 +837,7 @@ static inline uint16_t ptpx_master_delay_req(const struct ptpx_master *master, c
  * or one far from it: a late answer to an earlier run would be taken for one to this run where the numbers meet. The
  * memory may be one that a slave used before. 906, 907.
  */
-PTPX_LOOK_AT_IT
+PTPX_WARN_UNUSED
 static inline uint16_t ptpx_slave_init(struct ptpx_slave *slave, void *memory, size_t size,
                                        const struct ptpx_config *config, uint16_t first)
 {
@@ -647,7 +847,7 @@ static inline uint16_t ptpx_slave_init(struct ptpx_slave *slave, void *memory, s
         return PTPX_SMALL_MEMORY;
     if (PTPX_ADDRESS_OF(memory) % PTPX_SLAVE_ALIGNMENT != 0)
         return PTPX_UNALIGNED_MEMORY;
-    slave->memory = PTPX_OCTETS_OF(memory);
+    slave->memory = PTPX_CAST(uint8_t *, memory);
     ptpx_raw_slave_init(slave, config, first);
     return PTPX_DONE;
 }
@@ -657,6 +857,7 @@ static inline uint16_t ptpx_slave_init(struct ptpx_slave *slave, void *memory, s
  * other call brings about: call it, with the number behind that of the last Delay_Req, where the master fell silent
  * and no other one is there.
  */
+PTPX_WARN_UNUSED
 static inline uint16_t ptpx_slave_restart(struct ptpx_slave *slave, uint16_t first)
 {
     if (slave == NULL || slave->memory == NULL)
@@ -669,6 +870,7 @@ static inline uint16_t ptpx_slave_restart(struct ptpx_slave *slave, uint16_t fir
  * From now on the master is this port. All that was held or completed is dropped, even where it was the master
  * already: so call it at a change of master, and not at each Announce.
  */
+PTPX_WARN_UNUSED
 static inline uint16_t ptpx_slave_set_master(struct ptpx_slave *slave, const struct ptpx_identity *master)
 {
     if (slave == NULL || slave->memory == NULL || master == NULL)
@@ -687,6 +889,7 @@ static inline uint16_t ptpx_slave_set_master(struct ptpx_slave *slave, const str
  * the two halves of a report, these don't meet: a time between two ticks that is longer than the longest from Sync to
  * Sync and from Delay_Req to Delay_Req does.
  */
+PTPX_WARN_UNUSED
 static inline uint16_t ptpx_slave_tick(struct ptpx_slave *slave)
 {
     if (slave == NULL || slave->memory == NULL)
@@ -699,6 +902,7 @@ static inline uint16_t ptpx_slave_tick(struct ptpx_slave *slave)
  * The 44 octets of the next Delay_Req, and its number. It is held; with 16 held before, the oldest of these goes. The
  * tag is any number of the caller's, which reports name.
  */
+PTPX_WARN_UNUSED
 static inline uint16_t ptpx_slave_next_request(struct ptpx_slave *slave, uint64_t tag, uint8_t octets[44],
                                                uint16_t *number)
 {
@@ -713,7 +917,7 @@ static inline uint16_t ptpx_slave_next_request(struct ptpx_slave *slave, uint64_
  * ignored (510): so stamps of what was sent are read before the general port is. A second call for a number counts in
  * the place of the first, for what is heard after it. 101, 511.
  */
-PTPX_LOOK_AT_IT
+PTPX_WARN_UNUSED
 static inline uint16_t ptpx_slave_request_left(struct ptpx_slave *slave, uint16_t number, struct ptpx_time t3)
 {
     if (slave == NULL || slave->memory == NULL)
@@ -732,7 +936,7 @@ static inline uint16_t ptpx_slave_request_left(struct ptpx_slave *slave, uint16_
  * with the last one of the other kind, or PTPX_COMPLETED where none is there. So one half may stand in several
  * reports, as the tags tell.
  */
-PTPX_LOOK_AT_IT
+PTPX_WARN_UNUSED
 static inline uint16_t ptpx_slave_sync(struct ptpx_slave *slave, const uint8_t *octets, size_t length,
                                        struct ptpx_time t2, uint64_t tag, struct ptpx_heard *heard)
 {
@@ -749,7 +953,7 @@ static inline uint16_t ptpx_slave_sync(struct ptpx_slave *slave, const uint8_t *
  * Delay_Resp completes a Delay_Req half with the newest held Delay_Req of its number, which stays held: a Delay_Resp
  * that comes twice completes it twice. All else is ignored.
  */
-PTPX_LOOK_AT_IT
+PTPX_WARN_UNUSED
 static inline uint16_t ptpx_slave_general(struct ptpx_slave *slave, const uint8_t *octets, size_t length,
                                           uint64_t tag, struct ptpx_heard *heard)
 {
@@ -765,10 +969,11 @@ static inline uint16_t ptpx_slave_general(struct ptpx_slave *slave, const uint8_
  * What the last report was made of: to be called when a report was answered. The slave keeps it as long as it keeps
  * both halves, so ptpx_slave_set_master, ptpx_slave_restart and the second ptpx_slave_tick after a half completed drop
  * it, and there is none until the next report. Its age says how far apart the two halves were by the slave's clock,
- * for which offset and path delay take both clocks to run alike. The slave stays as it is. 910.
+ * for which offset and path delay take both clocks to run alike. The slave stays as it is; yet no other call is to use
+ * it meanwhile, as with all others. 910.
  */
-PTPX_LOOK_AT_IT
-static inline uint16_t ptpx_slave_last(struct ptpx_slave *slave, struct ptpx_exchange *exchange)
+PTPX_WARN_UNUSED
+static inline uint16_t ptpx_slave_last(const struct ptpx_slave *slave, struct ptpx_exchange *exchange)
 {
     if (slave == NULL || slave->memory == NULL || exchange == NULL)
         return PTPX_NULL;
@@ -778,7 +983,7 @@ static inline uint16_t ptpx_slave_last(struct ptpx_slave *slave, struct ptpx_exc
 /* ---- a watch, for a slave whose master may begin its numbers anew ---- */
 
 /* Makes a watch in memory of this size, as that of a struct ptpx_watch_memory. It knows of nothing. 906, 907. */
-PTPX_LOOK_AT_IT
+PTPX_WARN_UNUSED
 static inline uint16_t ptpx_watch_init(struct ptpx_watch *watch, void *memory, size_t size)
 {
     if (watch == NULL || memory == NULL)
@@ -787,45 +992,55 @@ static inline uint16_t ptpx_watch_init(struct ptpx_watch *watch, void *memory, s
         return PTPX_SMALL_MEMORY;
     if (PTPX_ADDRESS_OF(memory) % PTPX_SLAVE_ALIGNMENT != 0)
         return PTPX_UNALIGNED_MEMORY;
-    watch->memory = PTPX_OCTETS_OF(memory);
+    watch->memory = PTPX_CAST(uint8_t *, memory);
     ptpx_raw_watch_init(watch);
     return PTPX_DONE;
 }
 
 /*
- * A Sync of the master has this number and this unicastFlag (4 in octet 6), and came at this time by a clock that nobody
- * sets: one that is set by a second or more between two messages could seem to say that the master began anew. Tell
- * only what ptpx_decode takes, since the slave hears nothing else. Ask before the slave hears it, with refused false;
- * where the slave ignored it for 512, ask once more with refused true, to which the answer is PTPX_NEWER or
- * PTPX_BEGAN_ANEW.
+ * A Sync of the master, as ptpx_decode gives it, came at this time, by a clock that nobody sets: one that is set by a
+ * second or more between two messages could seem to say that the master began anew. Ask before the slave hears it.
+ * 912, 101.
  *
- * Where its number is that of a Sync that is known, less than a second apart, it is a copy. Where it is that of a Sync
- * or a Follow_Up that is known, a second or more apart, and where three Syncs in a row with numbers that follow each
- * other were refused, the master began its numbers anew: call ptpx_slave_set_master for the same master, and
- * ptpx_slave_sync (of three for the third, again). All else that was known is forgotten then. 101.
+ * What counts are its number, its unicastFlag, its logMessageInterval and the time. N is the newest Sync with this
+ * unicastFlag since the master began.
+ *   - It is a copy (PTPX_REPEATED) where its number is that of a known Sync that came less than a second apart.
+ *   - The master began anew (PTPX_BEGAN_ANEW) where its number is that of a known Sync or Follow_Up that came a second
+ *     or more apart; and where its number is that of no known Sync and doesn't fit N, as follows.
+ *   - Up to 16 ahead of N it fits. From 17 to 256 ahead it fits, too, unless it tells its interval, by a
+ *     logMessageInterval from -7 to 6, and is ahead by more than twice as many Syncs as that interval allows in the
+ *     time since N. Up to 255 behind N it fits where the two came less than a second apart: it was overtaken. No other
+ *     fits.
+ * Where the master began anew, call ptpx_slave_set_master for the same master, and then ptpx_slave_sync. All that was
+ * known is forgotten then, but for this Sync. If the master had not begun anew, and only its messages were missing for
+ * long, that costs one exchange, and no report is wrong by it.
  */
-PTPX_LOOK_AT_IT
-static inline uint16_t ptpx_watch_sync(struct ptpx_watch *watch, uint16_t number, bool is_unicast,
-                                       struct ptpx_time time, bool refused, uint16_t *judgement)
+PTPX_WARN_UNUSED
+static inline uint16_t ptpx_watch_sync(struct ptpx_watch *watch, const struct ptpx_message *message,
+                                       struct ptpx_time time, uint16_t *judgement)
 {
-    if (watch == NULL || watch->memory == NULL || judgement == NULL)
+    if (watch == NULL || watch->memory == NULL || message == NULL || judgement == NULL)
         return PTPX_NULL;
-    if (refused)
-        return ptpx_raw_watch_refused(watch, number, is_unicast, time, judgement);
-    return ptpx_raw_watch_sync(watch, number, is_unicast, time, judgement);
+    if (message->kind != PTPX_SYNC)
+        return PTPX_WRONG_KIND;
+    return ptpx_raw_watch_sync(watch, message->sequence, (message->flags[0] & 4) != 0, message->log, time, judgement);
 }
 
 /*
- * The same of a Follow_Up of the master, before the slave hears it: where one of its number is known, or the known Sync
- * of its number is a second or more apart, it came before, and the slave isn't to hear it. Never PTPX_BEGAN_ANEW. 101.
+ * The same of a Follow_Up of the master, before the slave hears it. The slave isn't to hear it (PTPX_REPEATED) where
+ * its number is that of a known Follow_Up, where the known Sync of its number came a second or more apart, and where
+ * its number is neither that of N, nor up to 255 behind it, nor up to 256 ahead. Never PTPX_BEGAN_ANEW. 912, 101.
  */
-PTPX_LOOK_AT_IT
-static inline uint16_t ptpx_watch_follow_up(struct ptpx_watch *watch, uint16_t number, bool is_unicast,
+PTPX_WARN_UNUSED
+static inline uint16_t ptpx_watch_follow_up(struct ptpx_watch *watch, const struct ptpx_message *message,
                                             struct ptpx_time time, uint16_t *judgement)
 {
-    if (watch == NULL || watch->memory == NULL || judgement == NULL)
+    if (watch == NULL || watch->memory == NULL || message == NULL || judgement == NULL)
         return PTPX_NULL;
-    return ptpx_raw_watch_follow_up(watch, number, is_unicast, time, judgement);
+    if (message->kind != PTPX_FOLLOW_UP)
+        return PTPX_WRONG_KIND;
+    return ptpx_raw_watch_follow_up(watch, message->sequence, (message->flags[0] & 4) != 0, message->log, time,
+                                    judgement);
 }
 
 /* ---- a wide slave port ---- */
@@ -836,7 +1051,7 @@ static inline uint16_t ptpx_watch_follow_up(struct ptpx_watch *watch, uint16_t n
  * a struct ptpx_wide_slave_memory, and some 200 kB of stack, on x86-64; the others take no more than those of a slave.
  */
 
-PTPX_LOOK_AT_IT
+PTPX_WARN_UNUSED
 static inline uint16_t ptpx_wide_slave_init(struct ptpx_wide_slave *slave, void *memory, size_t size,
                                             const struct ptpx_config *config, uint16_t first)
 {
@@ -846,11 +1061,12 @@ static inline uint16_t ptpx_wide_slave_init(struct ptpx_wide_slave *slave, void 
         return PTPX_SMALL_MEMORY;
     if (PTPX_ADDRESS_OF(memory) % PTPX_SLAVE_ALIGNMENT != 0)
         return PTPX_UNALIGNED_MEMORY;
-    slave->memory = PTPX_OCTETS_OF(memory);
+    slave->memory = PTPX_CAST(uint8_t *, memory);
     ptpx_raw_wide_slave_init(slave, config, first);
     return PTPX_DONE;
 }
 
+PTPX_WARN_UNUSED
 static inline uint16_t ptpx_wide_slave_restart(struct ptpx_wide_slave *slave, uint16_t first)
 {
     if (slave == NULL || slave->memory == NULL)
@@ -859,6 +1075,7 @@ static inline uint16_t ptpx_wide_slave_restart(struct ptpx_wide_slave *slave, ui
     return PTPX_DONE;
 }
 
+PTPX_WARN_UNUSED
 static inline uint16_t ptpx_wide_slave_set_master(struct ptpx_wide_slave *slave, const struct ptpx_identity *master)
 {
     if (slave == NULL || slave->memory == NULL || master == NULL)
@@ -867,6 +1084,7 @@ static inline uint16_t ptpx_wide_slave_set_master(struct ptpx_wide_slave *slave,
     return PTPX_DONE;
 }
 
+PTPX_WARN_UNUSED
 static inline uint16_t ptpx_wide_slave_tick(struct ptpx_wide_slave *slave)
 {
     if (slave == NULL || slave->memory == NULL)
@@ -875,6 +1093,7 @@ static inline uint16_t ptpx_wide_slave_tick(struct ptpx_wide_slave *slave)
     return PTPX_DONE;
 }
 
+PTPX_WARN_UNUSED
 static inline uint16_t ptpx_wide_slave_next_request(struct ptpx_wide_slave *slave, uint64_t tag, uint8_t octets[44],
                                                     uint16_t *number)
 {
@@ -884,7 +1103,7 @@ static inline uint16_t ptpx_wide_slave_next_request(struct ptpx_wide_slave *slav
     return PTPX_DONE;
 }
 
-PTPX_LOOK_AT_IT
+PTPX_WARN_UNUSED
 static inline uint16_t ptpx_wide_slave_request_left(struct ptpx_wide_slave *slave, uint16_t number,
                                                     struct ptpx_time t3)
 {
@@ -893,7 +1112,7 @@ static inline uint16_t ptpx_wide_slave_request_left(struct ptpx_wide_slave *slav
     return ptpx_raw_wide_slave_request_left(slave, number, t3);
 }
 
-PTPX_LOOK_AT_IT
+PTPX_WARN_UNUSED
 static inline uint16_t ptpx_wide_slave_sync(struct ptpx_wide_slave *slave, const uint8_t *octets, size_t length,
                                             struct ptpx_time t2, uint64_t tag, struct ptpx_heard *heard)
 {
@@ -904,7 +1123,7 @@ static inline uint16_t ptpx_wide_slave_sync(struct ptpx_wide_slave *slave, const
     return ptpx_raw_wide_slave_sync(slave, octets, length, t2, tag, heard);
 }
 
-PTPX_LOOK_AT_IT
+PTPX_WARN_UNUSED
 static inline uint16_t ptpx_wide_slave_general(struct ptpx_wide_slave *slave, const uint8_t *octets, size_t length,
                                                uint64_t tag, struct ptpx_heard *heard)
 {
@@ -916,8 +1135,8 @@ static inline uint16_t ptpx_wide_slave_general(struct ptpx_wide_slave *slave, co
     return PTPX_DONE;
 }
 
-PTPX_LOOK_AT_IT
-static inline uint16_t ptpx_wide_slave_last(struct ptpx_wide_slave *slave, struct ptpx_exchange *exchange)
+PTPX_WARN_UNUSED
+static inline uint16_t ptpx_wide_slave_last(const struct ptpx_wide_slave *slave, struct ptpx_exchange *exchange)
 {
     if (slave == NULL || slave->memory == NULL || exchange == NULL)
         return PTPX_NULL;

@@ -1,4 +1,5 @@
 pub mod Decoded
+pub mod Parts
 pub mod Ports
 pub mod Sent
 pub mod Slaves

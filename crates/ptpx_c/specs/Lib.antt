@@ -2,6 +2,7 @@ pub mod Words
 pub mod Refusal
 pub mod Times
 pub mod Messages
+pub mod Nanoseconds
 pub mod Stays
 pub mod Masters
 pub mod Answers

@@ -51,6 +51,8 @@ pub struct RawMaster {
     pub waiting: u16,
     /// Whether one waits.
     pub waits: bool,
+    /// Whether the port was made: the header's calls refuse one that wasn't.
+    pub made: bool,
 }
 
 impl RawMaster {
@@ -65,13 +67,15 @@ impl RawMaster {
 /// Makes a master port that begins its numbering at `first`; no Sync waits.
 #[unsafe(no_mangle)]
 pub extern "C" fn ptpx_raw_master_init(master: &mut RawMaster, config: &RawPortConfig, first: u16)
-    ensures { port_of master.new ≡ new_port (config_of config.now) first }
+    ensures port { port_of master.new ≡ new_port (config_of config.now) first }
+    ensures made { master.new.made ≡ true }
 {
     *master = RawMaster {
         config: *config,
         next: first,
         waiting: 0,
         waits: false,
+        made: true,
     };
 }
 
@@ -89,6 +93,7 @@ pub extern "C" fn ptpx_raw_master_next_sync(
       next = next master.old.next;
       waiting = Some master.old.next;
     } }
+    ensures made { master.new.made ≡ master.old.made }
 {
     let drawn = Seq(master.next);
     let (written, _) = master.port(drawn.0).next_sync();
@@ -114,6 +119,7 @@ pub extern "C" fn ptpx_raw_master_one_step_sync(
         × (port_of master.new ≡ record (port_of master.old) { next = next master.old.next }) }
     ensures refused { bound ≤ units_of t1 → (result ≡ 101) × (octets.new ≡ octets.old) × (number.new ≡ number.old)
         × (master.new ≡ master.old) }
+    ensures made { master.new.made ≡ master.old.made }
 {
     let moment = match t1.moment() {
         Ok(moment) => moment,
@@ -142,6 +148,7 @@ pub extern "C" fn ptpx_raw_master_sync_left(
     ensures not_waiting { units_of t1 < bound → (port_of master.old).waiting ≢ Some number → (result ≡ 301)
         × (octets.new ≡ octets.old) × (master.new ≡ master.old) }
     ensures refused { bound ≤ units_of t1 → (result ≡ 101) × (octets.new ≡ octets.old) × (master.new ≡ master.old) }
+    ensures made { master.new.made ≡ master.old.made }
 {
     let moment = match t1.moment() {
         Ok(moment) => moment,

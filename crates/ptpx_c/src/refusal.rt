@@ -2,7 +2,7 @@ ghost use Rattle.std.specs.Prelude.{◌≡◌};
 
 use thiserror::Error;
 
-/// Why a call refuses what C passes or asks for. 901, 902, 906 and 907 are those of the header.
+/// Why a call refuses what C passes or asks for. 901, 902, 906, 907 and 912 are those of the header.
 #[derive(Clone, Copy, Debug, PartialEq, Eq, Error)]
 pub enum InputRefusal {
     /// The type of a message that is to be written isn't one of the four.
@@ -23,6 +23,9 @@ pub enum InputRefusal {
     /// No report was made, or a half of it was dropped since.
     #[error("there is no last exchange: none was reported, or a half of it was dropped since")]
     NoExchange,
+    /// It is the part of a second.
+    #[error("no struct timespec: tv_nsec is below 0, or 10^9 or more")]
+    NoTimespec,
 }
 
 impl InputRefusal {
@@ -39,6 +42,7 @@ impl InputRefusal {
             InputRefusal::NoBracket => 908,
             InputRefusal::Wide => 909,
             InputRefusal::NoExchange => 910,
+            InputRefusal::NoTimespec => 911,
         }
     }
 }

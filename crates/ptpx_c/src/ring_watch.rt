@@ -17,7 +17,7 @@ pub struct RingWatch {
 /// How many octets the memory of a watch takes.
 #[unsafe(no_mangle)]
 pub extern "C" fn ptpx_raw_watch_size() -> usize
-    ensures { result ≡ 37072 }
+    ensures { result ≡ 37152 }
 {
     size_of::<RingWatch>()
 }

@@ -95,7 +95,7 @@ pub extern "C" fn ptpx_raw_nanoseconds_of_twice(twice: RawSigned, nanoseconds: &
 }
 
 /// Puts a number there, if it fits.
-fn narrowed(value: i128, narrow: &mut i64) -> u16
+pub(crate) fn narrowed(value: i128, narrow: &mut i64) -> u16
     ensures { IsNarrowed value result narrow.old narrow.new }
 {
     match i64::try_from(value) {

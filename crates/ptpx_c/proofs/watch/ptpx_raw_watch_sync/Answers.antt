@@ -1,12 +1,22 @@
-use Rattle.std.proofs.Common.{sym}
+use Rattle.std.proofs.Common.{◌≡◌, ℤ, sym, ap, ◌∙◌, subst}
+use Rattle.std.specs.Int.{w8}
+use Rattle.std.proofs.lemmas.Int.{to_z-of_z}
+use Rattle.sync_watch.specs.declared.arrival.Arrival.{Arrival}
 use Rattle.sync_watch.specs.Told.{arrival}
 use Rattle.sync_watch.specs.Judged.{judged_sync, after_sync}
+use Rattle.ptpx_c.specs.Watches.{with_watch, IsJudged}
 use Rattle.ptpx_c.proofs.Watches.{judged_by_handle}
 use Rattle.ptpx_c.proofs.watch.ptpx_raw_watch_sync.Goals as goal
 
 pub returns-clause-judged : goal.returns-clause-judged
 returns-clause-judged c = λ within.
-    let a = arrival c.args.number c.args.is_unicast c.in-Ok.moment in
-    rw (sym c.in-Ok.ensures.0) (judged_by_handle (judged_sync a) (after_sync a) c.args.watch.now c.port-ring.result.now
+    let a = c.arrival_of-arrival.result in
+    let handle = c.args.watch.now in
+    let is : a ≡ arrival c.args.number c.args.is_unicast c.args.log c.in-Ok.moment =
+    c.arrival_of-arrival.ensures
+    ∙ ap (λ (z : ℤ). arrival c.args.number c.args.is_unicast z c.in-Ok.moment) (to_z-of_z w8 c.args.log c.ranges.log) in
+    rw (sym c.in-Ok.ensures.0) (subst (λ (x : Arrival). IsJudged (judged_sync x) (after_sync x) handle
+    (with_watch handle (record { watch = c.sync.new.self })) c.code_of.result) is
+    (judged_by_handle (judged_sync a) (after_sync a) handle c.port-ring.result.now
     (record { watch = c.sync.new.self }) c.sync.result c.code_of.result c.port-ring.ensures.value c.code_of.ensures
-    c.sync.ensures.judgement c.sync.ensures.stands)
+    c.sync.ensures.judgement c.sync.ensures.stands))
