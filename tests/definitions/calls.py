@@ -1,14 +1,11 @@
 #!/usr/bin/env python3
-"""Finds the public calls.
+"""Finds the public calls, and counts them.
 
 A call is a public function that a library exports: by itself, of a type or a trait that is exported, of `laws`, or for C. So is a function that
 such a type has of a trait, where it has clauses of its own.
-
-'list' lists the calls, and without it they are counted.
 """
 
 import re
-import sys
 from dataclasses import dataclass
 from pathlib import Path
 
@@ -20,11 +17,13 @@ CLAUSE = re.compile(r"^\s*(requires|ensures)\*? (?:(\w+) \{|\{ (\w+) \}$)?", re.
 
 @dataclass
 class Call:
-    """A call by its full name: its file below src/, its `///`, and its clauses: `requires` or `ensures`, a name, and the definition that the clause is
-    alone, both of which may be empty."""
+    """A call by its full name: its crate, its file below src/ and the line of its head, from 0, its `///`, and its clauses: `requires` or `ensures`, a
+    name, and the definition that the clause is alone, both of which may be empty."""
 
     name: str
+    crate: str
     file: str
+    line: int
     comment: str
     clauses: list[tuple[str, str, str]]
 
@@ -83,7 +82,7 @@ def comment_above(lines):
 
 
 def functions(path):
-    """The functions of a file that others can call, each behind its type or trait, with comment and clauses."""
+    """The functions of a file that others can call, each behind its type or trait, with its line, comment and clauses."""
     of, of_trait, all_public = None, False, False
     lines = path.read_text().splitlines()
     for number, line in enumerate(lines):
@@ -102,7 +101,7 @@ def functions(path):
             full_name = f"{of}::{name}"
         else:
             continue
-        yield full_name, for_c, comment_above(lines[:number]), clauses
+        yield full_name, for_c, number, comment_above(lines[:number]), clauses
 
 
 def calls():
@@ -117,13 +116,12 @@ def calls():
             for name, for_c, *rest in functions(path):
                 prefix = "" if for_c else f"{crate}::laws::" if is_laws else f"{crate}::"
                 if for_c or is_laws or name.split("::")[0] in names:
-                    found.setdefault(crate, []).append(Call(prefix + name, str(file), *rest))
+                    found.setdefault(crate, []).append(Call(prefix + name, crate, str(file), *rest))
     return found
 
 
 def main():
-    names = [call.name for its_calls in calls().values() for call in its_calls]
-    print("\n".join(names) if sys.argv[1:] == ["list"] else f"{len(names)} public calls")
+    print(f"{sum(map(len, calls().values()))} public calls")
 
 
 if __name__ == "__main__":

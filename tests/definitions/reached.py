@@ -4,8 +4,6 @@
 A definition is reached where a clause of a public function or of a public trait, the value of a public type's model, the
 memory that it owns, which a caller in C owes, what a public conversion gives or how a public type shows names it, or where a definition that is
 reached names it. Views and invariants don't count: no caller sees them.
-
-'list' lists the definitions that are reached, 'rests NAME ..' those that the definitions of these names rest on.
 """
 
 import re
@@ -18,6 +16,11 @@ TOP = Path(__file__).resolve().parents[2]
 WORD = re.compile(r"[A-Za-z_◌][\w◌≡≢≤<>=+\-*/%^&|]*(?:\.[A-Za-z_]\w*)*|◌\S+◌")
 HEAD = re.compile(r"^ *(?:abbrev pub|unfoldable pub|pub record|pub data) (\S+)")
 IMPORT = re.compile(r"^\s*(?:ghost )?use (Rattle\.\S+?)(?:\.\{(.*)\}| as (\w+))?;?$")
+
+
+def path_of(crate, file):
+    """The file of definitions of this name."""
+    return TOP / "crates" / crate / "specs" / f"{file}.antt"
 
 
 def imports_of(lines):
@@ -134,19 +137,7 @@ def reached():
 
 
 def main():
-    if sys.argv[1:2] == ["rests"]:
-        definitions = read_specs()
-        for name in sys.argv[2:]:
-            if not any(key[2] == name for key in definitions):
-                sys.exit(f"no definition is called {name}")
-        for crate, file, name in sorted(rests_on(definitions, [key for key in definitions if key[2] in sys.argv[2:]])):
-            print(crate, file, name)
-        return 0
     definitions, found = reached()
-    if sys.argv[1:] == ["list"]:
-        for crate, file, name in sorted(found):
-            print(crate, file, name)
-        return 0
     inner = sorted(key for key in found if key[1].startswith("Inner/"))
     outer = sorted(key for key in definitions.keys() - found if not key[1].startswith("Inner/") and "◌" not in key[2])
     for crate, file, name in inner:
