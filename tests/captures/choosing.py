@@ -1,5 +1,6 @@
 """What `ptpx measure` owes for a capture, written apart from it: at which interface it measures, which datagrams are heard there, and what it tells of
 that at the end. The rules are those of FORMATS.md, and the packets those that reading.py finds."""
+import collections
 import pathlib
 import sys
 import typing
@@ -10,6 +11,9 @@ from reading import SECOND
 
 # How many datagrams are kept until it is known whom to watch, and how many interfaces are looked at.
 KEPT, LOOKED_AT = 1_024, 16
+
+# How many ports are named that sent messages.
+CALLERS = 8
 
 # How octets of a name are written that aren't printed as they are.
 ESCAPES = {ord(octet): escape for octet, escape in {'\t': r'\t', '\n': r'\n', '\r': r'\r', '"': r'\"', "'": r"\'", '\\': r'\\'}.items()}
@@ -68,10 +72,8 @@ def port_text(port):
     return f'{port[:8].hex()}/{int.from_bytes(port[8:], "big")}'
 
 
-def place_text(place, name):
-    """How an interface is called."""
-    if name is None:
-        return f'if{place}'
+def place_text(name):
+    """How an interface is called, without octets that aren't printed."""
     return ''.join(ESCAPES.get(octet) or (chr(octet) if 32 <= octet < 127 else f'\\x{octet:02x}') for octet in name)
 
 
@@ -105,7 +107,7 @@ class Choice:
         # how many datagrams came before the one by which it was known whom to watch, with that one
         self.count = 0
         for row in rows:
-            self.take((row.interface.place, row.interface.own), Datagram(row.number, row.time, row.datagram, measured.message(row.datagram)))
+            self.take(row.interface.name, Datagram(row.number, row.time, row.datagram, measured.message(row.datagram)))
 
     def take(self, place, datagram):
         if self.measured is None:
@@ -139,20 +141,33 @@ class Choice:
         are_several = len(self.looked) > 1 or self.others
         if self.measured:
             if are_several:
-                yield f'measured at {place_text(*self.measured)}'
+                yield f'measured at {place_text(self.measured)}'
             early, heard = self.parts()
             yield from summary(self.told.watched(), early, heard)
             for place, datagrams in self.looked.items():
                 if place != self.measured:
-                    yield f'{counted(datagrams)} at {place_text(*place)}, which isn\'t measured'
+                    yield f'{counted(datagrams)} at {place_text(place)}, which isn\'t measured'
         else:
             for place, datagrams in self.looked.items():
                 if are_several:
-                    yield f'at {place_text(*place)}:'
+                    yield f'at {place_text(place)}:'
                 yield from measured.whom(told_by(self.wanted, datagrams), 'packet')
                 yield from summary(None, datagrams, [])
+                yield from callers(self.wanted, datagrams)
         if self.others:
             yield f'{counted(range(self.others))} at other interfaces, which weren\'t looked at'
+
+
+def callers(wanted, datagrams):
+    """Who sent Syncs and Delay_Reqs, where the master or the slave that is asked for sent no message."""
+    messages = [it.said for it in datagrams if it.is_message()]
+    for asked, kind in (wanted.master, 'Sync'), (wanted.slave, 'Delay_Req'):
+        if asked is None or any(said.source == asked for said in messages):
+            continue
+        sources = collections.Counter(said.source for said in messages if said.kind == kind)
+        named = [f'{count} of {port_text(source)}' for source, count in list(sources.items())[:CALLERS]]
+        rest = sum(list(sources.values())[CALLERS:])
+        yield f'{kind}s of others: {", ".join(named)}{f", {rest} of further ones" if rest else ""}' if named else f'nobody sent a {kind}'
 
 
 def counted(datagrams):

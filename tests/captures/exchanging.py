@@ -125,6 +125,7 @@ def several():
     yield 'one datagram at another', pcapng(two, junk(0, 1), talk(1)), Wanted()
     yield 'odd names', pcapng(['a\tb\\c', '"\'\n\r\x7f über', ' '], syncs(0), junk(1, 1), talk(2)), Wanted()
     yield 'a name like a place', pcapng(['if1', None], syncs(0), talk(1)), Wanted()
+    yield 'a name like an earlier place', pcapng([None, 'if0'], syncs(0), talk(1)), Wanted()
     yield 'two of one name', pcapng(['eth0', 'eth0'], syncs(0), talk(1)), Wanted()
 
 
@@ -144,6 +145,10 @@ def asked():
     yield 'a Sync of the domain before that of the master', pcapng(two, syncs(0, **OTHER), talk(1)), Wanted(master=MASTERS[0])
     yield 'one interface, another domain', pcap(talk()), Wanted(domain=7)
     yield 'one interface, its slave', pcap(talk()), Wanted(slave=SLAVES[0])
+    yield 'one interface, another slave', pcap(talk()), Wanted(slave=SLAVES[1])
+    yield 'no Delay_Req, and a slave that is asked for', pcap(syncs()), Wanted(slave=SLAVES[1])
+    crowd = [(0, START + number, datagram(1, bytes(9) + bytes([number]), 0)) for number in [*range(1, 11), 9, 3]]
+    yield 'ten slaves, and another that is asked for', pcap(crowd), Wanted(slave=SLAVES[1])
 
 
 def late():
@@ -172,7 +177,8 @@ def sections():
     messages = list(talk())
     for name, one, other, place in [
             ('one interface in two sections', ['eth0'], ['eth0'], 0), ('one without a name', [None], [None], 0),
-            ('another name', ['eth0'], ['eth1'], 0), ('another place', ['eth0'], [None, 'eth0'], 1), ('a name in one alone', ['eth0'], [None], 0)]:
+            ('another name', ['eth0'], ['eth1'], 0), ('another place', ['eth0'], [None, 'eth0'], 1), ('a name in one alone', ['eth0'], [None], 0),
+            ('another order', ['eth0', 'eth1'], ['eth1', 'eth0'], 1), ('one name of two', ['eth0'], ['eth1', 'eth1', 'eth0'], 2)]:
         for cut in (2, 5):
             capture = section(making.Pcapng('little'), one, messages[:cut])
             section(capture, other, [(place, *it[1:]) for it in messages[cut:]], 'big')

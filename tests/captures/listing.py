@@ -38,19 +38,13 @@ def escaped(octets):
 
 def called(interface):
     """An interface in a row."""
-    place, name = interface
-    if name is None:
-        return f'if{place}'
-    return escaped(name[:NAME_MOST]) + ('..' if len(name) > NAME_MOST else '')
+    return escaped(interface[:NAME_MOST]) + ('..' if len(interface) > NAME_MOST else '')
 
 
 def argument(interface):
     """An interface as a shell is given it."""
-    place, name = interface
-    if name is None:
-        return f'if{place}'
-    is_plain = all(chr(octet).isascii() and (chr(octet).isalnum() or octet in b'._-:@+') for octet in name)
-    return escaped(name) if is_plain else f"$'{escaped(name)}'"
+    is_plain = all(chr(octet).isascii() and (chr(octet).isalnum() or octet in b'._-:@+') for octet in interface)
+    return escaped(interface) if is_plain else f"$'{escaped(interface)}'"
 
 
 def port(octets):
@@ -96,7 +90,7 @@ class Listing:
         self.interfaces, self.rows = [], {}
         self.further = self.other_version = self.too_short = 0
         for row in rows:
-            self.take((row.interface.place, row.interface.own), row.time, row.datagram)
+            self.take(row.interface.name, row.time, row.datagram)
 
     def take(self, interface, time, octets):
         kind = octets[0] & 15 if octets else None

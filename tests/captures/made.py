@@ -22,7 +22,7 @@ NOW = 1_795_329_143
 OFFSETS = [0, 0, 1, NOW, NOW - 1, 3600]
 ODD_OFFSETS = [0, NOW, -1, -NOW, 2**47, 2**48 - 2, 2**48, 2**63 - 1, -2**63]
 
-NAMES = [None, None, 'eth0', 'eth', 'eth0.100', 'with a blank', 'Ethernet-Schnittstelle über Funk']
+NAMES = [None, None, 'eth0', 'eth', 'eth0.100', 'with a blank', 'Ethernet-Schnittstelle über Funk', 'if0', 'if12', 'if1a']
 
 
 def message(rng):
@@ -190,13 +190,13 @@ def options(rng, codes):
 
 
 def describe(rng, capture, taken, odd):
-    """Describes an interface. Of two of one name in its section the later is called by its place."""
+    """Describes an interface. Of two of one name in its section the later is called by its place, and so is one whose name is as that of a place."""
     link, name = any_link(rng, odd), rng.choice(NAMES)
     clock = Clock(rng.choice(RESOLUTIONS if odd else TSHARK_RESOLUTIONS), rng.choice(OFFSETS))
     if odd and rng.random() < 0.2:
         clock = Clock(rng.choice([3, 6, 9, 138]), rng.choice(ODD_OFFSETS))
     place = len(capture.interfaces)
-    called = f'if{place}' if name is None or name in taken else name
+    called = f'if{place}' if name in (None, 'if0', 'if12') or name in taken else name
     # of options that are given twice the first counts, so another name may stand behind this one
     behind = options(rng, [2, 3, 8, 12, 2988]) if odd and name is not None else []
     if odd and rng.random() < 0.1:

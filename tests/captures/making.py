@@ -3,6 +3,7 @@
 A packet is made from the inside out: `bare` is a datagram, and each function around it puts a header in front. A `Capture` grows by its
 packets, and keeps what is owed for them: lines, counts, and where its fields of lengths stand."""
 import collections
+import re
 import typing
 
 SECOND = 10**9
@@ -272,7 +273,8 @@ class Pcapng(Capture):
             options.append((14, self.number(clock.offset, 8)))
         head = self.number(link, 2) + bytes.fromhex('beef 00000001')
         self.block(1, head, *self.options([*options, *behind]), after_end)
-        self.interfaces.append((called or name or f'if{place}', clock))
+        own = name and not re.fullmatch('if[0-9]+', name) and name
+        self.interfaces.append((called or own or f'if{place}', clock))
         self.named.add((place, self.interfaces[place][0]))
         self.end()
         return place

@@ -6,14 +6,17 @@ the same.
 - Captures of every form, without exchanges, are those of captures.py, also cut at each octet, bent and broken.
 - A capture that comes bit by bit is answered packet by packet.
 - Inputs that are no capture are lines, whatever they begin with.
-- A writer and a reader that fail are told at the packet, or at a line before all packets."""
+- A writer and a reader that fail are told at the packet, or at a line before all packets.
+- Ctrl-C in a pipe that keeps it from the program ends a capture as it comes, and what came is told."""
 import collections
 import functools
 import itertools
 import json
 import os
 import random
+import signal
 import subprocess
+import time
 import typing
 
 import bending
@@ -294,10 +297,31 @@ def try_pipes():
     print('captures: measured bit by bit')
 
 
+# What README and TUTORIAL give for a capture as it comes, with `cat` in the place of tcpdump, which ends at Ctrl-C, too.
+LIVE = 'cat | (trap \'\' INT; exec "$0" measure)'
+
+
+def try_interrupted():
+    """Ctrl-C in the middle of a capture that comes slowly: what came is measured, and told at the end."""
+    capture = exchanging.pcap(exchanging.talk(count=3))
+    octets, end = bytes(capture.octets), capture.ends[8][0]
+    owed_lines = owed(Case(octets[:end]), False)[0].output
+    with subprocess.Popen(['sh', '-c', LIVE, PROGRAM], stdin=subprocess.PIPE, stdout=subprocess.PIPE, stderr=subprocess.PIPE, bufsize=0, start_new_session=True) as process:
+        for begin in range(0, end, 100):
+            pausing.write(process, octets[begin:min(begin + 100, end)])
+            time.sleep(0.01)
+        answered = pausing.lines_from(process, owed_lines.count(b'\n'))
+        os.killpg(process.pid, signal.SIGINT)
+        rest, told = process.communicate(timeout=60)
+    if answered + rest != owed_lines or b'ptpx: offsets at a Sync: ' not in told:
+        fail(f'measure of what came until Ctrl-C answers {answered + rest!r} and {told.decode()!r}', octets[:end])
+
+
 def main():
     try_kinds(KINDS, 'measured', SEEN)
     try_devices()
     try_pipes()
+    try_interrupted()
 
 
 if __name__ == '__main__':

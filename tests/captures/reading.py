@@ -3,6 +3,7 @@
 It has the whole input in memory and goes through it once, field after field, in the order of the octets. A field is judged as soon as all of
 it is there, so the fault that is met first is the first in the input."""
 import collections
+import re
 import typing
 
 import unwrapping
@@ -30,6 +31,9 @@ LEAST, LEAST_OF_OTHERS = {SECTION: 28, DESCRIPTION: 20, SIMPLE: 16, ENHANCED: 32
 END_OF_OPTIONS, NAME, RESOLUTION, OFFSET = 0, 2, 9, 14
 LENGTHS = {RESOLUTION: 1, OFFSET: 8}
 
+# An interface without a name of its own is called so, by its place, and so nothing else is.
+PLACE_NAME = re.compile(rb'if[0-9]+')
+
 
 class Fault(Exception):
     """A fault of the input: its number, and the octet that it is told at."""
@@ -45,7 +49,7 @@ class Interface(typing.NamedTuple):
     link: int
     resolution: int
     offset: int
-    # its place in the section, and its name where it has one that no earlier one has
+    # its place in the section, and its name where it has one of its own
     place: int = 0
     own: bytes | None = None
 
@@ -202,7 +206,7 @@ def read_description(octets, block, interfaces):
     octets.take(6)
     options = read_options(octets, block)
     name = options.get(NAME, b'')
-    own = name if name and name not in [other.own for other in interfaces] else None
+    own = name if name and not PLACE_NAME.fullmatch(name) and name not in [other.own for other in interfaces] else None
     called = b'if%d' % len(interfaces) if own is None else own
     resolution = options.get(RESOLUTION, b'\x06')[0]
     offset = int.from_bytes(options.get(OFFSET, b''), octets.order, signed=True)

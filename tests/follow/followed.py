@@ -33,6 +33,9 @@ MAGICS = [*reading.PCAP, reading.SECTION_TYPE]
 
 HEAD = 'time,kind,number,taken_ns,corrected_ns,rest_ns\n'
 
+# How many taps are named.
+NAMED = 8
+
 decimal.getcontext().prec = 60
 
 
@@ -451,6 +454,14 @@ def said(watch, follower):
     return lines + untold_lines(follower, 'sync', 'Sync') + untold_lines(follower, 'delay_req', 'Delay_Req')
 
 
+def not_met(wanted, taps):
+    """What is said of taps that are asked for and weren't met, by those that were."""
+    named = [tap.decode() for tap in taps[:NAMED]]
+    there = f': the taps are {", ".join(named)}{" and others" * (len(taps) > NAMED)}' if named else ', or at any other tap'
+    return [f'nothing was met at {tap.decode()}, which {option} names{there}' for tap, option in ((wanted.start, '--from'), (wanted.end, '--to'))
+            if tap is not None and tap not in taps]
+
+
 def follow(octets, wanted=Wanted()):
     """What `ptpx follow` owes for an input."""
     met, fault = (datagrams_of_capture if octets[:4] in MAGICS else datagrams_of_lines)(octets)
@@ -490,4 +501,5 @@ def follow(octets, wanted=Wanted()):
     told = said(watch, follower), 0 if follower is None else 4 if follower.slave else 3
     if third is not None:
         return Followed(2, crossings, *told, ('third', (809, third.line)), third.tap)
-    return Followed(3 if fault else 0, crossings, *told, fault)
+    lacking = [] if fault else not_met(wanted, list(dict.fromkeys(message.tap for message in met)))
+    return Followed(3 if fault else 2 if lacking else 0, crossings, told[0] + lacking, told[1], fault)

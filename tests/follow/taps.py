@@ -259,7 +259,7 @@ def see(name, octets, wanted=Wanted(), errors=(), csv=False, is_sum=False, limit
     first, last = (''.join(f'ptpx: {it}\n' for it in lines) for lines in (owed.said[:owed.at_once], owed.said[owed.at_once:]))
     expect(f'{name}: {said!r} doesn\'t begin with {first!r}', said.startswith(first))
     expect(f'{name}: {said}', owed.fault is None or owed.fault[0] == 'third' or said.startswith(first + fault_text(owed.fault)))
-    expect(f'{name}: {said}', (owed.status == 2) == ('fault 809 ' in said))
+    expect(f'{name}: {said}', (owed.third is not None) == ('fault 809 ' in said))
     expect(f'{name}: {said!r} doesn\'t end with {last!r}', said.endswith(last))
     if octets[:4] not in followed.MAGICS and owed.third is None:
         expect(f'{name}: {said!r} says more than {first!r} and {last!r}', said == first + fault_text(owed.fault) + last)
@@ -353,6 +353,30 @@ def see_third(is_program):
     expect('a third tap behind a crossing: what was told before is gone', len(owed.crossings) == 2)
     owed = see('a third tap where both are asked for', rows, INNER, is_program=is_program)
     expect('a third tap where both are asked for: other crossings', len(owed.crossings) == 3)
+
+
+# What is asked for in vain of a Sync and a Delay_Req at left and right, and what is said of it.
+LACKING = [
+    (Wanted(b'left', b'Right'), ['nothing was met at Right, which --to names: the taps are left, right']),
+    (Wanted(b'Left', b'right'), ['nothing was met at Left, which --from names: the taps are left, right']),
+    (Wanted(b'Left', b'Right'), ['nothing was met at Left, which --from names: the taps are left, right', 'nothing was met at Right, which --to names: the taps are left, right'])]
+
+
+def see_lacking(is_program):
+    for wanted, said in LACKING:
+        for form in {}, {'csv': True}, {'is_sum': True}, {'limit': '0'}:
+            owed = see(f'{wanted}', ONE_STEP + REQUEST, wanted, is_program=is_program, **form)
+            expect(f'{wanted}: {owed}', (owed.status, owed.said[-len(said):], owed.crossings) == (2, said, []))
+    for octets, wanted, said in ((b'', Wanted(end=b'right'), 'nothing was met at right, which --to names, or at any other tap'),
+                                 (b'left 1.0 \n', Wanted(b'left', b'right'), 'nothing was met at right, which --to names: the taps are left'),
+                                 (b''.join(b'tap%d 1.0 \n' % it for it in range(9)), Wanted(b'tap8', b'tap9'), 'nothing was met at tap9, which --to names: '
+                                  'the taps are tap0, tap1, tap2, tap3, tap4, tap5, tap6, tap7 and others')):
+        owed = see(f'{wanted}', octets, wanted, is_program=is_program)
+        expect(f'{wanted}: {owed}', (owed.status, owed.said[-1]) == (2, said))
+    # a fault has its own status, and so has a third tap
+    see('a bad line, and a tap that is not there', ONE_STEP + BAD, Wanted(b'left', b'Right'), is_program=is_program)
+    see('a third tap, and one that is not there', ONE_STEP, Wanted(end=b'Right'), ['ptpx: PTP was met at a third tap, right, beside left, and not at Right; '], is_program=is_program)
+    see('a capture, and a tap that is not there', CLOCK, Wanted(b'left', b'Right'), ['which --to names: the taps are left, right\n'], is_program=is_program)
 
 
 # Of some of these inputs the sums, worked by hand: nanoseconds of the greatest, the least and the mean of each kind, and the step; the asymmetry and the
@@ -546,6 +570,7 @@ def main():
     see_bent(is_program)
     see_changes(is_program)
     see_third(is_program)
+    see_lacking(is_program)
     see_sums(is_program)
     see_figures(is_program)
     see_broken(is_program)

@@ -15,9 +15,10 @@ KEPT = 1024
 HELD = 256
 KNOWN = 256
 
-# After so many Syncs of the master a tick falls, and so many in a row that were refused by 512 say that it began anew.
+# After so many Syncs of the master a tick falls. How many numbers a Sync may be ahead of the newest one, and how many whatever interval it tells.
 TICK = 4096
-ROW = 3
+REACH = 256
+LOST = 16
 
 # A second, in units.
 SECOND = 10**9 * 2**16
@@ -30,7 +31,7 @@ IDENTITIES = [re.compile(form) for form in (
     r'([0-9a-fA-F]{16})/([0-9]{1,5})', r'([0-9a-fA-F]{6}\.[0-9a-fA-F]{4}\.[0-9a-fA-F]{6})-([0-9]{1,5})')]
 
 # A message; a line with what it said; and what completed on either side, with the tick at which it did, when it left and came, and its corrections.
-Message = collections.namedtuple('Message', 'kind domain two_step unicast correction source sequence stamp requesting')
+Message = collections.namedtuple('Message', 'kind domain two_step unicast correction source sequence stamp requesting log')
 Read = collections.namedtuple('Read', 'place time units said')
 Completed = collections.namedtuple('Completed', 'tick bracket tags sequence left came correction')
 
@@ -121,7 +122,7 @@ def message(octets):
     correction, sequence = shown.number(octets[8:16], signed=True), shown.number(octets[30:32])
     stamp = (shown.number(octets[34:40]) * 10**9 + shown.number(octets[40:44])) * 2**16
     requesting = octets[44:54] if least == 54 else None
-    return Message(kind, octets[4], bool(octets[6] & 2), bool(octets[6] & 4), correction, octets[20:30], sequence, stamp, requesting)
+    return Message(kind, octets[4], bool(octets[6] & 2), bool(octets[6] & 4), correction, octets[20:30], sequence, stamp, requesting, shown.number(octets[33:34], signed=True))
 
 
 def decimal(halves):
@@ -267,8 +268,8 @@ class Life:
 
     def __init__(self):
         self.heard = collections.defaultdict(lambda: collections.deque(maxlen=KNOWN))
-        # How many Syncs in a row were refused, and the number of the last one.
-        self.row, self.refused = 0, None
+        # The number and time of the newest Sync of each flag.
+        self.newest = {}
 
     def apart(self, kind, read):
         """Whether the message of a kind that is known under this one's number and flag is a second or more away; None where there is none."""
@@ -278,11 +279,32 @@ class Life:
     def hear(self, read):
         self.heard[read.said.kind, read.said.unicast].append((read.said.sequence, read.units))
 
-    def refuse(self, sequence):
-        """Whether so many Syncs in a row were refused with this one."""
-        self.row = self.row + 1 if self.row and sequence == (self.refused + 1) % 2**16 else 1
-        self.refused = sequence
-        return self.row == ROW
+    def ahead(self, read):
+        """How many numbers a message is ahead of the newest Sync with its flag; None where there is none."""
+        newest = self.newest.get(read.said.unicast)
+        return None if newest is None else (read.said.sequence - newest[0]) % 2**16
+
+    def is_far(self, read):
+        """Whether it is neither up to 255 behind that nor up to 256 ahead."""
+        ahead = self.ahead(read)
+        return ahead is not None and REACH < ahead <= 2**16 - REACH
+
+    def fits(self, read):
+        """Whether a Sync whose number is unknown is of this life."""
+        ahead = self.ahead(read)
+        if ahead is None:
+            return True
+        since = read.units - self.newest[read.said.unicast][1]
+        if 1 <= ahead <= REACH:
+            log = read.said.log
+            return not (-7 <= log <= 6 and ahead > LOST and ahead * SECOND * 2**(log + 7) > 2 * 2**7 * max(since, 0))
+        return not self.is_far(read) and abs(since) < SECOND
+
+    def hear_sync(self, read):
+        self.hear(read)
+        ahead = self.ahead(read)
+        if ahead is None or 1 <= ahead <= REACH:
+            self.newest[read.said.unicast] = read.said.sequence, read.units
 
 
 class Measurer:
@@ -320,7 +342,7 @@ class Measurer:
         if said.kind == 'Sync':
             return self.sync(read)
         if said.kind == 'Follow_Up':
-            if self.life.apart('Follow_Up', read) is not None or self.life.apart('Sync', read):
+            if self.life.apart('Follow_Up', read) is not None or self.life.apart('Sync', read) or self.life.is_far(read):
                 return 'before'
             self.life.hear(read)
         elif said.requesting == self.watched[1]:
@@ -334,16 +356,11 @@ class Measurer:
         apart = self.life.apart('Sync', read)
         if apart is False:
             return 'before'
-        if apart or self.life.apart('Follow_Up', read):
+        follow_up = self.life.apart('Follow_Up', read)
+        if apart or follow_up or not self.life.fits(read):
             self.begin_anew()
-        self.life.hear(read)
+        self.life.hear_sync(read)
         answer = self.port.hear(read)
-        if answer != 512:
-            self.life.row = 0
-        elif self.life.refuse(read.said.sequence):
-            self.begin_anew()
-            self.life.hear(read)
-            answer = self.port.hear(read)
         self.syncs += 1
         if self.syncs % TICK == 0:
             self.port.ticks += 1

@@ -34,13 +34,13 @@ LATE = [1021, 1022, 1023, 1024, 1025, 1026]
 TICK = 4096
 
 
-def datagram(kind, source, sequence, domain=0, stamp=(0, 0), correction=0, two_step=False, unicast=False, requesting=b'', suffix=b''):
+def datagram(kind, source, sequence, domain=0, stamp=(0, 0), correction=0, two_step=False, unicast=False, requesting=b'', suffix=b'', log=0):
     """The octets of a message."""
     seconds, nanoseconds = stamp
     length = 34 + 10 + len(requesting) + len(suffix)
     return b''.join([
         bytes([kind, 0x12]), length.to_bytes(2, 'big'), bytes([domain, 0, 2 * two_step + 4 * unicast, 0]),
-        correction.to_bytes(8, 'big', signed=True), bytes(4), source, sequence.to_bytes(2, 'big'), bytes([kind % 8, 0]),
+        correction.to_bytes(8, 'big', signed=True), bytes(4), source, sequence.to_bytes(2, 'big'), bytes([kind % 8, log % 256]),
         seconds.to_bytes(6, 'big'), nanoseconds.to_bytes(4, 'big'), requesting, suffix])
 
 
@@ -54,6 +54,8 @@ class Tape:
         self.master, self.slave, self.domain = MASTERS[0], SLAVES[0], 0
         self.step = rng.choice([1, 1000, 1000, 2000, 2 * 10**6])
         self.unicast = rng.choice([0, 0, 0, 1, 0.5])
+        # logMessageInterval: of ordinary Syncs, at the edges of what tells an interval, and beyond.
+        self.log = rng.choice([0, 0, -3, -7, -8, 6, 7, 127])
         self.sync, self.request = rng.choice(SEQUENCES), rng.choice(SEQUENCES)
         # How many Syncs there are of the first master.
         self.syncs = 0
@@ -73,7 +75,7 @@ class Tape:
         """A message of the slave where it is a Delay_Req, and else of the master."""
         source = self.slave if kind == 1 else self.master
         self.syncs += (kind, source, self.domain) == (0, MASTERS[0], 0)
-        self.put(datagram(kind, source, sequence, self.domain, correction=self.correction(),
+        self.put(datagram(kind, source, sequence, self.domain, correction=self.correction(), log=self.log,
                           unicast=self.rng.random() < self.unicast, **more))
 
     def two_step_sync(self, sequence):
@@ -153,20 +155,21 @@ def begin_anew(rng, tape):
         answer()
 
 
-def not_newer(rng, tape):
-    """A Sync that completes, and a row of others that aren't newer, perhaps with other lines among them."""
+def leap(rng, tape):
+    """A Sync that completes, and others at the edges of what may follow it, at once and after a while, each perhaps with its Follow_Up."""
     tape.one_step_sync(tape.next_sync())
     newest = tape.sync
-    for place in range(rng.choice([2, 3, 4, 9, 16])):
-        older = (newest - rng.choice([1, place + 1, 100 - place, 100 - place, 32767, 32768])) % 2**16
-        rng.choice([tape.one_step_sync, tape.two_step_sync])(older)
-        if rng.random() < 0.1:
-            rng.choice([lambda: tape.follow_up(older), lambda: tape.delay_req(tape.next_request()),
-                        lambda: tape.delay_resp(tape.request), lambda: stranger(rng, tape)])()
-        if rng.random() < 0.02:
-            rng.choice([tape.one_step_sync, tape.two_step_sync])(newest)
+    for _ in range(rng.choice([1, 2, 3, 9])):
+        number = (newest + rng.choice([1, 2, 15, 16, 17, 18, 255, 256, 257, 5000, 32767, 32768, -1, -1, -2, -254, -255, -256, -257])) % 2**16
+        tape.time += rng.choice([0, 0, 0, 10**8, 10**9 - 1000, 10**9, 8 * 10**9, 9 * 10**9, 10**12])
+        rng.choice([tape.one_step_sync, tape.two_step_sync])(number)
+        if rng.random() < 0.4:
+            tape.follow_up((number + rng.choice([0, 0, 0, 1, 255, 256, 257, -255, -256])) % 2**16)
+        if rng.random() < 0.3:
+            rng.choice([lambda: tape.delay_req(tape.next_request()), lambda: tape.delay_resp(tape.request), lambda: stranger(rng, tape)])()
+        newest = rng.choice([newest, number])
     tape.delay_resp(tape.request)
-    tape.sync = rng.choice([newest, older])
+    tape.sync = newest
 
 
 def meet(rng, tape):
@@ -232,7 +235,7 @@ def tick(rng, tape):
     put, other = rng.choice([tape.one_step_sync, tape.two_step_sync]), rng.choice([0, 0.001])
     while tape.syncs < TICK - rng.choice([0, 1, 2]):
         if rng.random() < other:
-            rng.choice([not_newer, begin_anew, jump])(rng, tape)
+            rng.choice([leap, begin_anew, jump])(rng, tape)
         else:
             tape.two_step_sync(tape.next_sync())
     tape.delay_req(tape.next_request())
@@ -263,7 +266,7 @@ def late(rng, tape):
     tape.delay_resp(tape.request)
 
 
-PIECES = [exchange] * 8 + [jump, jump, begin_anew, not_newer, meet, meet, fill, fill, stranger, stranger, change_master]
+PIECES = [exchange] * 8 + [jump, jump, begin_anew, leap, meet, meet, fill, fill, stranger, stranger, change_master]
 
 
 def time_text(rng, nanoseconds):
