@@ -18,13 +18,17 @@ class Even:
         times, values = series.times[self.begin:self.end], series.values[self.begin:self.end]
         self.span = times[-1] - times[0]
         self.steps = (2 * self.span + series.usual) // (2 * series.usual) if self.span else 0
-        self.values, self.away, taken = [None] * (self.steps + 1), Fraction(0), {}
+        self.values, taken = [None] * (self.steps + 1), {}
+        self.least, self.greatest = {}, {}
         for place, (time, value) in enumerate(zip(times, values)):
             # the nearest moment, and how far it is, in parts of an interval
             moment = (2 * (time - times[0]) * self.steps + self.span) // (2 * self.span) if self.span else 0
             away = abs((time - times[0]) * self.steps - moment * self.span)
             if moment not in taken or away < taken[moment]:
                 taken[moment], self.values[moment] = away, value
+            # of all reports of a moment
+            self.least[moment] = min(value, self.least.get(moment, value))
+            self.greatest[moment] = max(value, self.greatest.get(moment, value))
         self.interval = Fraction(self.span, self.steps or 1)
         self.away = Fraction(max(taken.values()), self.steps or 1)
         self.left_out, self.filled = len(values) - len(taken), self.steps + 1 - len(taken)
@@ -51,9 +55,11 @@ class Even:
 
     @cached_property
     def errors(self):
-        """MTIE in units for each n, up to half of the stretch. What reaches over n intervals is made of two that reach over fewer."""
-        found, had, least, greatest = {}, 0, self.values, self.values
-        for n in self.ladder(2):
+        """MTIE in units for each n, the whole stretch the last: of all reports of all moments. What reaches over n intervals is made of two that reach over
+        fewer."""
+        found, had = {}, 0
+        least, greatest = ([of.get(moment, value) for moment, value in enumerate(self.values)] for of in (self.least, self.greatest))
+        for n in sorted({*self.ladder(1), self.steps}) if self.steps > 1 else ():
             least = list(map(min, least, islice(least, n - had, None)))
             greatest = list(map(max, greatest, islice(greatest, n - had, None)))
             found[n], had = max(map(sub, greatest, least)), n
@@ -79,8 +85,8 @@ def even_told(even, series):
     if even.filled:
         told += f'Those without a report within half an interval, {even.filled}, lie on the straight line between their neighbours. '
     if even.left_out:
-        told += f'Reports of moments that have a nearer one, {even.left_out}, are left out. '
-    return told + 'Observation times reach up to half of the stretch for MTIE, and up to a twelfth for TDEV; beyond these there are too few reports.'
+        told += f'Reports of moments that have a nearer one, {even.left_out}, are left out of TDEV; MTIE counts them at their moment. '
+    return told + 'Observation times reach over the whole stretch for MTIE, and up to a twelfth of it for TDEV; beyond that there are too few reports.'
 
 
 def stability_table(even):
