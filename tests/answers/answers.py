@@ -6,17 +6,16 @@ standard error, and the status. In a field
 - `%` and two hexadecimal digits stand for an octet that can't be seen, and for `%`, `*` and `@`; `%{4096 x}` for so many of one,
   and `%[d4c3 b2a1]` for octets in hexadecimal;
 - a star in what is wanted stands for any text;
-- `@exchange.schedule.jsonl` stands for that file of examples/, or with `..4` behind it for its first four lines; with `5 => TEXT` for the
-  file with this text as its line 5, and with `5 OLD => NEW` for the file with one text in the place of another in that line."""
-import os
+- `@exchange.schedule.jsonl` stands for that file beside this one or of examples/, or with `..4` behind it for its first four lines; with `5 => TEXT`
+  for the file with this text as its line 5, and with `5 OLD => NEW` for the file with one text in the place of another in that line."""
 import re
 import subprocess
 import sys
 from pathlib import Path
 
+from program import EXAMPLES, PROGRAM
+
 HERE = Path(__file__).resolve().parent
-TOP = HERE.parents[1]
-PROGRAM = os.environ.get('PTPX', TOP / 'crates/ptpx/out/ptpx')
 
 ESCAPE = re.compile(r'%\{(\d+) (.)\}|%([0-9a-f]{2})|%\[([0-9a-f ]+)\]')
 EXAMPLE = re.compile(r'@(\S+)(?: \.\.(\d+)| (\d+) (?:(.+) )?=> (.*))?')
@@ -34,8 +33,9 @@ def octets_of_escape(it):
 
 
 def example(name, first, place, old, new):
-    """An example, or its first lines, or the example with another text in one line."""
-    lines = (TOP / 'examples' / name).read_bytes().splitlines(True)[:int(first) if first else None]
+    """A file, or its first lines, or the file with another text in one line."""
+    file = HERE / name if (HERE / name).exists() else EXAMPLES / name
+    lines = file.read_bytes().splitlines(True)[:int(first) if first else None]
     if place:
         line = lines[int(place) - 1]
         if old and octets(old) not in line:
@@ -81,6 +81,3 @@ def main():
     if failed or not count:
         sys.exit(1)
     print(f'answers: {count} rows')
-
-
-main()

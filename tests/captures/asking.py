@@ -1,22 +1,22 @@
 """Asks the reader and the program for a capture's lines, and says what is wrong with what they answer."""
 import collections
 import concurrent.futures
+import functools
 import itertools
-import os
-import pathlib
 import re
 import subprocess
 import sys
 import tempfile
 import typing
 
+import program
 import reading
+from program import EXAMPLES, ask
 
-TOP = pathlib.Path(__file__).resolve().parents[2]
-PROGRAM = None if '--reader' in sys.argv[1:] else os.environ.get('PTPX', TOP / 'crates/ptpx/out/ptpx')
+EXAMPLE = EXAMPLES / 'slave.pcap'
 
-# With --pcap the program is asked for captures of that kind alone.
-PCAP_ALONE = '--pcap' in sys.argv[1:]
+# With --reader the program isn't asked, and with --pcap for captures of that kind alone.
+READER_ALONE, PCAP_ALONE = (word in sys.argv[1:] for word in ('--reader', '--pcap'))
 
 # How many cases are tried at once.
 AT_ONCE = 4
@@ -36,7 +36,7 @@ class Case(typing.NamedTuple):
 
 def is_asked(case):
     """Whether the program is asked for a case."""
-    return PROGRAM and not (PCAP_ALONE and case.octets[:4] == reading.SECTION_TYPE)
+    return not READER_ALONE and not (PCAP_ALONE and case.octets[:4] == reading.SECTION_TYPE)
 
 
 def misread(case, answer):
@@ -50,15 +50,15 @@ def misread(case, answer):
 def misanswered(case, answer):
     """What is wrong with the program's answer, in words."""
     options = ([] if case.is_timed else ['--octets']) + ([] if case.interface is None else ['--interface', case.interface.encode()])
-    ended = subprocess.run([PROGRAM, 'extract', *options], input=case.octets, capture_output=True, timeout=60)
+    ended = ask(case.octets, 'extract', *options)
     owed = answer.text(case.is_timed)
-    if ended.stdout != owed:
-        yield difference(ended.stdout, owed)
-    if ended.returncode != (3 if answer.fault else 0):
-        yield f'status {ended.returncode}'
-    faults = [tuple(int(number) for number in it) for it in FAULT.findall(ended.stderr)]
+    if ended.output != owed:
+        yield difference(ended.output, owed)
+    if ended.status != (3 if answer.fault else 0):
+        yield f'status {ended.status}'
+    faults = [tuple(int(number) for number in it) for it in FAULT.findall(ended.errors)]
     if faults != ([answer.fault] if answer.fault else []):
-        yield f'standard error has {ended.stderr[:300]!r}, and the fault is {answer.fault}'
+        yield f'standard error has {ended.errors[:300]!r}, and the fault is {answer.fault}'
 
 
 def difference(written, owed):
@@ -86,16 +86,20 @@ def fail(text, octets=None):
         with tempfile.NamedTemporaryFile(prefix='capture-', delete=False) as file:
             file.write(octets)
         text += f'; the capture is {file.name}'
-    raise SystemExit(f'captures: {text}')
+    program.fail(text)
+
+
+def try_one(see, make, number):
+    return see(*make(number))
 
 
 def try_kinds(kinds, what, wanted):
-    """Tries all cases of each kind, which has how one is tried by its number and how many there are, and says what they were. Ends where one of these
-    things was never seen."""
+    """Tries all cases of each kind, which has what sees a case, what makes one of its number, and how many there are; and says what they were. Ends where
+    one of these things was never seen."""
     seen = collections.Counter()
     with concurrent.futures.ProcessPoolExecutor(AT_ONCE) as pool:
-        for kind, (try_one, count) in kinds.items():
-            for one in pool.map(try_one, range(count()), chunksize=10):
+        for kind, (see_one, make, count) in kinds.items():
+            for one in pool.map(functools.partial(try_one, see_one, make), range(count()), chunksize=10):
                 seen += one
             print(f'captures: {count()} {kind}, {what}')
     missed = [name for name in wanted if name not in seen]

@@ -1,17 +1,14 @@
 """Bends and breaks captures by a seed: their octets, their numbers, their blocks, and the headers of their packets. Of what comes of that
 nobody but a reader says what is owed."""
-import pathlib
 import random
-import sys
 
-TOP = pathlib.Path(__file__).resolve().parents[2]
-sys.path.insert(0, str(TOP / 'tests/hostile'))
 import inputs
 import made
 import making
+from program import EXAMPLES
 
 # A real capture's beginning.
-REAL = (TOP / 'examples/slave.pcap').read_bytes()[:1500]
+REAL = (EXAMPLES / 'slave.pcap').read_bytes()[:1500]
 
 # What numbers of 32 and of 16 bits are set to, beside what they are and a little more or less.
 NUMBERS = [0, 1, 2, 3, 4, 6, 8, 9, 11, 12, 14, 16, 20, 24, 28, 32, 2**16, 2**31 - 1, 2**31, 2**32 - 16, 2**32 - 4, 2**32 - 1, 0x0a0d0d0a, 0x1a2b3c4d]

@@ -14,31 +14,22 @@ import concurrent.futures
 import functools
 import resource
 
+import cases
 import judges
 import made
 import making
 import pausing
 import reading
 import tables
-import unwrapping
-from asking import PCAP_ALONE, PROGRAM, TOP, Case, fail, is_asked, see
-from cases import KINDS, SMALL
+from asking import AT_ONCE, EXAMPLE, PCAP_ALONE, READER_ALONE, Case, fail, is_asked, see, try_kinds
+from cases import SMALL
 from making import SECOND
+from unwrapping import unwrapped
 
-EXAMPLE = TOP / 'examples/slave.pcap'
-AT_ONCE = 4
 LARGE = 200 * 2**20
 
 # What must have been seen.
 SEEN = [*(f'fault {number}' for number in range(1001, 1007)), 'no fault', 'datagram', 'none', 'no time', 'long', 'fragment', 'simple', 'old', 'link 147']
-
-
-def read_packet(link, packet):
-    """The datagram that the reader finds in a packet, or None, and what becomes of the packet."""
-    try:
-        return unwrapping.datagram(link, packet), 'datagram'
-    except unwrapping.Nothing as nothing:
-        return None, str(nothing)
 
 
 def try_frames_of(link, rows):
@@ -60,8 +51,8 @@ def try_frames():
     for link in links:
         capture.interface(link)
     for place, link, packet, datagram, outcome in rows:
-        if read_packet(link, packet) != (datagram, outcome):
-            fail(f'frames.tsv:{place}: the reader has {read_packet(link, packet)}')
+        if unwrapped(link, packet) != (datagram, outcome):
+            fail(f'frames.tsv:{place}: the reader has {unwrapped(link, packet)}')
         # the time says in which line of the table a packet stands
         capture.enhanced(links.index(link), place * SECOND, making.bare(packet))
         counts[outcome] += 1
@@ -101,9 +92,7 @@ def try_example():
     see(EXAMPLE.name, Case(EXAMPLE.read_bytes(), [(judges.nanoseconds(time), bytes.fromhex(octets)) for time, octets in lines]))
 
 
-def try_case(kind, number):
-    """Tries a case, in little memory, and answers what was seen."""
-    name, case = f'{kind}, number {number}', KINDS[kind][0](number)
+def see_in_little_memory(name, case):
     seen = see(name, case)
     # the most that any run took so far
     memory = resource.getrusage(resource.RUSAGE_CHILDREN).ru_maxrss
@@ -112,14 +101,12 @@ def try_case(kind, number):
     return seen
 
 
-def try_kind(pool, kind):
-    """Tries all cases of a kind, and answers what was seen."""
-    count = KINDS[kind][1]()
-    total = collections.Counter()
-    for seen in pool.map(functools.partial(try_case, kind), range(count), chunksize=20):
-        total += seen
-    print(f'captures: {count} {kind}')
-    return total
+def named(kind, number):
+    """The name of a case, and the case."""
+    return f'{kind}, number {number}', cases.KINDS[kind][0](number)
+
+
+KINDS = {kind: (see_in_little_memory, functools.partial(named, kind), count) for kind, (_, count) in cases.KINDS.items()}
 
 
 def compare_with_tshark(name, octets):
@@ -159,7 +146,7 @@ def try_others(pool):
 def try_pipes():
     small = [it for it in SMALL if is_asked(Case(bytes(it.octets)))]
     for capture in small:
-        pausing.try_pauses(capture)
+        pausing.try_pauses(capture, ['extract'], reading.read(bytes(capture.octets)).text(), lambda packets, lines: lines)
         pausing.try_octet_by_octet(capture)
     kinds = [False] if PCAP_ALONE else [False, True]
     for is_pcapng in kinds:
@@ -171,18 +158,10 @@ def main():
     count = try_frames(), try_captures() + try_interfaces()
     print('captures: %d packets and %d captures that were worked by hand' % count)
     try_example()
-    seen = collections.Counter()
+    try_kinds(KINDS, 'extracted', SEEN)
     with concurrent.futures.ProcessPoolExecutor(AT_ONCE) as pool:
-        for kind in KINDS:
-            seen += try_kind(pool, kind)
         try_others(pool)
-    unseen = [name for name in SEEN if name not in seen]
-    if unseen:
-        fail(f'nothing had {", ".join(unseen)}')
-    if PROGRAM:
-        try_pipes()
-    else:
+    if READER_ALONE:
         print('captures: the program was not asked')
-
-
-main()
+    else:
+        try_pipes()

@@ -3,9 +3,12 @@ import functools
 import random
 
 import bending
+import exchanging
 import made
 import making
-from asking import Case
+import reading
+from asking import EXAMPLE, Case
+from choosing import Wanted
 from making import SECOND
 
 # How many headers a capture has that are bent.
@@ -76,7 +79,7 @@ def lengths():
     return [Case(octets) for capture in SMALL for octets in bending.all_lengths(capture)]
 
 
-# Of each kind how a case is made of its number, and how many there are.
+# Of each kind how a case of `extract` is made of its number, and how many there are.
 KINDS = {
     'made': (case_made, lambda: 600),
     'cut': (lambda number: cuts()[number], lambda: len(cuts())),
@@ -84,3 +87,39 @@ KINDS = {
     'bent': (lambda number: Case(bending.bent(number)), lambda: 10_000),
     f'of {BENT} bent packets each': (lambda number: Case(bending.bent_packets(number, BENT)), lambda: 100),
 }
+
+
+def of_every_form(number):
+    """The name and the octets of a capture of some form."""
+    return f'made, number {number}', bytes(made.capture(number).octets)
+
+
+def bent(number):
+    return f'bent, number {number}', bending.bent(number)
+
+
+@functools.cache
+def cuts_of_exchanges():
+    """Small captures of exchanges, and of every block, with each number of their octets."""
+    small = [exchanging.pcap(exchanging.talk(count=1)), exchanging.pcapng(['eth0', 'eth1'], exchanging.junk(0, 1), exchanging.talk(1, count=1)), SMALL[0], SMALL[2]]
+    return [bytes(capture.octets[:size]) for capture in small for size in range(len(capture.octets) + 1)]
+
+
+def cut_exchanges(number):
+    return f'cut, number {number}', cuts_of_exchanges()[number]
+
+
+@functools.cache
+def made_by_hand():
+    """The captures of exchanging.py, and the example: the name, the octets and what is asked for, of each."""
+    return [('the example', EXAMPLE.read_bytes(), Wanted()),
+            *((name, bytes(capture.octets), wanted) for name, capture, wanted in exchanging.all_made())]
+
+
+def is_pcapng(octets):
+    return octets[:4] == reading.SECTION_TYPE
+
+
+def interfaces(octets):
+    """What the interfaces are called at which datagrams are met, and a name that none has."""
+    return [*sorted({row.interface.name for row in reading.read(octets).rows}), b'eth9']

@@ -1,22 +1,14 @@
 """What `ptpx measure` owes for a capture, written apart from it: at which interface it measures, which datagrams are heard there, and what it tells of
 that at the end. The rules are those of FORMATS.md, and the packets those that reading.py finds."""
 import collections
-import pathlib
-import sys
 import typing
 
-sys.path.insert(0, str(pathlib.Path(__file__).resolve().parents[1] / 'hostile'))
 import measured
-from reading import SECOND
+import reading
+from texts import counted, escaped, listed, port, seconds
 
 # How many datagrams are kept until it is known whom to watch, and how many interfaces are looked at.
 KEPT, LOOKED_AT = 1_024, 16
-
-# How many ports are named that sent messages.
-CALLERS = 8
-
-# How octets of a name are written that aren't printed as they are.
-ESCAPES = {ord(octet): escape for octet, escape in {'\t': r'\t', '\n': r'\n', '\r': r'\r', '"': r'\"', "'": r"\'", '\\': r'\\'}.items()}
 
 
 class Wanted(typing.NamedTuple):
@@ -27,7 +19,7 @@ class Wanted(typing.NamedTuple):
     interface: bytes | None = None
 
     def arguments(self):
-        said = {'domain': self.domain, 'master': self.master and port_text(self.master), 'slave': self.slave and port_text(self.slave)}
+        said = {'domain': self.domain, 'master': self.master and port(self.master), 'slave': self.slave and port(self.slave)}
         return [*(f'--{name}={value}' for name, value in said.items() if value is not None), *self.interface_arguments()]
 
     def interface_arguments(self):
@@ -44,14 +36,11 @@ class Datagram(typing.NamedTuple):
     def is_message(self):
         return not isinstance(self.said, str)
 
-    def time_text(self):
-        return f'{self.time // SECOND}.{self.time % SECOND:09}'
-
     def line(self):
-        return f'{self.time_text()} {self.octets.hex()}\n'
+        return reading.line(self.time, self.octets)
 
     def heard_by(self, measurer):
-        measurer.hear(measured.Read(self.number, self.time_text(), self.time * 2**16, self.said))
+        measurer.hear(measured.Read(self.number, seconds(self.time), self.time * 2**16, self.said))
 
 
 class Told(typing.NamedTuple):
@@ -68,13 +57,9 @@ class Told(typing.NamedTuple):
         return None if None in values else values
 
 
-def port_text(port):
-    return f'{port[:8].hex()}/{int.from_bytes(port[8:], "big")}'
-
-
-def place_text(name):
-    """How an interface is called, without octets that aren't printed."""
-    return ''.join(ESCAPES.get(octet) or (chr(octet) if 32 <= octet < 127 else f'\\x{octet:02x}') for octet in name)
+def renumbered(report, numbers):
+    """A report of lines as one of packets of these numbers."""
+    return {**report, 'line': numbers[report['line'] - 1], 'tags': [tag and numbers[tag - 1] for tag in report['tags']]}
 
 
 def told_by(wanted, datagrams):
@@ -95,7 +80,7 @@ def is_met(wanted, datagrams):
     """Whether a message has each of what is asked for."""
     messages = [it.said for it in datagrams if it.is_message()]
     return ((wanted.domain is None or any(said.domain == wanted.domain for said in messages))
-            and all(port is None or any(said.source == port for said in messages) for port in (wanted.master, wanted.slave)))
+            and all(asked is None or any(said.source == asked for said in messages) for asked in (wanted.master, wanted.slave)))
 
 
 class Choice:
@@ -141,21 +126,21 @@ class Choice:
         are_several = len(self.looked) > 1 or self.others
         if self.measured:
             if are_several:
-                yield f'measured at {place_text(self.measured)}'
+                yield f'measured at {escaped(self.measured)}'
             early, heard = self.parts()
             yield from summary(self.told.watched(), early, heard)
             for place, datagrams in self.looked.items():
                 if place != self.measured:
-                    yield f'{counted(datagrams)} at {place_text(place)}, which isn\'t measured'
+                    yield f'{counted(len(datagrams), "datagram")} at {escaped(place)}, which isn\'t measured'
         else:
             for place, datagrams in self.looked.items():
                 if are_several:
-                    yield f'at {place_text(place)}:'
+                    yield f'at {escaped(place)}:'
                 yield from measured.whom(told_by(self.wanted, datagrams), 'packet')
                 yield from summary(None, datagrams, [])
                 yield from callers(self.wanted, datagrams)
         if self.others:
-            yield f'{counted(range(self.others))} at other interfaces, which weren\'t looked at'
+            yield f'{counted(self.others, "datagram")} at other interfaces, which weren\'t looked at'
 
 
 def callers(wanted, datagrams):
@@ -164,14 +149,8 @@ def callers(wanted, datagrams):
     for asked, kind in (wanted.master, 'Sync'), (wanted.slave, 'Delay_Req'):
         if asked is None or any(said.source == asked for said in messages):
             continue
-        sources = collections.Counter(said.source for said in messages if said.kind == kind)
-        named = [f'{count} of {port_text(source)}' for source, count in list(sources.items())[:CALLERS]]
-        rest = sum(list(sources.values())[CALLERS:])
-        yield f'{kind}s of others: {", ".join(named)}{f", {rest} of further ones" if rest else ""}' if named else f'nobody sent a {kind}'
-
-
-def counted(datagrams):
-    return '1 datagram' if len(datagrams) == 1 else f'{len(datagrams)} datagrams'
+        sources = collections.Counter(port(said.source) for said in messages if said.kind == kind)
+        yield f'{kind}s of others: {listed(sources)}' if sources else f'nobody sent a {kind}'
 
 
 def summary(watched, early, heard):

@@ -1,10 +1,7 @@
 """Makes captures of exchanges for `ptpx measure`, at one interface and at several. A message is a place, a time and a datagram."""
 import heapq
-import pathlib
 import random
-import sys
 
-sys.path.insert(0, str(pathlib.Path(__file__).resolve().parents[1] / 'hostile'))
 import making
 import recordings
 from choosing import KEPT, LOOKED_AT, Wanted

@@ -6,7 +6,7 @@ import shutil
 import subprocess
 import tempfile
 
-SECOND = 10**9
+from making import SECOND
 
 
 def are_there(*programs):

@@ -1,8 +1,9 @@
 """The table that `ptpx extract --list` owes for a capture, by the packets that reading.py finds in it."""
-import decimal
 import typing
+from fractions import Fraction
 
-import making
+import texts
+from texts import counted, escaped, seconds
 
 ROWS_MOST, CALLS_MOST, NAME_MOST = 1024, 8, 64
 
@@ -30,12 +31,6 @@ def order(key, interfaces):
     return interfaces.index(key.interface), key.domain, key.source, key.kind not in NAMES, key.kind, key.requesting
 
 
-def escaped(octets):
-    """Octets with the escapes that Rust gives them."""
-    known = {9: r'\t', 10: r'\n', 13: r'\r', 34: r'\"', 39: r"\'", 92: r'\\'}
-    return ''.join(known.get(octet) or (chr(octet) if 32 <= octet < 127 else f'\\x{octet:02x}') for octet in octets)
-
-
 def called(interface):
     """An interface in a row."""
     return escaped(interface[:NAME_MOST]) + ('..' if len(interface) > NAME_MOST else '')
@@ -48,21 +43,12 @@ def argument(interface):
 
 
 def port(octets):
-    return f'{octets[:8].hex()}/{int.from_bytes(octets[8:], "big")}' if octets else '-'
-
-
-def seconds(time):
-    return f'{time // making.SECOND}.{time % making.SECOND:09}'
+    return texts.port(octets) if octets else '-'
 
 
 def nanoseconds(units):
     """Units of 2^-16 ns as nanoseconds, exactly."""
-    if units == 2**63 - 1:
-        return 'too big'
-    with decimal.localcontext() as context:
-        context.prec = 60
-        text = f'{decimal.Decimal(units) / 65536:f}'
-    return text.rstrip('0').rstrip('.') if '.' in text else text
+    return 'too big' if units == 2**63 - 1 else texts.decimals(Fraction(units, 2**16))
 
 
 def cells(key, messages):
@@ -122,11 +108,11 @@ class Listing:
     def others(self):
         """What is told of what isn't in a row."""
         if self.further:
-            yield f'{self.further} message{"s" * (self.further > 1)} of further rows: the table has {ROWS_MOST} at most\n'
+            yield f'{counted(self.further, "message")} of further rows: the table has {ROWS_MOST} at most\n'
         if self.other_version:
-            yield f'{self.other_version} datagram{"s" * (self.other_version > 1)} of another version than 2\n'
+            yield f'{counted(self.other_version, "datagram")} of another version than 2\n'
         if self.too_short:
-            yield f'{self.too_short} datagram{"s" * (self.too_short > 1)} too short for a message\n'
+            yield f'{counted(self.too_short, "datagram")} too short for a message\n'
 
     def text(self):
         """What goes to standard output."""

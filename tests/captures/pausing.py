@@ -8,9 +8,10 @@ import tempfile
 
 import making
 import reading
-from asking import PROGRAM, fail
+from asking import fail
 from cases import FRAME
 from making import SECOND
+from program import PROGRAM
 
 # No run takes more, in KiB.
 MEMORY = 64 * 1024
@@ -44,20 +45,21 @@ def lines_from(process, count):
     return answered
 
 
-def try_pauses(capture):
-    """Writes a capture up to the middle of a packet or block each time, and waits for the lines of what is whole before it goes on."""
-    octets, owed, written, answered = bytes(capture.octets), 0, 0, b''
-    with begin('extract') as process:
-        for (end, _, lines), (following, _, _) in itertools.pairwise(capture.ends):
-            pause = (end + following) // 2
+def try_pauses(capture, arguments, owed, lines_of):
+    """Writes a capture up to the middle of a packet or block each time, and waits for the lines of what is whole before it goes on: as many as are those of
+    the packets and the datagrams so far."""
+    octets, written, answered = bytes(capture.octets), 0, b''
+    with begin(*arguments) as process:
+        for (end, *whole), (following, *_) in itertools.pairwise(capture.ends):
+            pause, lines = (end + following) // 2, lines_of(*whole)
             write(process, octets[written:pause])
-            answered += lines_from(process, lines - owed)
+            answered += lines_from(process, lines - answered.count(b'\n'))
             if answered.count(b'\n') != lines:
-                fail(f'{lines} lines are owed once the next packet or block has {pause - end} octets', octets)
-            written, owed = pause, lines
+                fail(f'{lines} lines of {arguments} are owed once the next packet or block has {pause - end} octets', octets)
+            written = pause
         rest, _ = process.communicate(octets[written:])
-    if answered + rest != reading.read(octets).text() or process.returncode:
-        fail('a capture that comes with pauses has another answer', octets)
+    if answered + rest != owed or process.returncode:
+        fail(f'a capture that comes with pauses has another answer of {arguments}', octets)
 
 
 def try_octet_by_octet(capture):

@@ -6,6 +6,7 @@ import collections
 import re
 import typing
 
+import texts
 import unwrapping
 
 SECOND = 10**9
@@ -19,6 +20,7 @@ PCAP = {b'\xa1\xb2\xc3\xd4': ('big', 1000), b'\xd4\xc3\xb2\xa1': ('little', 1000
 
 # The type of a section's header reads alike in both orders.
 SECTION_TYPE = b'\x0a\x0d\x0d\x0a'
+MAGICS = [*PCAP, SECTION_TYPE]
 BYTE_ORDERS = {b'\x1a\x2b\x3c\x4d': 'big', b'\x4d\x3c\x2b\x1a': 'little'}
 
 # Types of blocks.
@@ -86,13 +88,11 @@ class Answer:
             return 'another interface'
         if time is None:
             return 'no time'
-        try:
-            datagram = unwrapping.datagram(interface.link, octets)
-        except unwrapping.Nothing as nothing:
-            return str(nothing)
-        self.datagrams.append((time, datagram))
-        self.rows.append(Row(self.packets + 1, interface, time, datagram))
-        return 'datagram'
+        datagram, outcome = unwrapping.unwrapped(interface.link, octets)
+        if datagram is not None:
+            self.datagrams.append((time, datagram))
+            self.rows.append(Row(self.packets + 1, interface, time, datagram))
+        return outcome
 
     def take(self, interface, time, octets):
         self.count(self.outcome(interface, time, octets))
@@ -108,7 +108,7 @@ class Answer:
 
 def line(time, octets):
     """The line of a datagram, without its time where that is None."""
-    return f'{octets.hex()}\n' if time is None else f'{time // SECOND}.{time % SECOND:09} {octets.hex()}\n'
+    return f'{octets.hex()}\n' if time is None else f'{texts.seconds(time)} {octets.hex()}\n'
 
 
 class Input:

@@ -125,3 +125,11 @@ def datagram(link, octets):
     if len(found) > LONGEST:
         raise Nothing('long')
     return found
+
+
+def unwrapped(link, octets):
+    """The datagram in a packet, or None, and what becomes of the packet."""
+    try:
+        return datagram(link, octets), 'datagram'
+    except Nothing as nothing:
+        return None, str(nothing)

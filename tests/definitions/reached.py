@@ -110,7 +110,7 @@ def clauses_of(lines):
 
 def named_by_clauses(definitions):
     for path in sorted(TOP.glob("crates/*/src/**/*.rt")):
-        if "tests" in path.parts or path.name == "tests.rt":
+        if "tests" in path.relative_to(TOP).parts or path.name == "tests.rt":
             continue
         lines = path.read_text().splitlines()
         names, files = imports_of(lines)

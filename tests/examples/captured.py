@@ -4,25 +4,19 @@ import json
 import os
 import pathlib
 import subprocess
-import sys
 import tempfile
 
-TOP = pathlib.Path(__file__).resolve().parents[2]
-EXAMPLES = TOP / 'examples'
-sys.path.insert(0, str(TOP / 'tests/captures'))
 import exchanging
 import reading
-
-
-def fail(text):
-    sys.exit(f'examples: {text}')
+from choosing import renumbered
+from program import EXAMPLES, PROGRAM, fail
 
 
 class Folder:
-    """A folder in which scripts of examples/ run this program."""
+    """A folder in which scripts of examples/ run the program."""
 
-    def __init__(self, name, program):
-        self.path, self.environment = pathlib.Path(name), {**os.environ, 'PTPX': str(program)}
+    def __init__(self, name):
+        self.path, self.environment = pathlib.Path(name), {**os.environ, 'PTPX': str(PROGRAM)}
 
     def run(self, script, *words, status=0):
         """What a script writes to standard output and to standard error, where that is its status."""
@@ -36,11 +30,6 @@ class Folder:
         if (self.path / f'results/{name}.status').read_text() != '0\n':
             fail(f'many has no reports of {name}: {(self.path / f"results/{name}.err").read_text()}')
         return [json.loads(line) for line in (self.path / f'results/{name}.out').read_text().splitlines()]
-
-
-def renumbered(report, numbers):
-    """A report of lines as one of packets of these numbers."""
-    return {**report, 'line': numbers[report['line'] - 1], 'tags': [tag and numbers[tag - 1] for tag in report['tags']]}
 
 
 def captures():
@@ -78,9 +67,9 @@ def try_refused(folder):
             fail(f'{capture}: transcribe says {told}')
 
 
-def try_captures(program):
+def try_captures():
     with tempfile.TemporaryDirectory() as name:
-        folder = Folder(name, program)
+        folder = Folder(name)
         counts = [try_capture(folder, *it) for it in captures()]
         try_refused(folder)
     return f'{len(counts)} captures with {sum(counts)} reports as of their lines'

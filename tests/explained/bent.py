@@ -8,16 +8,16 @@ import collections
 import dataclasses
 import itertools
 import json
-import os
 import re
-import subprocess
 import unittest
 from fractions import Fraction
-from pathlib import Path
 
-TOP = Path(__file__).resolve().parents[2]
-PROGRAM = os.environ.get('PTPX', TOP / 'crates/ptpx/out/ptpx')
-WORKED = [json.loads(line) for line in (TOP / 'examples/exchange.transcript.jsonl').read_text().splitlines()]
+import texts
+from explained import REASON, TRANSCRIPT, explain
+from texts import decimals, seconds
+from told import compact
+
+WORKED = [json.loads(line) for line in TRANSCRIPT]
 NODES, BEGIN, EXCHANGE = WORKED[:3], WORKED[3:5], WORKED[5:]
 UNIT = Fraction(1, 65536)
 
@@ -33,7 +33,6 @@ UNREAD = [(0, 'majorSdoId and messageType'), (1, 'minorVersionPTP and versionPTP
 
 # Why a message can't be read.
 OLD_VERSION, NO_TIME = "202: versionPTP isn't 2", '206: the nanoseconds of the timestamp are 10^9 or more'
-REASON = {706: "the two results aren't those of the readings", 708: "the octets of a message aren't those that a port or a clock writes"}
 
 
 @dataclasses.dataclass(frozen=True)
@@ -274,18 +273,6 @@ class Exchange:
         return self.reading(left) - self.reading(entered)
 
 
-def decimals(value):
-    """A fraction of a power of two, with all its decimals."""
-    size = abs(value)
-    text = f'{size.numerator // size.denominator}'
-    rest, places = size % 1, ''
-    while rest:
-        rest *= 10
-        places += str(int(rest))
-        rest %= 1
-    return ('-' if value < 0 else '') + text + ('.' + places if places else '')
-
-
 def stamp(octets):
     return number(octets, 34, 6) * 10 ** 9 + number(octets, 40, 4)
 
@@ -294,23 +281,15 @@ def correction(octets):
     return number(octets, 8, 8, signed=True) * UNIT
 
 
-def seconds(stamp):
-    return f'{stamp // 10 ** 9}.{stamp % 10 ** 9:09}'
-
-
-def port(octets, place):
-    return f'{octets[place:place + 8].hex()}/{number(octets, place + 8, 2)}'
-
-
 def read_fields(octets):
     """What each field says that a slave or a master reads, in words, and of times and corrections how many nanoseconds that is."""
     kind = octets[0] % 16
     fields = [('messageType', TYPES[kind], None), ('domainNumber', str(octets[4]), None),
               ('twoStepFlag', str(octets[6] // 2 % 2), None) if kind == 0 else None,
               ('correctionField', f'{decimals(correction(octets))} ns', correction(octets)),
-              ('sourcePortIdentity', port(octets, 20), None), ('sequenceId', str(number(octets, 30, 2)), None),
+              ('sourcePortIdentity', texts.port(octets[20:30]), None), ('sequenceId', str(number(octets, 30, 2)), None),
               (TIMES[kind], seconds(stamp(octets)), stamp(octets)) if kind != 1 and not (kind == 0 and octets[6] & 2) else None,
-              ('requestingPortIdentity', port(octets, 44), None) if kind == 9 else None]
+              ('requestingPortIdentity', texts.port(octets[44:54]), None) if kind == 9 else None]
     return {name: (said, length) for name, said, length in filter(None, fields)}
 
 
@@ -461,8 +440,7 @@ def above(exchange):
 
 def result_row(name, reported, wanted):
     more = reported - wanted
-    noun = 'unit' if abs(more) == 1 else 'units'
-    excess = f'  {abs(more)} {noun} of 2^-16 ns too {"much" if more > 0 else "little"}' if more else ''
+    excess = f'  {texts.counted(abs(more), "unit")} of 2^-16 ns too {"much" if more > 0 else "little"}' if more else ''
     return f'  {name:7}  reported {reported}  by the readings {wanted}{excess}\n'
 
 
@@ -495,7 +473,7 @@ def judged(exchange):
         # the Delay_Req left behind the Sync's arrival
         'time': exchange.events[DELAY_REQ]['reading'],
     }
-    return json.dumps(owed, separators=(',', ':')) + '\n'
+    return f'{compact(owed)}\n'
 
 
 def below(exchange):
@@ -583,10 +561,6 @@ def exchanges(events, cases):
     return [Exchange(events, by, case) for by, case in enumerate(cases)]
 
 
-def count_of(number, noun):
-    return f'{number} {noun}{"" if number == 1 else "s"}'
-
-
 # The fields that are read, in the order in which they are counted.
 READ_FIELDS = ['messageType', 'domainNumber', 'twoStepFlag', 'correctionField', 'sourcePortIdentity', 'sequenceId', 'originTimestamp',
                'preciseOriginTimestamp', 'receiveTimestamp', 'requestingPortIdentity']
@@ -608,9 +582,9 @@ def fields_that_differ(messages):
     count = len(lost) + len(list(filter(None, wrong)))
     if not count:
         return ''
-    lines = [f"octets can't be left aside (708): a field that a slave or a master reads differs in {count_of(count, 'message')}\n"]
+    lines = [f"octets can't be left aside (708): a field that a slave or a master reads differs in {texts.counted(count, 'message')}\n"]
     if lost:
-        lines.append(f"  {count_of(len(lost), 'message')} that nobody can read\n")
+        lines.append(f"  {texts.counted(len(lost), 'message')} that nobody can read\n")
     for name in READ_FIELDS:
         amounts = [fields[name] for fields in wrong if name in fields]
         if amounts:
@@ -634,7 +608,7 @@ def other_octets(messages):
 
 def end(bent):
     """What is owed behind the last report."""
-    reports = count_of(len(bent), 'report')
+    reports = texts.counted(len(bent), 'report')
     wrong = sum(exchange.reported != exchange.readings for exchange in bent)
     told = sum(exchange.reported == exchange.messages for exchange in bent)
     against = (f'  706 stands against {wrong}: {REASON[706]}\n' if wrong else '') + f'  708 stands against {len(bent)}: {REASON[708]}\n'
@@ -643,7 +617,7 @@ def end(bent):
     first = bent[0]
     # The Sync of each exchange but the first completes a half where that of the Delay_Req before it is there, and has no report.
     passed = len(bent) - 1
-    unreported = f'{count_of(passed, "completion")} had no report, though both halves of one were there; the verdict says nothing of these\n'
+    unreported = f'{texts.counted(passed, "completion")} had no report, though both halves of one were there; the verdict says nothing of these\n'
     verdict = 708 if first.reported == first.readings else 706
     return (f'{reports}: 0 sound\n{against}right by the messages (the device): {told} of {reports}\n'
             f'right by the readings (device and network): {len(bent) - wrong} of {reports}\n'
@@ -651,11 +625,7 @@ def end(bent):
 
 
 def transcript(events):
-    return ''.join(json.dumps(event, sort_keys=True, separators=(',', ':')) + '\n' for event in events)
-
-
-def explain(text, *options):
-    return subprocess.run([PROGRAM, 'explain', *options], input=text.encode(), capture_output=True, timeout=600)
+    return ''.join(f'{compact(event)}\n' for event in events)
 
 
 def behind_moments(text):
@@ -671,11 +641,11 @@ class Bent(unittest.TestCase):
         """The whole text of each report but for its moments, and its JSON."""
         lines = transcript([*begin, *(event for exchange in bent for event in exchange.events)])
         ended = explain(lines, '--json')
-        self.assertEqual(ended.returncode, 1)
-        self.assertEqual(ended.stdout.decode().splitlines(True), [judged(exchange) for exchange in bent])
+        self.assertEqual(ended.status, 1)
+        self.assertEqual(ended.output.splitlines(True), [judged(exchange) for exchange in bent])
         ended = explain(lines)
-        self.assertEqual(ended.returncode, 1)
-        told = re.split(r'(?m)^(?=event )', ended.stdout.decode())[1:]
+        self.assertEqual(ended.status, 1)
+        told = re.split(r'(?m)^(?=event )', ended.output)[1:]
         self.assertEqual(len(told), len(bent))
         for exchange, text in zip(bent, told):
             with self.subTest(case=exchange.case):
@@ -709,7 +679,7 @@ class Bent(unittest.TestCase):
                 events = [event for exchange in right[:number + 1] for event in exchange.events]
                 offset2, path2 = wrong(owed)
                 events[-1] = dict(events[-1], offset2=str(offset2), path2=str(path2))
-                text = explain(transcript([*NODES, *BEGIN, *events])).stdout.decode()
+                text = explain(transcript([*NODES, *BEGIN, *events])).output
                 place = f"event {places['report'][number]}, line {lines['report_line'][number]}"
                 sentence = '' if said is None else f'    {said.format(**places, **lines)}\n'
                 self.assertIn(f'{place}, slave S: refused, 706: {REASON[706]}\n{sentence}  t1  ', text)
@@ -719,7 +689,7 @@ class Bent(unittest.TestCase):
         events = [*first.events, *second.events]
         for event in first.events[-1], second.events[-1]:
             events[events.index(event)] = dict(event, offset2='7', path2='9')
-        text = explain(transcript([*NODES, *BEGIN, *events])).stdout.decode()
+        text = explain(transcript([*NODES, *BEGIN, *events])).output
         self.assertIn(f': refused, 706: {REASON[706]}\n    these are the results of the report before, {first.place(-1)}, as they were reported there\n',
                       text)
 
@@ -727,7 +697,7 @@ class Bent(unittest.TestCase):
         # One step late, and the results of that with offset and path in each other's place.
         late = Exchange(EXCHANGE, 0, case(LATE, EARLY))
         event = dict(late.events[-1], offset2=str(late.messages[1]), path2=str(late.messages[0]))
-        text = explain(transcript([*NODES, *BEGIN, *late.events[:-1], event])).stdout.decode()
+        text = explain(transcript([*NODES, *BEGIN, *late.events[:-1], event])).output
         self.assertIn(f": refused, 706: {REASON[706]}\n    these are the results by the messages, with offset2 and path2 in each other's place\n", text)
 
     def test_names_the_master_that_answered(self):
@@ -735,7 +705,7 @@ class Bent(unittest.TestCase):
         events = [*BEGIN, *EXCHANGE]
         answer = len(BEGIN) + DELAY_RESP
         events[answer] = with_octets(events[answer], Way(DELAY_RESP, 20, another['id']), EARLY, node='N')
-        text = explain(transcript([*NODES, another, *events])).stdout.decode()
+        text = explain(transcript([*NODES, another, *events])).output
         self.assertIn(': refused, 703: ', text)
         # b is 1 ns less
         rows = ''.join(map(result_row, ('offset2', 'path2'), (131072000, 131072000), (131072000, 131072000)))
@@ -746,14 +716,10 @@ class Bent(unittest.TestCase):
         for events, reported, messages, time in PAIRED:
             with self.subTest(events=events):
                 lines = [*WORKED[:len(NODES) + 13], *(dict(event, n=13 + place) for place, event in enumerate(events))]
-                judged = json.loads(explain(transcript(lines), '--json').stdout.splitlines()[-1])
+                judged = json.loads(explain(transcript(lines), '--json').output.splitlines()[-1])
                 self.assertEqual((judged['reasons'], judged['by_messages'], judged['time']), ([702], pair(messages), time))
-                text = explain(transcript(lines)).stdout.decode()
+                text = explain(transcript(lines)).output
                 self.assertIn(': refused, 702: ', text)
                 rows = ''.join(map(result_row, ('offset2', 'path2'), reported, reported))
                 row = f'  by the messages  offset2 {messages[0]}  path2 {messages[1]}\n'
                 self.assertEqual(behind_moments(text), rows + row)
-
-
-if __name__ == '__main__':
-    unittest.main()

@@ -1,22 +1,17 @@
 """What `ptpx explain` says of transcripts, of schedules and of other input, word for word, and with which status it ends."""
-import collections
-import json
-import os
-import subprocess
 import unittest
-from pathlib import Path
 
-TOP = Path(__file__).resolve().parents[2]
-PROGRAM = os.environ.get('PTPX', TOP / 'crates/ptpx/out/ptpx')
+from program import EXAMPLES, Ended, ask
+from told import compact
+
 # One exchange with a slave behind a clock, and what comes of it: lines, each with its LF.
-SCHEDULE, TRANSCRIPT = ((TOP / f'examples/exchange.{kind}.jsonl').read_text().splitlines(True) for kind in ('schedule', 'transcript'))
-Ended = collections.namedtuple('Ended', 'output status errors')
+SCHEDULE, TRANSCRIPT = ((EXAMPLES / f'exchange.{kind}.jsonl').read_text().splitlines(True) for kind in ('schedule', 'transcript'))
 
 
 def explain(text, options=''):
     """What the program makes of a text, of which each character is one octet."""
-    ended = subprocess.run([PROGRAM, 'explain', *options.split()], input=text.encode('latin-1'), capture_output=True, timeout=60)
-    return Ended(ended.stdout.decode(), ended.returncode, ended.stderr.decode())
+    status, output, errors = ask(text.encode('latin-1'), 'explain', *options.split(), timeout=600)
+    return Ended(status, output.decode(), errors.decode())
 
 
 def changed(lines, *changes, place=None):
@@ -36,6 +31,7 @@ REASON = {
     703: "a message isn't of the present master of the slave, or came before the slave was told this master",
     704: "the journey of the Sync or of the Delay_Req can't be followed back to where it was sent, or a stay on it was left twice",
     705: "a reading isn't that of the clock of its node, or falls while a message is in a clock",
+    706: "the two results aren't those of the readings",
     707: 'the Sync or the Delay_Req was in clocks for longer than a correction can say',
     708: "the octets of a message aren't those that a port or a clock writes",
 }
@@ -522,7 +518,7 @@ def staying(stays, copy, of_request=0, twice=None):
     events += [{'copy': left, 'ev': 'arrive', 'hex': DELAY_RESP, 'node': 'M', 'out': 'made', **second},
                {'copy': answer, 'ev': 'hear', 'node': 'S', 'offset2': '1', 'out': 'report', 'path2': '0',
                 'tags': [sync, heard, request, report]}]
-    numbered = (json.dumps({**event, 'n': number}, sort_keys=True, separators=(',', ':')) for number, event in enumerate(events))
+    numbered = (compact({**event, 'n': number}) for number, event in enumerate(events))
     return ''.join([*TRANSCRIPT[:3], *(line + '\n' for line in numbered)])
 
 
@@ -798,7 +794,3 @@ can't be followed back to where it was sent, or a stay on it was left twice
     event {event}, line {event + 4}, a leave at T: {said}
     of the journey of the {message} only the last 256 stays were looked at
 """, output)
-
-
-if __name__ == '__main__':
-    unittest.main()

@@ -1,19 +1,15 @@
 """A reader of what was met at two taps that was written apart from `ptpx follow`: what that owes for an input.
 
 It has all messages in memory, finds out first which are followed, and then goes through these."""
-import decimal
 import fractions
-import json
-import pathlib
 import re
 import statistics
-import sys
 import typing
 
-TOP = pathlib.Path(__file__).resolve().parents[2]
-sys.path[:0] = [str(TOP / 'tests/captures'), str(TOP / 'tests/hostile')]
-import reading  # noqa: E402
-import shown  # noqa: E402
+import reading
+import shown
+from texts import NAMED, counted, decimals, port, seconds, thousandths
+from told import compact
 
 SYNC, DELAY_REQ, FOLLOW_UP, DELAY_RESP = 0, 1, 8, 9
 UNITS = 2**16
@@ -28,15 +24,7 @@ RECENT = 4096
 NAME = re.compile(rb'[A-Za-z0-9_.-]{1,16}')
 LINE = re.compile(rb'([A-Za-z0-9_.-]{1,16}) (0|[1-9][0-9]*)(?:\.([0-9]{1,9}))? ((?:[0-9a-fA-F]{2})*)')
 
-# The magics of captures, each of four octets.
-MAGICS = [*reading.PCAP, reading.SECTION_TYPE]
-
 HEAD = 'time,kind,number,taken_ns,corrected_ns,rest_ns\n'
-
-# How many taps are named.
-NAMED = 8
-
-decimal.getcontext().prec = 60
 
 
 class Wanted(typing.NamedTuple):
@@ -50,7 +38,7 @@ class Wanted(typing.NamedTuple):
     def arguments(self):
         """The words that ask for it."""
         named = [('from', self.start and self.start.decode()), ('to', self.end and self.end.decode()), ('domain', self.domain),
-                 ('master', port_text(self.master)), ('slave', port_text(self.slave))]
+                 ('master', self.master and port(self.master)), ('slave', self.slave and port(self.slave))]
         return [word for name, value in named if value is not None for word in (f'--{name}', str(value))]
 
 
@@ -115,7 +103,7 @@ def sums(crossings):
     both = {'asymmetry': None, 'mean_rest': None}
     if None not in means:
         both = {'asymmetry': nanoseconds(round(means[0] - means[1])), 'mean_rest': nanoseconds(round((means[0] + means[1]) / 2))}
-    return ''.join(json.dumps(it, sort_keys=True, separators=(',', ':')) + '\n' for it in [*lines, both])
+    return ''.join(f'{compact(it)}\n' for it in [*lines, both])
 
 
 def is_beyond(crossings, limit):
@@ -140,30 +128,20 @@ class Followed(typing.NamedTuple):
         return ((HEAD if csv else '') + ''.join(map(form, self.crossings))).encode()
 
 
-def port_text(port):
-    return port and f'{port[:8].hex()}/{int.from_bytes(port[8:], "big")}'
-
-
 def nanoseconds(units):
     """Units of 2^-16 ns as nanoseconds, with the decimals that they have."""
-    text = f'{decimal.Decimal(units) / UNITS:f}'
-    text = text.rstrip('0').rstrip('.') if '.' in text else text
-    return '0' if text == '-0' else text
-
-
-def time_text(time):
-    return f'{time // 10**9}.{time % 10**9:09}'
+    return decimals(fractions.Fraction(units, UNITS))
 
 
 def json_line(crossing):
     told = {name: nanoseconds(crossing[name]) for name in ('corrected', 'rest', 'taken')}
-    told |= {name: crossing[name] for name in ('from', 'to', 'kind', 'lines', 'number')} | {'time': time_text(crossing['time'])}
-    return json.dumps(told, sort_keys=True, separators=(',', ':')) + '\n'
+    told |= {name: crossing[name] for name in ('from', 'to', 'kind', 'lines', 'number')} | {'time': seconds(crossing['time'])}
+    return f'{compact(told)}\n'
 
 
 def row(crossing):
     numbers = [nanoseconds(crossing[name]) for name in ('taken', 'corrected', 'rest')]
-    return ','.join([time_text(crossing['time']), crossing['kind'], str(crossing['number']), *numbers]) + '\n'
+    return ','.join([seconds(crossing['time']), crossing['kind'], str(crossing['number']), *numbers]) + '\n'
 
 
 def datagrams_of_capture(octets):
@@ -185,8 +163,8 @@ def datagrams_of_lines(text):
             fault = 806
         if fault:
             return met, ('line', (fault, place))
-        tap, seconds, decimals, digits = said.groups()
-        time = int(seconds) * 10**9 + int((decimals or b'').ljust(9, b'0'))
+        tap, whole, rest, digits = said.groups()
+        time = int(whole) * 10**9 + int((rest or b'').ljust(9, b'0'))
         met.append(Message(tap, place, time, bytes.fromhex(digits.decode())))
     return met, None
 
@@ -356,15 +334,9 @@ class Follower:
             self.crossings.append(crossing_of(kind, message.number, closed) | {'from': self.start.decode(), 'to': self.end.decode()})
 
 
-def counted(count, word, rest_of_one, rest_of_more):
+def were(count, word, rest_of_one, rest_of_more):
     """A line of so many messages of a kind, or none."""
-    return [f'1 {word} was {rest_of_one}' if count == 1 else f'{count} {word}s were {rest_of_more}'] if count else []
-
-
-def rounded(nanoseconds):
-    """Nanoseconds to a thousandth, half away from 0."""
-    parts = int(abs(nanoseconds) * 1000 + fractions.Fraction(1, 2))
-    return f'{"-" if nanoseconds < 0 and parts else ""}{parts // 1000}.{parts % 1000:03}'
+    return [f'{counted(count, word)} {f"was {rest_of_one}" if count == 1 else f"were {rest_of_more}"}'] if count else []
 
 
 def rate(crossings):
@@ -387,7 +359,23 @@ def rate_lines(crossings):
     wrong = 'long' if ppm < 0 else 'short'
     meaning = (f'half of how it varies, or more: by so much a clock between the taps tells its residences too {wrong}, where its rate is the reason' if explains_half
                else 'less than half of how it varies: stamps or the load of a clock are a likelier reason than its rate')
-    return [f'rate: rest of Syncs grows by {rounded(ppm)} ppm of corrected, by least squares (rounded), which explains {meaning}']
+    return [f'rate: rest of Syncs grows by {thousandths(ppm)} ppm of corrected, by least squares (rounded), which explains {meaning}']
+
+
+def crossed(count, word, first, second, medians=''):
+    """How many messages of a kind crossed."""
+    return f'{counted(count, word) if count else f"no {word}"} crossed from {first} to {second}' + (f'; in ns, rounded{medians}:' if count else '')
+
+
+def figure(name, *values):
+    """What of crossings of a kind one of three values comes to, in rounded texts."""
+    return f'  {name}: ' + ', '.join(f'{which} {value}' for which, value in zip(('least', 'median', 'mean', 'greatest'), values, strict=True))
+
+
+def asymmetric(asymmetry, half, end):
+    """What is said of an asymmetry, in rounded texts, where Syncs end at this tap."""
+    return (f'asymmetry {asymmetry} ns: where both taps read one clock, offsets of a slave behind them are by half of it, {half} ns, too great, and one that is '
+            f'steered by them is late by as much; where the clock of {end} is ahead by d, 2d is in it')
 
 
 def figures(crossings, start, end):
@@ -396,22 +384,18 @@ def figures(crossings, start, end):
     lines, exact = [], []
     for kind, word, first, second in (('sync', 'Sync', start, end), ('delay_req', 'Delay_Req', end, start)):
         those = [it for it in crossings if it['kind'] == kind]
-        number = f'no {word}' if not those else f'1 {word}' if len(those) == 1 else f'{len(those)} {word}s'
-        medians = f', medians of the last {RECENT}' if len(those) > RECENT else ''
-        lines.append(f'{number} crossed from {first} to {second}' + (f'; in ns, rounded{medians}:' if those else ''))
+        lines.append(crossed(len(those), word, first, second, f', medians of the last {RECENT}' * (len(those) > RECENT)))
         for name in ('taken', 'corrected', 'rest') if those else ():
             units = [fractions.Fraction(it[name]) for it in those]
             mean = fractions.Fraction(round(sum(units) / len(units)))
             median = statistics.median(units[-RECENT:])
-            lines.append(f'  {name}: least {rounded(min(units) / UNITS)}, median {rounded(median / UNITS)}, mean {rounded(mean / UNITS)}, '
-                         f'greatest {rounded(max(units) / UNITS)}')
+            lines.append(figure(name, *(thousandths(it / UNITS) for it in (min(units), median, mean, max(units)))))
         if those:
             exact.append(fractions.Fraction(sum(it['rest'] for it in those), len(those)))
     lines += rate_lines(crossings)
     if len(exact) == 2:
         asymmetry = fractions.Fraction(round(exact[0] - exact[1]), UNITS)
-        lines.append(f'asymmetry {rounded(asymmetry)} ns: where both taps read one clock, offsets of a slave behind them are by half of it, '
-                     f'{rounded(asymmetry / 2)} ns, too great, and one that is steered by them is late by as much; where the clock of {end} is ahead by d, 2d is in it')
+        lines.append(asymmetric(thousandths(asymmetry), thousandths(asymmetry / 2), end))
     return lines
 
 
@@ -421,8 +405,7 @@ def changed_lines(crossings):
     if not messages:
         return []
     by_field = [(field, sum(field in fields for fields in messages)) for field in COMPARED]
-    number = '1 message' if len(messages) == 1 else f'{len(messages)} messages'
-    return [f'in {number} fields other than correctionField differ between the taps: ' + ', '.join(f'{field} in {count}' for field, count in by_field if count)]
+    return [f'in {counted(len(messages), "message")} fields other than correctionField differ between the taps: ' + ', '.join(f'{field} in {count}' for field, count in by_field if count)]
 
 
 def untold_lines(follower, kind, word):
@@ -432,7 +415,7 @@ def untold_lines(follower, kind, word):
               (why.count('too big'), 'with a correction that is too big to be represented'),
               (why.count('two-step'), f'with twoStepFlag only at {follower.start.decode()}'),
               (why.count('timestamp'), 'with timestamps that differ between the taps')]
-    return [f'nothing is told of {count} {word}{"s" * (count > 1)} {which}' for count, which in counts if count]
+    return [f'nothing is told of {counted(count, word)} {which}' for count, which in counts if count]
 
 
 def said(watch, follower):
@@ -443,14 +426,14 @@ def said(watch, follower):
             return [f"nothing was followed between {names[0]} and {names[1]}: the domain, the master, the slave or the way isn't known"]
         return [f'nothing was met at another tap than {names[0]}' if names else 'nothing was met at a tap']
     start, end = follower.start.decode(), follower.end.decode()
-    slave = f'slave {port_text(follower.slave)}' if follower.slave else f'no Delay_Req at {end} tells the slave'
-    lines = [f'from {start} to {end}', f'domain {watch.domain}', f'master {port_text(watch.master)}', slave]
+    slave = f'slave {port(follower.slave)}' if follower.slave else f'no Delay_Req at {end} tells the slave'
+    lines = [f'from {start} to {end}', f'domain {watch.domain}', f'master {port(watch.master)}', slave]
     lines += figures(follower.crossings, start, end) + changed_lines(follower.crossings)
     for kind, word, other, first, second in (('sync', 'Sync', 'Follow_Up', start, end), ('delay_req', 'Delay_Req', 'Delay_Resp', end, start)):
         records = follower.records[kind]
         for count, here, there in ((records.lost('first', 'second'), first, second), (records.lost('second', 'first'), second, first)):
-            lines += counted(count, word, *[f'met at {here} and not at {there}'] * 2)
-        lines += counted(records.unfinished(), word, f'met at both taps, and a {other} of it is missing', f'met at both taps, and a {other} of each is missing')
+            lines += were(count, word, *[f'met at {here} and not at {there}'] * 2)
+        lines += were(records.unfinished(), word, f'met at both taps, and a {other} of it is missing', f'met at both taps, and a {other} of each is missing')
     return lines + untold_lines(follower, 'sync', 'Sync') + untold_lines(follower, 'delay_req', 'Delay_Req')
 
 
@@ -464,7 +447,7 @@ def not_met(wanted, taps):
 
 def follow(octets, wanted=Wanted()):
     """What `ptpx follow` owes for an input."""
-    met, fault = (datagrams_of_capture if octets[:4] in MAGICS else datagrams_of_lines)(octets)
+    met, fault = (datagrams_of_capture if octets[:4] in reading.MAGICS else datagrams_of_lines)(octets)
     watch, kept, follower, third = Watch(wanted), [], None, None
 
     def begin(is_enough):

@@ -3,15 +3,12 @@ as it is behind a blank, with an escape, and with a key twice, where `ptpx` read
 import functools
 import itertools
 import json
-import re
 
 import inputs
 import spelled
 import told
 from shown import lines_of
-
-FAULT = re.compile(rb'ptpx: fault (80[1-8])(?: \((60[1-8])\))? at line ([1-9][0-9]*)\n')
-VERDICT = re.compile(rb'accepted ([0-9]+)\n|refused event ([0-9]+): (70[1-8])\n')
+from texts import FAULT, VERDICT
 
 # Of a hundred lines so many are another line or none, the others the same line, in another spelling or as it was.
 BENT = 8
@@ -80,7 +77,7 @@ def start(given, subcommand, lines):
     status, output, errors = given(subcommand, text_of(lines))
     fault = FAULT.fullmatch(errors)
     if fault:
-        return status, lines_of(output), fault[1].decode(), int(fault[3]) - 1
+        return status, lines_of(output), fault[1][:3].decode(), int(fault[2]) - 1
     if errors or status == 3:
         raise ValueError(errors)
     return status, lines_of(output), None, None

@@ -4,9 +4,8 @@ import re
 from fractions import Fraction
 
 from shown import lines_of
+from texts import FAULT, VERDICT
 
-FAULT = re.compile(rb'ptpx: fault 80[1-8](?: \(60[1-8]\))? at line ([1-9][0-9]*)\n')
-VERDICT = re.compile(rb'refused event ([0-9]+): (70[1-8])\n')
 BEGIN = re.compile(r'event ([0-9]+), line ([0-9]+), slave ([A-Za-z0-9_-]+): (?:sound|refused, (70[1-8]): .*)')
 FURTHER = re.compile(r'  and (70[1-8]): .*')
 COUNT = re.compile(r'([0-9]+) reports?: ([0-9]+) sound')
@@ -24,7 +23,7 @@ TOGETHER = [702, 703, 705, 707, 706, 708]
 def line_of_fault(errors):
     """The line at which a fault stands, 0 where there is none."""
     fault = FAULT.fullmatch(errors)
-    return int(fault[1]) if fault else 0
+    return int(fault[2]) if fault else 0
 
 
 def is_owed(explained, checked, replayed):
@@ -166,5 +165,5 @@ def misexplained(text, checked, replayed, start):
         yield f'the story ends in {told[-80:]!r}, and the verdict is {checked[1]!r}'
     verdict = VERDICT.fullmatch(checked[1])
     worst = [(judged['event'], judged['reasons'][0]) for judged in found if judged['reasons']]
-    if worst[:1] != ([(int(verdict[1]), int(verdict[2]))] if verdict else []):
+    if worst[:1] != ([(int(verdict[2]), int(verdict[3]))] if verdict and verdict[2] else []):
         yield f'{worst[:1]} is judged first, and the verdict is {checked[1]!r}'

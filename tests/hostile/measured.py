@@ -5,9 +5,12 @@ import collections
 import itertools
 import re
 import typing
+from fractions import Fraction
 
 import shown
+import texts
 import worth
+from worth import nanoseconds
 
 # How many lines wait until it is known whom to watch, how many of each kind of message a port holds, and of how many of the master's
 # the numbers are known.
@@ -125,18 +128,10 @@ def message(octets):
     return Message(kind, octets[4], bool(octets[6] & 2), bool(octets[6] & 4), correction, octets[20:30], sequence, stamp, requesting, shown.number(octets[33:34], signed=True))
 
 
-def decimal(halves):
-    """A number of halves of 2^-16 ns in nanoseconds, with all its decimals."""
-    whole, rest = divmod(abs(halves), 2**17)
-    decimals = f'{rest * 5**17:017}'.rstrip('0')
-    return ('-' if halves < 0 else '') + str(whole) + ('.' + decimals if decimals else '')
-
-
 def seconds(units):
     """A time in seconds, with nine decimals or all that it has."""
-    whole, rest = divmod(units, SECOND)
-    nanoseconds, left = divmod(rest, 2**16)
-    return f'{whole}.{nanoseconds:09}' + (f'{left * 5**16:016}'.rstrip('0') if left else '')
+    whole, rest = divmod(units, 2**16)
+    return texts.seconds(whole) + texts.decimals(Fraction(rest, 2**16))[2:]
 
 
 class Port:
@@ -394,22 +389,22 @@ class Measurer:
         correction = self.port.answered.correction if by == 'response' else self.port.synced.correction
         self.reports.append(worth.Report(read.place, read.units, by, offset2, path2, correction))
         if self.csv:
-            return f'{read.time},{decimal(offset2)},{decimal(path2)},{by},{read.place}{self.columns() if self.full else ""}\n'
+            return f'{read.time},{nanoseconds(offset2)},{nanoseconds(path2)},{by},{read.place}{self.columns() if self.full else ""}\n'
         tags = ','.join('null' if tag is None else str(tag) for tag in tags)
         if self.full:
-            told = {'by': f'"{by}"', 'line': read.place, 'offset': f'"{decimal(offset2)}"', 'offset2': f'"{offset2}"', 'path': f'"{decimal(path2)}"',
+            told = {'by': f'"{by}"', 'line': read.place, 'offset': f'"{nanoseconds(offset2)}"', 'offset2': f'"{offset2}"', 'path': f'"{nanoseconds(path2)}"',
                     'path2': f'"{path2}"', 'tags': f'[{tags}]', 'time': f'"{read.time}"'} | self.exchange()
             return '{' + ','.join(f'"{name}":{told[name]}' for name in sorted(told)) + '}\n'
-        return (f'{{"by":"{by}","line":{read.place},"offset":"{decimal(offset2)}","offset2":"{offset2}",'
-                f'"path":"{decimal(path2)}","path2":"{path2}","tags":[{tags}],"time":"{read.time}"}}\n')
+        return (f'{{"by":"{by}","line":{read.place},"offset":"{nanoseconds(offset2)}","offset2":"{offset2}",'
+                f'"path":"{nanoseconds(path2)}","path2":"{path2}","tags":[{tags}],"time":"{read.time}"}}\n')
 
 
     def exchange(self):
         """What the last report was made of, in full."""
         sync, answer = self.port.synced, self.port.answered
         return {'t1': f'"{seconds(sync.left)}"', 't2': f'"{seconds(sync.came)}"', 't3': f'"{seconds(answer.left)}"', 't4': f'"{seconds(answer.came)}"',
-                'sync_correction': f'"{decimal(2 * sync.correction)}"', 'delay_correction': f'"{decimal(2 * answer.correction)}"',
-                'sync_number': sync.sequence, 'request_number': answer.sequence, 't2_to_t3': f'"{decimal(2 * abs(sync.came - answer.left))}"'}
+                'sync_correction': f'"{nanoseconds(2 * sync.correction)}"', 'delay_correction': f'"{nanoseconds(2 * answer.correction)}"',
+                'sync_number': sync.sequence, 'request_number': answer.sequence, 't2_to_t3': f'"{nanoseconds(2 * abs(sync.came - answer.left))}"'}
 
     def columns(self):
         """The same as columns."""
@@ -463,7 +458,7 @@ def whom(watch, unit='line'):
         if value is None:
             yield f'no {teller} tells the {name}'
         else:
-            printed = value if name == 'domain' else f'{value[:8].hex()}/{int.from_bytes(value[8:], "big")}'
+            printed = value if name == 'domain' else texts.port(value)
             yield f'{name} {printed}, ' + (f'told by {unit} {line}' if line else 'as asked for')
 
 
@@ -526,5 +521,5 @@ def measured(text, given=Options()):
         lines.append(told)
     head = [f'{HEAD}{FULL if given.full else ""}\n'] if given.csv else []
     owed = reckoned(lines, given)
-    at_once, told = (''.join(f'ptpx: {sentence}\n' for sentence in those).encode() for those in (owed.at_once, owed.told))
+    at_once, told = (texts.told(those).encode() for those in (owed.at_once, owed.told))
     return Measured(''.join(itertools.chain(head, owed.written)).encode(), fault, owed.counts, at_once, told)

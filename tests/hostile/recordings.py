@@ -4,6 +4,7 @@ import random
 
 import inputs
 import shown
+import texts
 
 MASTERS = [bytes.fromhex('001122fffe3344550001'), bytes.fromhex('001122fffe3344560001')]
 SLAVES = [bytes.fromhex('00aabbfffeccddee0001'), bytes.fromhex('00aabbfffeccddee0002')]
@@ -271,7 +272,7 @@ PIECES = [exchange] * 8 + [jump, jump, begin_anew, leap, meet, meet, fill, fill,
 
 def time_text(rng, nanoseconds):
     """A time with all nine decimals or with those that it has."""
-    text = '{}.{:09}'.format(*divmod(nanoseconds, 10**9))
+    text = texts.seconds(nanoseconds)
     return text if rng.random() < 0.8 else text.rstrip('0').rstrip('.')
 
 

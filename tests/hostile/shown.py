@@ -1,6 +1,8 @@
 """A reader of datagrams that was written apart from the program: what `show` owes for an input."""
 import re
 
+from texts import fault_at_line, port
+
 # What each message type is called, and how long its fields are.
 TYPES = {0: ('Sync', 44), 1: ('Delay_Req', 44), 8: ('Follow_Up', 44), 9: ('Delay_Resp', 54)}
 
@@ -16,10 +18,6 @@ def lines_of(text):
 
 def number(octets, signed=False):
     return int.from_bytes(octets, 'big', signed=signed)
-
-
-def identity(octets):
-    return f'{octets[:8].hex()}/{number(octets[8:10])}'
 
 
 def refusal(octets):
@@ -42,10 +40,10 @@ def fields(octets):
     """The fields of a datagram that isn't refused."""
     name, least = TYPES[octets[0] % 16]
     length, correction = number(octets[2:4]), number(octets[8:16], signed=True)
-    requesting = f' requesting={identity(octets[44:54])}' if least == 54 else ''
+    requesting = f' requesting={port(octets[44:54])}' if least == 54 else ''
     return (f'{name} sdo={octets[0] // 16:x}{octets[5]:02x} version=2.{octets[1] // 16} domain={octets[4]} flags={octets[6:8].hex()}'
             f' correction={"too-big" if correction == TOO_BIG else correction} specific={octets[16:20].hex()}'
-            f' source={identity(octets[20:30])} seq={number(octets[30:32])} control={octets[32]} log={number(octets[33:34], signed=True)}'
+            f' source={port(octets[20:30])} seq={number(octets[30:32])} control={octets[32]} log={number(octets[33:34], signed=True)}'
             f' stamp={number(octets[34:40])}.{number(octets[40:44]):09}{requesting} suffix={length - least} used={length}')
 
 
@@ -66,7 +64,7 @@ def shown(text):
     for place, line in enumerate(lines_of(text), 1):
         said, fault = read(line, DIGITS)
         if fault:
-            return 3, ''.join(written).encode(), f'ptpx: fault {fault} at line {place}\n'.encode()
+            return 3, ''.join(written).encode(), fault_at_line(fault, place).encode()
         octets = bytes.fromhex(said[0].decode())
         written.append((refusal(octets) or fields(octets)) + '\n')
     return 0, ''.join(written).encode(), b''

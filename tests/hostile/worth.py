@@ -5,6 +5,8 @@ import math
 import typing
 from fractions import Fraction
 
+from texts import decimals, listed, port, thousandths
+
 # A second and a nanosecond as offsets have them, and a second as times have it.
 SECOND2, NANOSECOND2, SECOND = 10**9 * 2**17, 2**17, 10**9 * 2**16
 
@@ -31,16 +33,8 @@ class Became(typing.NamedTuple):
 
 
 def nanoseconds(value2):
-    """Nanoseconds with all their decimals."""
-    whole, rest = divmod(abs(value2), NANOSECOND2)
-    decimals = f'{rest * 5**17:017}'.rstrip('0')
-    return '-' * (value2 < 0) + str(whole) + (f'.{decimals}' if decimals else '')
-
-
-def thousandths(value):
-    """A number rounded to thousandths, halves up in size."""
-    size = math.floor(abs(value) * 1000 + Fraction(1, 2))
-    return f'{"-" if value < 0 < size else ""}{size // 1000}.{size % 1000:03}'
+    """Halves of 2^-16 ns as nanoseconds, with all their decimals."""
+    return decimals(Fraction(value2, NANOSECOND2))
 
 
 def deviation(values):
@@ -95,17 +89,6 @@ def slope(values):
 OF_DOMAIN, OF_MASTER, OF_SLAVE, REPEATED = ('503', 'of another domain'), ('505',), ('508', 'of another slave'), ('before', 'repeated')
 
 
-def identity(octets):
-    return f'{octets[:8].hex()}/{int.from_bytes(octets[8:], "big")}'
-
-
-def listed(counts):
-    """The first eight of these with how many each, and how many there are of all others."""
-    those = [f'{count} of {name}' for name, count in list(counts.items())[:8]]
-    rest = sum(list(counts.values())[8:])
-    return ', '.join(those + ([f'{rest} of further ones'] if rest else []))
-
-
 def lags(became):
     """How much later the repeats came than the first of their number, where that is the last of its kind."""
     firsts = {}
@@ -133,7 +116,7 @@ def ending(unit, times, reports, became):
         if tenths is not None:
             new = next((it for it in became[syncs[-1][0]:] if it.kind == 'Sync' and it.answer in OF_MASTER), None)
             yield f'the Syncs of the master end {tenths // 10}.{tenths % 10} s before the recording does' + (
-                f', and those of {identity(new.source)} begin at {unit} {new.place}; --master {identity(new.source)} measures by them'
+                f', and those of {port(new.source)} begin at {unit} {new.place}; --master {port(new.source)} measures by them'
                 if new else ': it went away')
             return
     if reports:
@@ -145,8 +128,8 @@ def ending(unit, times, reports, became):
 
 def company(became):
     """What is told of others whose messages are there."""
-    masters = collections.Counter(identity(it.source) for it in became if it.answer in OF_MASTER)
-    slaves = collections.Counter(identity(it.source) for it in became if it.kind == 'Delay_Req' and it.answer in OF_SLAVE)
+    masters = collections.Counter(port(it.source) for it in became if it.answer in OF_MASTER)
+    slaves = collections.Counter(port(it.source) for it in became if it.kind == 'Delay_Req' and it.answer in OF_SLAVE)
     domains = collections.Counter(it.domain for it in became if it.answer in OF_DOMAIN)
     if masters:
         yield f'messages of other masters of the domain: {listed(masters)}; --master picks one'
@@ -182,7 +165,7 @@ def beware(unit, counts, reads, reports, became):
         by, explains = slope([(it.units, it.offset2) for it in syncs])
         size = math.floor(abs(by) * 10**9 + Fraction(1, 2))
         if explains and size >= 1000:
-            yield (f'the offset runs away by {"-" if by < 0 else ""}{size // 1000}.{size % 1000:03} ppm (rounded): the times are of a clock that '
+            yield (f'the offset runs away by {thousandths(by * 10**6)} ppm (rounded): the times are of a clock that '
                    "doesn't follow this master, as that of a tap or of another host, or that was set or was still settling")
     times = [units for units, _ in reads]
     if times:

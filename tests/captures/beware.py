@@ -1,56 +1,58 @@
-#!/usr/bin/env python3
 """Bends a capture as setups in the field do, and sees that `ptpx measure` says what speaks against its numbers: the lines `beware` that are owed,
 and the statistics. All is computed apart, reports by tests/hostile/measured.py and the numbers by worth.py; only
 of a good capture they are those of the reports that went out. A good capture has no line `beware`.
 
-Further captures, good ones, may be named as arguments."""
-import collections
+Further captures, good ones, may be named as arguments; with -v it says what it found."""
 import json
-import os
 import pathlib
 import re
-import struct
-import subprocess
 import sys
+import typing
 from fractions import Fraction
 
-TOP = pathlib.Path(__file__).resolve().parents[2]
-sys.path.insert(0, str(TOP / 'tests/hostile'))
-import measured  # noqa: E402
-import worth  # noqa: E402
+import judges
+import making
+import measured
+import reading
+import texts
+import unwrapping
+import worth
+from asking import EXAMPLE, difference, fail
+from program import ask
 
-PROGRAM = os.environ.get('PTPX', str(TOP / 'crates/ptpx/out/ptpx'))
-SLAVE = TOP / 'examples/slave.pcap'
 SYNC, REQUEST, FOLLOW_UP, RESPONSE = 0, 1, 8, 9
-Packet = collections.namedtuple('Packet', 'time octets length')
 
 
-def fail(text):
-    sys.exit(f'beware: {text}')
+class Packet(typing.NamedTuple):
+    """A packet, of which a snap length may leave fewer octets."""
+    time: int
+    octets: bytes
+    snap: int = making.NO_END
 
 
-def read(octets):
-    """The head and the packets of a pcap with nanoseconds, in the order of numbers of this machine."""
-    magic, = struct.unpack_from('<I', octets)
-    if magic != 0xa1b23c4d:
-        fail(f'the magic {magic:x} is that of another kind of capture')
-    at, packets = 24, []
-    while at < len(octets):
-        seconds, decimals, kept, length = struct.unpack_from('<4I', octets, at)
-        packets.append(Packet(seconds * 10**9 + decimals, octets[at + 16:at + 16 + kept], length))
-        at += 16 + kept
-    return octets[:24], packets
+class Packets(reading.Answer):
+    """All packets of a capture."""
+
+    def __init__(self, octets):
+        super().__init__(None)
+        self.all = []
+        reading.read_pcap(reading.Input(octets), self)
+
+    def take(self, _, time, octets):
+        self.all.append(Packet(time, octets))
 
 
-def written(head, packets):
-    return head + b''.join(struct.pack('<4I', *divmod(it.time, 10**9), len(it.octets), it.length) + it.octets for it in packets)
+def written(packets):
+    """A pcap with nanoseconds."""
+    capture = making.Pcap(unit=1)
+    for it in packets:
+        capture.packet(it.time, making.bare(it.octets), it.snap)
+    return bytes(capture.octets)
 
 
 # PTP over UDP over IPv4 over Ethernet, as examples/slave.pcap has it.
 def message(packet):
-    octets = packet.octets
-    is_ptp = octets[12:14] == b'\x08\0' and octets[23] == 17 and int.from_bytes(octets[36:38], 'big') in (319, 320)
-    return octets[42:] if is_ptp else b''
+    return unwrapping.unwrapped(making.ETHERNET, packet.octets[:packet.snap])[0] or b''
 
 
 def kind(packet):
@@ -59,8 +61,7 @@ def kind(packet):
 
 
 def with_message(packet, octets):
-    whole = packet.octets[:42] + octets
-    return packet._replace(octets=whole, length=len(whole))
+    return packet._replace(octets=packet.octets[:42] + octets)
 
 
 def stamp(nanoseconds):
@@ -94,7 +95,7 @@ def mirrored(packets, later):
 
 def cut(packets, most):
     """A snap length."""
-    return [it._replace(octets=it.octets[:most]) for it in packets]
+    return [it._replace(snap=most) for it in packets]
 
 
 def at_master(packets):
@@ -196,26 +197,19 @@ def reads_of(packets):
     """The datagrams of PTP, each with its packet."""
     for place, it in enumerate(packets, 1):
         if message(it):
-            seconds, decimals = divmod(it.time, 10**9)
-            yield measured.Read(place, f'{seconds}.{decimals:09}', it.time * 2**16, measured.message(message(it)))
+            yield measured.Read(place, texts.seconds(it.time), it.time * 2**16, measured.message(message(it)))
 
 
 def said_of(octets, *options):
     """The lines of the program over a capture with these options, and what it says."""
-    ended = subprocess.run([PROGRAM, 'measure', *options], input=octets, capture_output=True, timeout=600)
-    if ended.returncode:
-        fail(f'status {ended.returncode}: {ended.stderr[-300:]!r}')
-    return ended.stdout.decode(), ended.stderr.decode().splitlines(keepends=True)
+    ended = ask(octets, 'measure', *options, timeout=600)
+    if ended.status:
+        fail(f'status {ended.status}: {ended.errors[-300:]!r}', octets)
+    return ended.output, ended.errors
 
 
 def doubts(said):
     return [it.removeprefix('beware: ') for it in said if it.startswith('beware: ')]
-
-
-def first_other(found, owed):
-    """The first place at which two lists differ."""
-    place = next((at for at, (one, other) in enumerate(zip(found, owed)) if one != other), min(len(found), len(owed)))
-    return f'at {place} of {len(found)} and {len(owed)}: {found[place:place + 1]} where {owed[place:place + 1]} is owed'
 
 
 def with_corrections(report, line):
@@ -227,14 +221,13 @@ def with_corrections(report, line):
 def try_good(name, octets):
     """Of a capture in any form: it has no line `beware`, and its statistics are those of its reports."""
     output, said = said_of(octets, '--full')
-    said = [it.removeprefix('ptpx: ').removesuffix('\n') for it in said]
+    said = [it.removeprefix('ptpx: ') for it in said.decode().splitlines()]
     if doubts(said):
         fail(f'{name}, which is good: {doubts(said)}')
     reports = []
     for line in output.splitlines():
         it = json.loads(line)
-        seconds, _, decimals = it['time'].partition('.')
-        units = (int(seconds) * 10**9 + int(decimals.ljust(9, '0'))) * 2**16
+        units = judges.nanoseconds(it['time']) * 2**16
         reports.append(with_corrections(worth.Report(it['line'], units, it['by'], int(it['offset2']), int(it['path2'])), it))
     for owed in worth.statistics('packet', reports):
         if owed not in said:
@@ -242,18 +235,16 @@ def try_good(name, octets):
     return len(reports)
 
 
-def try_bent(name, head, packets, owed):
+def try_bent(name, packets, owed):
     """Reports, counts, statistics and what speaks against them are those of a reader that was written apart, word by word; and the lines `beware` are
     those that are owed for this setup, in this order, and no further one."""
-    output, said = said_of(written(head, packets))
-    reads = list(reads_of(packets))
+    octets, reads = written(packets), list(reads_of(packets))
     expected = measured.reckoned(reads, unit='packet')
-    if output != ''.join(expected.written):
-        fail(f'{name}: {first_other(output.splitlines(), "".join(expected.written).splitlines())}')
     heads = [f'{len(packets)} packets, of which {len(reads)} have PTP', f'{len(packets) - len(reads)} packets without PTP']
-    lines = [f'ptpx: {it}\n' for it in expected.at_once + heads + expected.told]
-    if said != lines:
-        fail(f'{name}: {first_other(said, lines)}')
+    said = texts.told(expected.at_once + heads + expected.told).encode()
+    for one, other in zip(said_of(octets), (''.join(expected.written).encode(), said)):
+        if one != other:
+            fail(f'{name}: {difference(one, other)}', octets)
     found = doubts(expected.told)
     if len(found) != len(owed) or not all(map(re.match, owed, found)):
         fail(f'{name}: {owed} are owed, and not {found}')
@@ -261,19 +252,14 @@ def try_bent(name, head, packets, owed):
 
 
 def main():
-    if 'BUILT' not in os.environ and 'PTPX' not in os.environ:
-        subprocess.run([TOP / 'tests/build'], check=True)
-    head, packets = read(SLAVE.read_bytes())
-    if written(head, packets) != SLAVE.read_bytes():
+    octets = EXAMPLE.read_bytes()
+    packets = Packets(octets).all
+    if written(packets)[24:] != octets[24:]:
         fail('a capture that is read and written is another one')
-    try_bent('as it is', head, packets, [])
-    reports = try_good(SLAVE.name, SLAVE.read_bytes())
+    try_bent('as it is', packets, [])
+    reports = try_good(EXAMPLE.name, octets)
     for name in [it for it in sys.argv[1:] if not it.startswith('-')]:
         reports += try_good(name, pathlib.Path(name).read_bytes())
     for name, (bend, owed) in BENT.items():
-        try_bent(name, head, bend(packets), owed)
-    print(f'beware: {reports} reports of good captures have none, and {len(BENT)} bent captures have theirs')
-
-
-if __name__ == '__main__':
-    main()
+        try_bent(name, bend(packets), owed)
+    print(f'captures: {reports} reports of good captures have nothing to beware of, and {len(BENT)} bent captures have what is owed')

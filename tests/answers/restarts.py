@@ -14,18 +14,14 @@ No listener can tell two lives apart where the second goes on within the next 25
 that a message is of the second one that comes before its first Sync. So of reports that join those nothing is asked."""
 import itertools
 import json
-import os
-import pathlib
 import random
 import re
-import subprocess
-import sys
 
-TOP = pathlib.Path(__file__).resolve().parents[2]
-sys.path.insert(0, str(TOP / 'tests/hostile'))
+import reading
 import recordings
+import texts
+from program import ask, fail
 
-PROGRAM = os.environ.get('PTPX', TOP / 'crates/ptpx/out/ptpx')
 MASTER, SLAVE = recordings.MASTERS[0], recordings.SLAVES[0]
 SECOND = 10**9
 
@@ -121,11 +117,12 @@ def long(first, begin, rate, two_step, requests, follow_first):
 
 def measured(lines):
     """What `ptpx measure` reports of these lines, for this master and slave, and how often it says that the master began anew."""
-    arguments = ['--master', f'{MASTER[:8].hex()}/1', '--slave', f'{SLAVE[:8].hex()}/1', '--domain', '0']
-    text = ''.join(f'{time // SECOND}.{time % SECOND:09} {octets.hex()}\n' for _, time, octets in lines)
-    ended = subprocess.run([PROGRAM, 'measure', *arguments], input=text.encode(), capture_output=True, check=True, timeout=60)
-    anew = re.search(rb'the master began its numbers anew (once|\d+)', ended.stderr)
-    return [json.loads(line) for line in ended.stdout.splitlines()], int(anew[1].replace(b'once', b'1')) if anew else 0
+    arguments = ['--master', texts.port(MASTER), '--slave', texts.port(SLAVE), '--domain', '0']
+    ended = ask(''.join(reading.line(time, octets) for _, time, octets in lines).encode(), 'measure', *arguments)
+    if ended.status:
+        fail(f'measure ends with status {ended.status}: {ended.errors!r}')
+    anew = re.search(rb'the master began its numbers anew (once|\d+)', ended.errors)
+    return [json.loads(line) for line in ended.output.splitlines()], int(anew[1].replace(b'once', b'1')) if anew else 0
 
 
 def wrong(made, nothing_lost):
@@ -177,11 +174,6 @@ def main():
     for name, made, nothing_lost in recorded():
         faults, reports = wrong(made, nothing_lost)
         if faults:
-            print(f'FAILED: {name}: {faults[0]}')
-            sys.exit(1)
+            fail(f'{name}: {faults[0]}')
         runs, reported = runs + 1, reported + reports
-    print(f'restarts: {reported} reports of {runs} recordings, none of two lives')
-
-
-if __name__ == '__main__':
-    main()
+    print(f'answers: {reported} reports of {runs} recordings, none of two lives')

@@ -9,19 +9,14 @@ of `ptpx extract` over the same capture.
 import collections
 import functools
 import random
-import subprocess
-import typing
 
-import bending
+import cases
 import exchanging
-import made
 import making
 import reading
-from asking import PROGRAM, TOP, difference, fail, try_kinds
-from cases import SMALL
+from asking import EXAMPLE, difference, fail, try_kinds
 from listing import Listing
-
-EXAMPLE = TOP / 'examples/slave.pcap'
+from program import ask, ask_to_full_device
 
 # Names of interfaces: none, plain ones, ones that a shell has to be given in quotes, and ones that are cut in a row.
 INTERFACES = [None, 'eth0', 'eth1', 'br-lan.7', 'if0', 'Local Area Connection', r'\Device\NPF_{0}', "it's", '"', '\t\n', 'ä', '-', 'n' * 64, 'm' * 65, 'é' * 40]
@@ -34,18 +29,6 @@ CORRECTIONS = [0, 1, -1, 65536, -65536, 2**63 - 1, 2**63 - 2, -2**63, 98304, 0x1
 # What must have been seen.
 SEEN = ['no message', 'a message', 'calls', 'further rows', 'another version', 'too short', 'a fault', 'no fault', 'some at one interface', 'all at one interface',
         'none at one interface']
-
-
-class Said(typing.NamedTuple):
-    status: int
-    output: bytes
-    errors: bytes
-
-
-def ask(octets, *arguments):
-    """What the program says of an input."""
-    ended = subprocess.run([PROGRAM, 'extract', *arguments], input=octets, capture_output=True, timeout=60)
-    return Said(ended.returncode, ended.stdout, ended.stderr)
 
 
 def message(rng, ports):
@@ -97,7 +80,7 @@ def see(name, octets, interface=None):
     """Ends where an answer is wrong. Else answers what was seen."""
     text, seen = owed(octets, interface)
     of_interface = [] if interface is None else ['--interface', interface]
-    said, extracted = ask(octets, '--list', *of_interface), ask(octets, *of_interface)
+    said, extracted = (ask(octets, 'extract', *form, *of_interface) for form in (['--list'], []))
     if said.output != text:
         fail(f'{name}: {difference(said.output, text)}', octets)
     if (said.status, said.errors) != (extracted.status, extracted.errors):
@@ -105,24 +88,10 @@ def see(name, octets, interface=None):
     return collections.Counter(seen)
 
 
-@functools.cache
-def made_by_hand():
-    return [('the example', EXAMPLE.read_bytes()), ('many interfaces', many_interfaces()),
-            *((name, bytes(capture.octets)) for name, capture, _ in exchanging.all_made())]
-
-
-def try_made(number):
-    return see(*made_by_hand()[number])
-
-
-def try_messages(number):
-    return see(f'of messages, number {number}', messages(number))
-
-
-def try_interfaces(name, octets):
+def see_interfaces(name, octets):
     """Asks for each interface that is met, by its name, and for one that none has."""
     rows, seen = reading.read(octets).rows, collections.Counter()
-    for one in [*sorted({row.interface.name for row in rows}), b'eth9']:
+    for one in cases.interfaces(octets):
         seen += see(f'{name}, at {one!r}', octets, one)
         met = len(reading.read(octets, one).rows)
         seen[f'{"none" if not met else "all" if met == len(rows) else "some"} at one interface'] += 1
@@ -130,47 +99,37 @@ def try_interfaces(name, octets):
 
 
 @functools.cache
-def with_interfaces():
-    """The captures that are made by hand and describe interfaces, but for that of very many."""
-    return [(name, octets) for name, octets in made_by_hand() if octets[:4] == reading.SECTION_TYPE and name != 'many interfaces']
-
-
-def try_made_at_one(number):
-    return try_interfaces(*with_interfaces()[number])
-
-
-def try_messages_at_one(number):
-    return try_interfaces(f'of messages, number {number}', messages(number))
+def made_by_hand():
+    return [('many interfaces', many_interfaces()), *((name, octets) for name, octets, _ in cases.made_by_hand())]
 
 
 @functools.cache
-def cuts():
-    """Small captures, with each number of their octets."""
-    small = [exchanging.pcap(exchanging.talk(count=1)), *SMALL[:1], *SMALL[2:3]]
-    return [bytes(capture.octets[:size]) for capture in small for size in range(len(capture.octets) + 1)]
+def with_interfaces():
+    """Those that describe interfaces, but for that of very many."""
+    return [(name, octets) for name, octets in made_by_hand()[1:] if cases.is_pcapng(octets)]
 
 
-def try_cut(number):
-    return see(f'cut, number {number}', cuts()[number])
+def of_exchanges(number):
+    return made_by_hand()[number]
 
 
-def try_of_every_form(number):
-    return see(f'made, number {number}', bytes(made.capture(number).octets))
+def of_exchanges_with_interfaces(number):
+    return with_interfaces()[number]
 
 
-def try_bent(number):
-    return see(f'bent, number {number}', bending.bent(number))
+def of_messages(number):
+    return f'of messages, number {number}', messages(number)
 
 
-# Of each kind how a case is tried by its number, and how many there are.
+# Of each kind what sees a case, what makes one of its number, and how many there are.
 KINDS = {
-    'of exchanges': (try_made, lambda: len(made_by_hand())),
-    'of exchanges at one interface': (try_made_at_one, lambda: len(with_interfaces())),
-    'of messages by a seed': (try_messages, lambda: 200),
-    'of messages at one interface': (try_messages_at_one, lambda: 40),
-    'cut': (try_cut, lambda: len(cuts())),
-    'of every form': (try_of_every_form, lambda: 100),
-    'bent': (try_bent, lambda: 200),
+    'of exchanges': (see, of_exchanges, lambda: len(made_by_hand())),
+    'of exchanges at one interface': (see_interfaces, of_exchanges_with_interfaces, lambda: len(with_interfaces())),
+    'of messages by a seed': (see, of_messages, lambda: 200),
+    'of messages at one interface': (see_interfaces, of_messages, lambda: 40),
+    'cut': (see, cases.cut_exchanges, lambda: len(cases.cuts_of_exchanges())),
+    'of every form': (see, cases.of_every_form, lambda: 100),
+    'bent': (see, cases.bent, lambda: 200),
 }
 
 
@@ -178,16 +137,11 @@ def try_devices():
     """A writer that fails, of a whole capture and of one that is cut off, and nothing that is written before the end."""
     whole = EXAMPLE.read_bytes()
     for octets, number in [(whole, 802), (whole[:-1], 1006)]:
-        with open('/dev/full', 'wb') as full:
-            ended = subprocess.run([PROGRAM, 'extract', '--list'], input=octets, stdout=full, stderr=subprocess.PIPE, timeout=60)
-        if ended.returncode != 3 or not ended.stderr.startswith(f'ptpx: fault {number} at octet '.encode()):
-            fail(f'--list to a full device: status {ended.returncode}, {ended.stderr[:200]!r}, and fault {number} is owed')
+        ended = ask_to_full_device(octets, 'extract', '--list')
+        if ended.status != 3 or not ended.errors.startswith(f'ptpx: fault {number} at octet '.encode()):
+            fail(f'--list to a full device: status {ended.status}, {ended.errors[:200]!r}, and fault {number} is owed')
 
 
 def main():
     try_kinds(KINDS, 'listed', SEEN)
     try_devices()
-
-
-if __name__ == '__main__':
-    main()
