@@ -1,0 +1,65 @@
+//! What the subcommands of `ptpx` can be asked for.
+#![tactic(auto)]
+
+use capture_file::InterfaceName;
+use event_codec::PortIdentity;
+use ptp_units::ScaledTime;
+use tap_choice::TapName;
+
+/// The options of `extract`.
+#[derive(Clone, Copy, Debug, Default, PartialEq, Eq)]
+pub struct ExtractOptions {
+    /// The interface whose packets are taken; without it, those of all are.
+    pub interface: Option<InterfaceName>,
+    /// Whether the octets are written alone, without times.
+    pub octets: bool,
+    /// Whether a table of who sent what is written, in place of lines.
+    pub list: bool,
+}
+
+/// The options of `measure`.
+#[derive(Clone, Copy, Debug, Default, PartialEq, Eq)]
+pub struct MeasureOptions {
+    /// The port of the slave; without it, the source of the first Delay_Req of the domain.
+    pub slave: Option<PortIdentity>,
+    /// The port of the master; without it, the source of the first Sync of the domain.
+    pub master: Option<PortIdentity>,
+    /// domainNumber; without it, that of the first Sync, of the master where that is given.
+    pub domain: Option<u8>,
+    /// The interface of a capture; without it, the first at which slave, master and domain are known.
+    pub interface: Option<InterfaceName>,
+    /// Whether the output is CSV, in place of JSON.
+    pub csv: bool,
+    /// Whether each report has also the exchange that it was made of.
+    pub full: bool,
+}
+
+/// The options of `follow`.
+#[derive(Clone, Copy, Debug, Default, PartialEq, Eq)]
+pub struct FollowOptions {
+    /// The tap that a Sync meets first; without it, the one at which the first Sync that was met at both was met earlier.
+    pub from: Option<TapName>,
+    /// The tap that a Delay_Req meets first, another one than that; without it, the other of the two.
+    pub to: Option<TapName>,
+    /// The port of the slave; without it, the source of the first Delay_Req of the domain at `to`.
+    pub slave: Option<PortIdentity>,
+    /// The port of the master; without it, the source of the first Sync of the domain.
+    pub master: Option<PortIdentity>,
+    /// domainNumber; without it, that of the first Sync, of the master where that is given.
+    pub domain: Option<u8>,
+    /// The greatest rest, either way, that isn't told by the exit status: so many seconds as it is nanoseconds.
+    pub limit: Option<ScaledTime>,
+    /// Whether the output is CSV, in place of JSON.
+    pub csv: bool,
+    /// Whether the output is sums, in place of crossings, and not CSV.
+    pub sum: bool,
+}
+
+/// The options of `explain`.
+#[derive(Clone, Copy, Debug, Default, PartialEq, Eq)]
+pub struct ExplainOptions {
+    /// Whether only the first report that is refused is told, in place of each.
+    pub first: bool,
+    /// Whether the output is JSON, a line a report, in place of text.
+    pub json: bool,
+}
