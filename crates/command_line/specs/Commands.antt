@@ -6,10 +6,10 @@ use Rattle.clap.specs.Walk as matches
 use Rattle.clap.specs.Walk.{Text}
 use Rattle.command_line.specs.declared.commands.Subcommand.{Subcommand}
 use Rattle.command_line.specs.declared.commands.Subcommand.TheVariants.{Show, Replay, Check, Extract, Measure, Follow, Explain}
-use Rattle.command_line.specs.declared.commands.explain.ExplainOptions.{ExplainOptions}
-use Rattle.command_line.specs.declared.commands.extract.ExtractOptions.{ExtractOptions}
-use Rattle.command_line.specs.declared.commands.follow.FollowOptions.{FollowOptions}
-use Rattle.command_line.specs.declared.commands.measure.MeasureOptions.{MeasureOptions}
+use Rattle.command_options.specs.declared.ExplainOptions.{ExplainOptions}
+use Rattle.command_options.specs.declared.ExtractOptions.{ExtractOptions}
+use Rattle.command_options.specs.declared.FollowOptions.{FollowOptions}
+use Rattle.command_options.specs.declared.MeasureOptions.{MeasureOptions}
 use Rattle.capture_file.specs.Name.{interface_name}
 use Rattle.command_line.specs.Limit.{limit_of}
 use Rattle.command_line.specs.Number.{domain_of}

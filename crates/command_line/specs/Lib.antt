@@ -6,4 +6,5 @@ pub mod Options
 pub mod Program
 pub mod Commands
 pub mod Arguments
+pub mod Named
 pub mod Inner

@@ -6,20 +6,21 @@ ghost use Rattle.command_line.specs.Commands.{chosen_of, subcommands};
 ghost use Rattle.command_line.specs.Program.{row_of};
 
 mod check;
-pub mod explain;
-pub mod extract;
-pub mod follow;
-pub mod measure;
+mod explain;
+mod extract;
+mod follow;
+mod measure;
 mod replay;
 mod show;
 
-use crate::commands::explain::{ExplainOptions, explain_options};
-use crate::commands::extract::{ExtractOptions, extract_options};
-use crate::commands::follow::{FollowOptions, follow_options};
-use crate::commands::measure::{MeasureOptions, measure_options};
+use crate::commands::explain::explain_options;
+use crate::commands::extract::extract_options;
+use crate::commands::follow::follow_options;
+use crate::commands::measure::measure_options;
 use crate::options::WrongValue;
 use crate::table::SubcommandRow;
 use clap::ArgMatches;
+use command_options::{ExplainOptions, ExtractOptions, FollowOptions, MeasureOptions};
 
 static SUBCOMMANDS: [SubcommandRow; 7] = [
     show::ROW,

@@ -5,6 +5,7 @@ mod arguments;
 pub mod commands;
 mod help;
 mod limit;
+mod named;
 mod number;
 mod options;
 mod port_identity;
@@ -12,4 +13,5 @@ mod table;
 
 pub use arguments::{Invocation, parse};
 pub use commands::{Subcommand, subcommands};
+pub use named::named_subcommand;
 pub use table::{OptionRow, SubcommandRow};

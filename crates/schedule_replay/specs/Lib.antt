@@ -1,3 +1,2 @@
 pub mod Show
-pub mod Follow
 pub mod Program

@@ -2,9 +2,6 @@
 //! whole program over its arguments.
 #![tactic(auto)]
 
-mod capture_faults;
-mod following;
-mod hints;
 pub mod laws;
 mod program;
 mod showing;

@@ -8,6 +8,7 @@ use crate::commands::Help;
 use crate::options::is_used;
 use crate::table::{OptionRow, SubcommandRow};
 use clap::ArgMatches;
+use command_options::ExplainOptions;
 
 /// The options of `explain`.
 const OPTIONS: [OptionRow; 2] = [
@@ -30,15 +31,6 @@ pub(crate) const ROW: SubcommandRow = SubcommandRow {
     help: Help::Explain,
     options: &OPTIONS,
 };
-
-/// The options of `explain`.
-#[derive(Clone, Copy, Debug, PartialEq, Eq)]
-pub struct ExplainOptions {
-    /// Whether only the first report that is refused is told, in place of each.
-    pub first: bool,
-    /// Whether the output is JSON, a line a report, in place of text.
-    pub json: bool,
-}
 
 /// The options that were met.
 pub(crate) fn explain_options(matches: &ArgMatches<'_>) -> ExplainOptions

@@ -8,8 +8,8 @@ ghost use Rattle.command_line.specs.Commands.{extract_options_of};
 use crate::commands::Help;
 use crate::options::{WrongValue, interface_option, is_used};
 use crate::table::{OptionRow, SubcommandRow};
-use capture_file::InterfaceName;
 use clap::ArgMatches;
+use command_options::ExtractOptions;
 
 /// The options of `extract`.
 const OPTIONS: [OptionRow; 3] = [
@@ -37,17 +37,6 @@ pub(crate) const ROW: SubcommandRow = SubcommandRow {
     help: Help::Extract,
     options: &OPTIONS,
 };
-
-/// The options of `extract`.
-#[derive(Clone, Copy, Debug, PartialEq, Eq)]
-pub struct ExtractOptions {
-    /// The interface whose packets are taken; without it, those of all are.
-    pub interface: Option<InterfaceName>,
-    /// Whether the octets are written alone, without times.
-    pub octets: bool,
-    /// Whether a table of who sent what is written, in place of lines.
-    pub list: bool,
-}
 
 /// The options that were met.
 pub(crate) fn extract_options<'a>(

@@ -9,9 +9,7 @@ use crate::commands::Help;
 use crate::options::{WrongValue, domain_option, is_used, limit_option, port_option, tap_option};
 use crate::table::{OptionRow, SubcommandRow};
 use clap::ArgMatches;
-use event_codec::PortIdentity;
-use ptp_units::ScaledTime;
-use tap_choice::TapName;
+use command_options::FollowOptions;
 
 /// The options of `follow`.
 const OPTIONS: [OptionRow; 8] = [
@@ -64,27 +62,6 @@ pub(crate) const ROW: SubcommandRow = SubcommandRow {
     help: Help::Follow,
     options: &OPTIONS,
 };
-
-/// The options of `follow`.
-#[derive(Clone, Copy, Debug, PartialEq, Eq)]
-pub struct FollowOptions {
-    /// The tap that a Sync meets first; without it, the one at which the first Sync that was met at both was met earlier.
-    pub from: Option<TapName>,
-    /// The tap that a Delay_Req meets first, another one than that; without it, the other of the two.
-    pub to: Option<TapName>,
-    /// The port of the slave; without it, the source of the first Delay_Req of the domain at `to`.
-    pub slave: Option<PortIdentity>,
-    /// The port of the master; without it, the source of the first Sync of the domain.
-    pub master: Option<PortIdentity>,
-    /// domainNumber; without it, that of the first Sync, of the master where that is given.
-    pub domain: Option<u8>,
-    /// The greatest rest, either way, that isn't told by the exit status: so many seconds as it is nanoseconds.
-    pub limit: Option<ScaledTime>,
-    /// Whether the output is CSV, in place of JSON.
-    pub csv: bool,
-    /// Whether the output is sums, in place of crossings, and not CSV.
-    pub sum: bool,
-}
 
 /// Whether sums are asked for, unless CSV is, too.
 fn sum_besides<'a>(csv: bool, sum: bool) -> Result<bool, WrongValue<'a>>

@@ -8,9 +8,8 @@ ghost use Rattle.command_line.specs.Commands.{measure_options_of};
 use crate::commands::Help;
 use crate::options::{WrongValue, domain_option, interface_option, is_used, port_option};
 use crate::table::{OptionRow, SubcommandRow};
-use capture_file::InterfaceName;
 use clap::ArgMatches;
-use event_codec::PortIdentity;
+use command_options::MeasureOptions;
 
 /// The options of `measure`.
 const OPTIONS: [OptionRow; 6] = [
@@ -53,23 +52,6 @@ pub(crate) const ROW: SubcommandRow = SubcommandRow {
     help: Help::Measure,
     options: &OPTIONS,
 };
-
-/// The options of `measure`.
-#[derive(Clone, Copy, Debug, PartialEq, Eq)]
-pub struct MeasureOptions {
-    /// The port of the slave; without it, the source of the first Delay_Req of the domain.
-    pub slave: Option<PortIdentity>,
-    /// The port of the master; without it, the source of the first Sync of the domain.
-    pub master: Option<PortIdentity>,
-    /// domainNumber; without it, that of the first Sync, of the master where that is given.
-    pub domain: Option<u8>,
-    /// The interface of a capture; without it, the first at which slave, master and domain are known.
-    pub interface: Option<InterfaceName>,
-    /// Whether the output is CSV, in place of JSON.
-    pub csv: bool,
-    /// Whether each report has also the exchange that it was made of.
-    pub full: bool,
-}
 
 /// The options that were met.
 pub(crate) fn measure_options<'a>(

@@ -1,7 +1,7 @@
 use Rattle.std.proofs.Common.{Bool, ap₂, codes}
 use Rattle.clap.specs.Matches.{found_of}
 use Rattle.command_line.proofs.RowOptions.{is_read}
-use Rattle.command_line.specs.declared.commands.explain.ExplainOptions.{ExplainOptions}
+use Rattle.command_options.specs.declared.ExplainOptions.{ExplainOptions}
 use Rattle.command_line.proofs.commands.explain.explain_options.Goals as goal
 
 -- the options of `explain`, of what each says

@@ -5,7 +5,7 @@ use Rattle.clap.specs.Walk.{rows_of}
 use Rattle.capture_file.specs.declared.name.InterfaceName.{InterfaceName}
 use Rattle.capture_file.specs.Name.{interface_name}
 use Rattle.command_line.specs.Options.{is_used}
-use Rattle.command_line.specs.declared.commands.extract.ExtractOptions.{ExtractOptions}
+use Rattle.command_options.specs.declared.ExtractOptions.{ExtractOptions}
 use Rattle.command_line.proofs.RowOptions.{is_read, no_answer, value_read}
 use Rattle.command_line.proofs.commands.extract.extract_options.Goals as goal
 

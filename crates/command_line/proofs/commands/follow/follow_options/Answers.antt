@@ -9,7 +9,7 @@ use Rattle.command_line.specs.Number.{domain_of}
 use Rattle.command_line.specs.Options.{is_used, said}
 use Rattle.command_line.specs.PortText.{port_identity_of}
 use Rattle.command_line.specs.TapText.{tap_besides}
-use Rattle.command_line.specs.declared.commands.follow.FollowOptions.{FollowOptions}
+use Rattle.command_options.specs.declared.FollowOptions.{FollowOptions}
 use Rattle.command_line.proofs.RowOptions.{is_read, no_answer, value_read}
 use Rattle.command_line.proofs.commands.follow.follow_options.Goals as goal
 

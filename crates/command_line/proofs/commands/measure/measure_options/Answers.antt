@@ -8,7 +8,7 @@ use Rattle.capture_file.specs.Name.{interface_name}
 use Rattle.command_line.specs.Number.{domain_of}
 use Rattle.command_line.specs.Options.{is_used, said}
 use Rattle.command_line.specs.PortText.{port_identity_of}
-use Rattle.command_line.specs.declared.commands.measure.MeasureOptions.{MeasureOptions}
+use Rattle.command_options.specs.declared.MeasureOptions.{MeasureOptions}
 use Rattle.command_line.proofs.RowOptions.{is_read, no_answer, value_read}
 use Rattle.command_line.proofs.commands.measure.measure_options.Goals as goal
 
