@@ -1,4 +1,4 @@
-//! Tests by the public calls of the program: devices of all kinds, and statuses.
+//! Tests by the public calls of the program and of its devices, devices of all kinds and statuses; and the texts of refusals and faults, of all crates.
 #![tactic(auto)]
 
 /// Cases, each with its text.
@@ -9,8 +9,14 @@ macro_rules! texts {
 }
 
 #[cfg(test)]
+mod counted;
+#[cfg(test)]
 mod program;
 #[cfg(test)]
+mod refusals;
+#[cfg(test)]
 mod replay;
+#[cfg(test)]
+mod show;
 #[cfg(test)]
 mod transcripts;
