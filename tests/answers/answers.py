@@ -57,15 +57,21 @@ def is_wanted(field, written):
     return re.fullmatch(b'.*'.join(re.escape(octets(part)) for part in field.split('*')), written, re.DOTALL) is not None
 
 
-def differences(row):
-    """What comes of a row that it doesn't want."""
-    arguments, sent, *wanted, status = row.split('\t')
-    ended = subprocess.run(arguments.split(' '), executable=PROGRAM, input=given(sent), capture_output=True, timeout=60)
-    for what, field, written in zip(('output', 'errors'), wanted, (ended.stdout, ended.stderr), strict=True):
+def flaws(row, output, errors, status):
+    """What a row doesn't want of what a program wrote and of how it ended."""
+    _, _, *wanted, wanted_status = row.split('\t')
+    for what, field, written in zip(('output', 'errors'), wanted, (output, errors), strict=True):
         if not is_wanted(field, written):
             yield f'{what} {written!r}'
-    if ended.returncode != int(status):
-        yield f'status {ended.returncode}'
+    if status != int(wanted_status):
+        yield f'status {status}'
+
+
+def differences(row):
+    """What comes of a row that it doesn't want."""
+    arguments, sent, *_ = row.split('\t')
+    ended = subprocess.run(arguments.split(' '), executable=PROGRAM, input=given(sent), capture_output=True, timeout=60)
+    return flaws(row, ended.stdout, ended.stderr, ended.returncode)
 
 
 def main():
