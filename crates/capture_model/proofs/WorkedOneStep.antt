@@ -1,4 +1,4 @@
--- The first two exchanges of `tests/recorded_measurement/one-step.lines`, octet for octet: the datagrams at a slave of
+-- The first two exchanges of `tests/answers/recorded/one-step.lines`, octet for octet: the datagrams at a slave of
 -- `ptp4l`, each Sync and its Follow_Up made one one-step Sync. They meet the premises of the law on exchanges, once with
 -- the Sync first and once with it last.
 use Rattle.std.proofs.Common.{◌≡◌, ◌∙◌, ℕ, sym, pos, negsuc, refl, arith, inl, inr, List, [], ◌∷◌, false, Some}

@@ -10,7 +10,7 @@ ghost use Rattle.follow_command.specs.Run.{lines_status, crossing_form, leaves_s
 use capture_file::{CaptureCause, CaptureStop};
 use capture_report::report_capture;
 use command_options::FollowOptions;
-use fault_report::{FAULT, report};
+use fault_report::report;
 use ptp_units::ScaledTime;
 use std::alloc::Global;
 use std::io::{Read, Write};

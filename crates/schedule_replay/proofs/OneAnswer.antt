@@ -6,6 +6,7 @@ use Rattle.text_lines.specs.declared.fault.Stopped.{Stopped}
 use Rattle.text_lines.specs.declared.line_fault.LineFault.{LineFault}
 use Rattle.text_lines.proofs.OneAnswer.{IsSure, answers_one}
 use Rattle.datagram_text.specs.Show.{show_rules}
+use Rattle.datagram_text.specs.Show as lines
 use Rattle.datagram_text.proofs.OneCourse.{show_course}
 use Rattle.capture_measure.specs.declared.measuring.Form.{Form}
 use Rattle.capture_measure.specs.declared.watch.WantedPorts.{WantedPorts}
@@ -22,6 +23,11 @@ shows_one = says_one of_line show_rules tt (show_course (IsDevicesBy of_line) tt
 is_sure : {A : Type 0} (answer : Result A (Stopped (Cause LineFault))) → IsOfInput line_kind answer → IsSure (IsDevicesBy of_line) answer
 is_sure (Ok answer) sure = tt
 is_sure (Err stop) sure = sure_cause of_line stop.what sure
+
+pub lines_one : HasOneAnswer line_kind lines.Shows
+lines_one octets left before after left' before' after' answer answer' says says' sure sure' =
+    answers_one show_rules tt (IsDevicesBy of_line) (show_course (IsDevicesBy of_line) tt tt) octets left before after left' before' after' answer answer' says says'
+    (is_sure answer sure) (is_sure answer' sure')
 
 pub measures_one : (form : Form) (wanted : WantedPorts) → HasOneAnswer line_kind (Measures form wanted)
 measures_one form wanted octets left before after left' before' after' answer answer' (headed, head, says) (headed', head', says') sure sure' =

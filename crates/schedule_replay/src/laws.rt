@@ -2,6 +2,7 @@
 ghost use Rattle.capture_measure.specs.declared.measuring.Form.{Form};
 ghost use Rattle.capture_measure.specs.declared.watch.WantedPorts.{WantedPorts};
 ghost use Rattle.capture_measure.specs.Measure.{Measures};
+ghost use Rattle.datagram_text.specs.Show as lines;
 ghost use Rattle.schedule_replay.specs.Show.{Shows};
 ghost use Rattle.transcript_text.specs.CheckText.{Checks};
 ghost use Rattle.transcript_text.specs.Fault.{kind_at, line_kind};
@@ -20,6 +21,7 @@ pub use transcript_text::laws::{
 /// is the same fault at the same line then.
 pub fn octets_have_one_answer()
     ensures show { HasOneAnswer kind_at Shows }
+    ensures show_lines { HasOneAnswer line_kind lines.Shows }
     ensures replay { HasOneAnswer kind_at Replays }
     ensures check_text { HasOneAnswer kind_at Checks }
     ensures measure { (form : Form) (wanted : WantedPorts) → HasOneAnswer line_kind (Measures form wanted) }
