@@ -7,16 +7,16 @@ TOP = Path(__file__).resolve().parents[2]
 # The crate that runs each subcommand, and how many seconds the kit's evaluator took for the subcommand on four idle processors, without further
 # words and with some.
 COMMANDS = {
-    'show': ('show_command', 8, 22),
-    'replay': ('transcript_command', 19, 33),
-    'check': ('transcript_command', 20, 33),
-    'extract': ('extract_command', 12, 25),
-    'measure': ('measure_command', 18, 29),
-    'follow': ('follow_command', 21, 32),
-    'explain': ('explain_command', 30, 45),
+    'show': ('show_command', 8, 19),
+    'replay': ('transcript_command', 15, 27),
+    'check': ('transcript_command', 16, 27),
+    'extract': ('extract_command', 11, 21),
+    'measure': ('measure_command', 16, 24),
+    'follow': ('follow_command', 14, 22),
+    'explain': ('explain_command', 27, 36),
 }
 # The same for words that name none.
-NO_SUBCOMMAND = 21
+NO_SUBCOMMAND = 18
 # The subcommands that have no options: they are told instead whether a person reads their faults.
 PLAIN = ('show', 'replay', 'check')
 
