@@ -8,6 +8,8 @@ pub mod Messages
 pub mod FactLines
 pub mod Following
 pub mod Exchanges
+pub mod Placed
+pub mod Conditions
 pub mod Bounds
 pub mod Standing
 pub mod Made

@@ -189,7 +189,9 @@ impl Kept {
             number report.now }
     {
         let fact = self.at(number)?;
-        let found = self.found(&fact.event.node(), fact.line, report)?;
+        let Ok(found) = self.found(fact, report) else {
+            return None;
+        };
         let sync = self.journey_to(LineKind::DrawsSync, &found.sync_arrival)?;
         let request = self.journey_to(LineKind::Request, &found.request_arrival)?;
         Some(self.exchange_with(&found, &sync, &request))

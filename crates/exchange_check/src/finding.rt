@@ -1,7 +1,7 @@
 //! What is found wrong with a report: of each reason the first thing that breaks its condition, of 701 and of 704 by
 //! `place_finding` and `way_finding`.
 
-ghost use Rattle.std.specs.Prelude.{◌≡◌, true, nat_lt, reverse};
+ghost use Rattle.std.specs.Prelude.{◌≡◌, ◌&&◌, true, nat_lt, reverse, is_none};
 ghost use Rattle.std.specs.BTreeMap.{get};
 ghost use Rattle.std.specs.Ordering.{nat_cmp};
 ghost use Rattle.std.specs.Option.{option_or, option_map_or};
@@ -11,7 +11,8 @@ ghost use Rattle.trace_model.specs.Finding.{broken, early_finding};
 ghost use Rattle.exchange_check.specs.Evidence.{Evidences, last_finding};
 ghost use Rattle.exchange_check.specs.Inner.Finding.{follow_finding_by, pair_finding_by, told_finding_by};
 ghost use Rattle.exchange_check.specs.Inner.Finding.{master_finding_by, copy_in, arrival_reading, readings_finding_by};
-ghost use Rattle.exchange_check.specs.Inner.Finding.{size_finding_by, value_finding_by, octets_finding_by};
+ghost use Rattle.exchange_check.specs.Inner.Finding.{size_finding_by, octets_finding_by};
+ghost use Rattle.exchange_check.specs.Inner.Judged.{paired_by, of_master_by, fits_by, results_by};
 ghost use Rattle.exchange_check.specs.Inner.Finding.{follow_octets_by, all_octets_by, found_finding_by};
 ghost use Rattle.exchange_check.specs.Inner.Found.{of_report, of_found};
 ghost use Rattle.exchange_check.specs.Inner.Machine.{facts_of, sites_of, stamps_of};
@@ -27,7 +28,7 @@ use crate::kept::Kept;
 use crate::lookup::Lookup;
 use crate::octets::{master_at, slave_at};
 use network_model::{Name, Nodes, Report};
-use trace_model::{Finding, Part, Why};
+use trace_model::{Finding, Part, Results, Why};
 
 /// What is found where a condition doesn't hold.
 pub(crate) fn broken(holds: bool, finding: Finding) -> Option<Finding>
@@ -51,8 +52,14 @@ fn follow_finding(follow: &Option<Fact>, origin: &Fact) -> Finding
 }
 
 /// 702: a Follow_Up of another Sync, or another Delay_Req.
-fn pair_finding(found: &Found, sync: &FoundJourney, request: &FoundJourney) -> Option<Finding>
-    ensures { result ≡ pair_finding_by found.now sync.now request.now }
+#[tactic(auto, using(crate::proofs::Conditions::broken_holds, crate::proofs::Conditions::pair_holds))]
+pub(crate) fn pair_finding(
+    found: &Found,
+    sync: &FoundJourney,
+    request: &FoundJourney,
+) -> Option<Finding>
+    ensures finding { result ≡ pair_finding_by found.now sync.now request.now }
+    ensures holds { is_none result ≡ paired_by found.now sync.now request.now }
 {
     if !is_followed(&found.follow, &sync.origin) {
         return Some(follow_finding(&found.follow, &sync.origin));
@@ -63,6 +70,13 @@ fn pair_finding(found: &Found, sync: &FoundJourney, request: &FoundJourney) -> O
             request: request.origin.line,
         },
     )
+}
+
+/// Whether nothing is found, so that the condition holds.
+pub(crate) fn holds(found: &Option<Finding>) -> bool
+    ensures { result ≡ is_none found.now }
+{
+    !found.is_some()
 }
 
 /// A message that isn't later than the line of this number.
@@ -117,7 +131,8 @@ fn told_finding(set: &Option<(Name, u64)>, master: &Name, report: &Report) -> Op
 }
 
 /// 703: what is found of the master.
-fn master_finding(
+#[tactic(auto, using(crate::proofs::Conditions::master_holds))]
+pub(crate) fn master_finding(
     nodes: &Lookup<'_>,
     at: &Site,
     slave: &Name,
@@ -125,7 +140,8 @@ fn master_finding(
     found: &Found,
     sync: &FoundJourney,
 ) -> Option<Finding>
-    ensures { result ≡ master_finding_by nodes.now at.now slave.now report.now found.now sync.now }
+    ensures finding { result ≡ master_finding_by nodes.now at.now slave.now report.now found.now sync.now }
+    ensures holds { is_none result ≡ of_master_by nodes.now at.now slave.now report.now found.now sync.now }
 {
     let master = sync.origin.event.node();
     let answers = broken(
@@ -145,8 +161,10 @@ fn master_finding(
 }
 
 /// 707: a message that was too long in clocks.
-fn size_finding(sync: &FoundJourney, request: &FoundJourney) -> Option<Finding>
-    ensures { result ≡ size_finding_by sync.now request.now }
+#[tactic(auto, using(crate::proofs::Conditions::size_holds))]
+pub(crate) fn size_finding(sync: &FoundJourney, request: &FoundJourney) -> Option<Finding>
+    ensures finding { result ≡ size_finding_by sync.now request.now }
+    ensures holds { is_none result ≡ (fits_by sync.now && fits_by request.now) }
 {
     or(
         broken(fits(sync), Finding::TooLong { part: Part::Sync }),
@@ -159,19 +177,13 @@ fn size_finding(sync: &FoundJourney, request: &FoundJourney) -> Option<Finding>
     )
 }
 
-/// 706: other results.
-fn value_finding(
-    report: &Report,
-    found: &Found,
-    sync: &FoundJourney,
-    request: &FoundJourney,
-) -> Option<Finding>
-    ensures { result ≡ value_finding_by report.now found.now sync.now request.now }
+/// 706: other results than these.
+#[tactic(auto, using(crate::proofs::Conditions::broken_holds))]
+pub(crate) fn value_finding(report: &Report, results: &Results) -> Option<Finding>
+    ensures finding { result ≡ broken (results_by report.now results.now) findings.OtherResults }
+    ensures holds { is_none result ≡ results_by report.now results.now }
 {
-    broken(
-        are_results(report, &results_of(found, sync, request)),
-        Finding::OtherResults,
-    )
+    broken(are_results(report, results), Finding::OtherResults)
 }
 
 /// 708: other octets at a line.
@@ -287,7 +299,7 @@ fn journeys_finding(
         Why::OtherMaster => slave_finding(nodes, kept, fact, report, found, sync),
         Why::WrongReading => evidence.readings_finding(found),
         Why::TooBig => size_finding(sync, request),
-        Why::WrongValue => value_finding(report, found, sync, request),
+        Why::WrongValue => value_finding(report, &results_of(found, sync, request)),
         Why::Bytes => evidence.all_octets_finding(found),
         Why::NoSuchLine | Why::BrokenJourney => None,
     }
@@ -334,9 +346,9 @@ fn report_finding(
     let Some(fact) = kept.at(number) else {
         return None;
     };
-    match kept.found(&fact.event.node(), fact.line, report) {
-        Some(found) => found_finding(evidence, nodes, kept, fact, report, &found, why),
-        None => None,
+    match kept.found(fact, report) {
+        Ok(found) => found_finding(evidence, nodes, kept, fact, report, &found, why),
+        Err(_) => None,
     }
 }
 

@@ -4,22 +4,20 @@
 ghost use Rattle.std.specs.Prelude.{◌≡◌, ◌+◌, ◌-ℤ◌, ◌&&◌, pos, option_map, Some};
 ghost use Rattle.std.specs.Ordering.{int_eq};
 ghost use Rattle.ptp_units.specs.Exchange.{offset2, path2};
-ghost use Rattle.trace_model.specs.Sound.{is_of_line, is_domain, are_later};
+ghost use Rattle.trace_model.specs.Sound.{is_of_line, is_domain};
 ghost use Rattle.exchange_check.specs.Inner.Kept.{port_setup};
 ghost use Rattle.copy_stays.specs.Stays.{once_in};
-ghost use Rattle.exchange_check.specs.Inner.Judged.{line_of_by, sender_by, sync_by, follow_by, follows_by, arrival_by};
-ghost use Rattle.exchange_check.specs.Inner.Judged.{completion_by, is_of_kind, is_stamped_by, found_by};
-ghost use Rattle.exchange_check.specs.Inner.Judged.{found_journey_at, found_journey_to, is_followed_by, paired_by};
-ghost use Rattle.exchange_check.specs.Inner.Judged.{is_told, of_master_by, readings_by, fraction_by, fits_by};
+ghost use Rattle.exchange_check.specs.Inner.Judged.{is_of_kind, found_journey_at, found_journey_to, is_followed_by};
+ghost use Rattle.exchange_check.specs.Inner.Judged.{readings_by, fraction_by, fits_by};
 ghost use Rattle.exchange_check.specs.Inner.Judged.{bracket_by, results_of_by, results_by, octets_by, IsElapsed};
 ghost use Rattle.exchange_check.specs.Inner.Judged.{journeys_judgement_by, alone, found_judgement, judgement_by};
 ghost use Rattle.exchange_check.specs.Inner.Machine.{facts_of, sites_of, stamps_of};
-ghost use Rattle.exchange_check.specs.Inner.Found.{of_report};
 
 use crate::facts::{Fact, Found, FoundJourney, Site};
+use crate::finding::{holds, master_finding, pair_finding, size_finding, value_finding};
 use crate::kept::Kept;
 use crate::lookup::Lookup;
-use crate::octets::{Port, master_at, slave_at};
+use crate::octets::Port;
 use crate::residence::Residence;
 use network_model::{Event, Name, Report};
 use ptp_units::ScaledTime;
@@ -34,17 +32,6 @@ pub(crate) fn is_of_line(number: u64, report: &Report) -> bool
         None => false,
     };
     report.sync_tag == number || heard || report.response_tag == number
-}
-
-/// Whether the lines of a report are later than the line of this number.
-fn are_later(number: u64, report: &Report) -> bool
-    ensures { result ≡ are_later number report.now }
-{
-    let heard = match report.follow_tag {
-        Some(hearing) => number < hearing,
-        None => true,
-    };
-    number < report.sync_tag && heard && number < report.request_tag && number < report.response_tag
 }
 
 /// Whether two ports have one domainNumber.
@@ -68,40 +55,6 @@ pub(crate) fn is_followed(follow: &Option<Fact>, origin: &Fact) -> bool
         },
         None => origin.event.is_one_step_sync(),
     }
-}
-
-/// Whether the Follow_Up is the Sync's, and the Delay_Req the slave's own.
-fn are_paired(found: &Found, sync: &FoundJourney, request: &FoundJourney) -> bool
-    ensures { result ≡ paired_by found.now sync.now request.now }
-{
-    is_followed(&found.follow, &sync.origin) && request.origin.line == found.request.line
-}
-
-/// Whether a slave was told this master last, before all lines of the report.
-fn is_told(set: &Option<(Name, u64)>, master: &Name, report: &Report) -> bool
-    ensures { result ≡ is_told set.now master.now report.now }
-{
-    match set {
-        Some((told, number)) => *told == *master && are_later(*number, report),
-        None => false,
-    }
-}
-
-/// Whether the exchange is with the slave's present master.
-fn is_of_master(
-    nodes: &Lookup<'_>,
-    at: &Site,
-    slave: &Name,
-    report: &Report,
-    found: &Found,
-    sync: &FoundJourney,
-) -> bool
-    ensures { result ≡ of_master_by nodes.now at.now slave.now report.now found.now sync.now }
-{
-    let master = sync.origin.event.node();
-    is_told(&at.set_master, &master, report)
-        && found.request_arrival.event.node() == master
-        && is_domain(&slave_at(nodes, slave), &master_at(nodes, &master))
 }
 
 /// Whether all readings are right.
@@ -223,16 +176,17 @@ fn journeys_judgement(
     ensures { result ≡ journeys_judgement_by nodes.now at.now slave.now report.now found.now sync.now request.now }
 {
     let results = results_of(found, sync, request);
+    let pair = pair_finding(found, sync, request);
+    let master = master_finding(nodes, at, slave, report, found, sync);
+    let size = size_finding(sync, request);
+    let value = value_finding(report, &results);
     Judgement {
         reasons: Reasons::failing(&[
-            (Why::OtherNumber, are_paired(found, sync, request)),
-            (
-                Why::OtherMaster,
-                is_of_master(nodes, at, slave, report, found, sync),
-            ),
+            (Why::OtherNumber, holds(&pair)),
+            (Why::OtherMaster, holds(&master)),
             (Why::WrongReading, are_readings(found, sync, request)),
-            (Why::TooBig, fits(sync) && fits(request)),
-            (Why::WrongValue, are_results(report, &results)),
+            (Why::TooBig, holds(&size)),
+            (Why::WrongValue, holds(&value)),
             (Why::Bytes, are_octets(found, sync, request)),
         ]),
         by_readings: Some(results),
@@ -273,117 +227,6 @@ impl LineKind {
 }
 
 impl Kept {
-    /// The line of this number, where its event is of this kind and at a slave.
-    fn line(&self, kind: LineKind, slave: &Name, number: u64) -> Option<Fact>
-        ensures { result ≡ line_of_by (facts_of self.now) (is_of_kind kind) slave.now number }
-    {
-        match self.at(number) {
-            Some(fact) if kind.is_of(&fact.event) && fact.event.node() == *slave => Some(*fact),
-            _ => None,
-        }
-    }
-
-    /// The line that made the copy which is heard at a line, and stands before it.
-    pub(crate) fn sender(&self, fact: &Fact) -> Option<Fact>
-        ensures { result ≡ sender_by (facts_of self.now) fact.now }
-    {
-        let copy = fact.event.heard_copy()?;
-        if copy < fact.line {
-            self.at(copy).copied()
-        } else {
-            None
-        }
-    }
-
-    /// The Sync's arrival.
-    fn sync(&self, slave: &Name, report: &Report) -> Option<Fact>
-        ensures { result ≡ sync_by (facts_of self.now) slave.now report.now }
-    {
-        match self.line(LineKind::Arrival, slave, report.sync_tag) {
-            Some(fact) if report.follow_tag.is_some() || fact.completes => Some(fact),
-            _ => None,
-        }
-    }
-
-    /// The line that sent the Follow_Up which was heard at the line of this number.
-    fn follow(&self, slave: &Name, hearing: u64) -> Option<Fact>
-        ensures { result ≡ follow_by (facts_of self.now) slave.now hearing }
-    {
-        match self.sender(&self.line(LineKind::Hearing, slave, hearing)?) {
-            Some(fact) if fact.event.is_follow() => Some(fact),
-            _ => None,
-        }
-    }
-
-    /// The same where the report has a Follow_Up.
-    fn follows(&self, slave: &Name, hearing: Option<u64>) -> Option<Option<Fact>>
-        ensures { result ≡ follows_by (facts_of self.now) slave.now hearing }
-    {
-        match hearing {
-            Some(hearing) => Some(Some(self.follow(slave, hearing)?)),
-            None => Some(None),
-        }
-    }
-
-    /// The hearing of this number at a slave, where it completed a pair.
-    fn completion_at(&self, slave: &Name, hearing: u64) -> Option<Fact>
-        ensures { result ≡ completion_by (facts_of self.now) slave.now hearing }
-    {
-        match self.line(LineKind::Hearing, slave, hearing) {
-            Some(fact) if fact.completes => Some(fact),
-            _ => None,
-        }
-    }
-
-    /// The arrival at a master that sent the Delay_Resp which was heard at the line of this number.
-    fn arrival(&self, slave: &Name, hearing: u64) -> Option<Fact>
-        ensures { result ≡ arrival_by (facts_of self.now) slave.now hearing }
-    {
-        match self.sender(&self.completion_at(slave, hearing)?) {
-            Some(fact) if fact.event.is_arrival() && fact.made => Some(fact),
-            _ => None,
-        }
-    }
-
-    /// Whether the slave learned between these two lines when its request departed.
-    fn is_stamped(&self, request: u64, hearing: u64) -> bool
-        ensures { result ≡ is_stamped_by (stamps_of self.now) request hearing }
-    {
-        let stamped = match self.stamps.get(&request) {
-            Some(stamp) => *stamp < hearing,
-            None => false,
-        };
-        request < hearing && stamped
-    }
-
-    /// The lines of a report of the line of this number.
-    pub(crate) fn found(&self, slave: &Name, number: u64, report: &Report) -> Option<Found>
-        ensures { result ≡ found_by (facts_of self.now) (stamps_of self.now) slave.now number report.now }
-    {
-        if !(is_of_line(number, report)
-            && self.is_stamped(report.request_tag, report.response_tag))
-        {
-            return None;
-        }
-        Some(Found {
-            sync_arrival: self.sync(slave, report)?,
-            follow: self.follows(slave, report.follow_tag)?,
-            request: self.line(LineKind::Request, slave, report.request_tag)?,
-            request_arrival: self.arrival(slave, report.response_tag)?,
-        })
-    }
-
-    /// The lines of a report of the line of this number, where that counts.
-    pub(crate) fn found_at(&self, number: u64, report: &Report) -> Option<Found>
-        ensures { result ≡ of_report (facts_of self.now) (stamps_of self.now) (λ fact found. Some found) number
-            report.now }
-    {
-        match self.at(number) {
-            Some(fact) => self.found(&fact.event.node(), fact.line, report),
-            None => None,
-        }
-    }
-
     /// The journey of the copy that the line of this number made.
     pub(crate) fn found_journey_at(&self, copy: u64) -> Option<FoundJourney>
         ensures { result ≡ found_journey_at (facts_of self.now) copy }
@@ -415,14 +258,11 @@ impl Kept {
         nodes: &Lookup<'_>,
         slave: &Name,
         report: &Report,
-        found: Option<Found>,
+        found: &Found,
     ) -> Judgement
         ensures { result ≡ found_judgement nodes.now (facts_of self.now) (once_in self.now.stays)
-            (sites_of nodes.now self.now slave.now) slave.now report.now found }
+            (sites_of nodes.now self.now slave.now) slave.now report.now (Some found.now) }
     {
-        let Some(found) = found else {
-            return alone(Why::NoSuchLine);
-        };
         let Some(sync) = self.journey_to(LineKind::DrawsSync, &found.sync_arrival) else {
             return alone(Why::BrokenJourney);
         };
@@ -430,7 +270,7 @@ impl Kept {
             return alone(Why::BrokenJourney);
         };
         let at = self.site(nodes, slave);
-        journeys_judgement(nodes, &at, slave, report, &found, &sync, &request)
+        journeys_judgement(nodes, &at, slave, report, found, &sync, &request)
     }
 
     /// What a report at a line is judged to be.
@@ -446,8 +286,9 @@ impl Kept {
         let Some(fact) = fact else {
             return alone(Why::NoSuchLine);
         };
-        let slave = fact.event.node();
-        let found = self.found(&slave, fact.line, report);
-        self.found_judgement(nodes, &slave, report, found)
+        match self.found(fact, report) {
+            Ok(found) => self.found_judgement(nodes, &fact.event.node(), report, &found),
+            Err(_) => alone(Why::NoSuchLine),
+        }
     }
 }

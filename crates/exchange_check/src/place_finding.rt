@@ -1,38 +1,37 @@
-//! 701: what is found of the lines of a report.
+//! 701: the lines of a report, or the first thing that is found of them.
 
-ghost use Rattle.std.specs.Prelude.{◌≡◌, length, option_map, if◌then◌else◌, Ok, Err};
-ghost use Rattle.std.specs.Result.{result_err};
-ghost use Rattle.trace_model.specs.declared.finding.Finding.TheVariants as findings;
+ghost use Rattle.std.specs.Prelude.{◌≡◌, length, if◌then◌else◌, Ok, Err};
+ghost use Rattle.std.specs.Result.{result_ok};
+ghost use Rattle.network_model.specs.Run.{site_of};
 ghost use Rattle.exchange_check.specs.Inner.Machine.{facts_of, stamps_of};
-ghost use Rattle.exchange_check.specs.Inner.Judged.{is_of_kind};
+ghost use Rattle.exchange_check.specs.Inner.Judged.{is_of_kind, sender_by, found_by, is_stamped_by};
 ghost use Rattle.exchange_check.specs.Inner.PlaceFinding.{line_found_by, tag_found_by, sender_found_by, sync_found_by};
-ghost use Rattle.exchange_check.specs.Inner.PlaceFinding.{follow_sender_by, follow_found_by, follow_tag_by};
-ghost use Rattle.exchange_check.specs.Inner.PlaceFinding.{completion_found_by, response_sender_by, response_found_by};
-ghost use Rattle.exchange_check.specs.Inner.PlaceFinding.{stamp_before, stamp_finding_by, request_tags_by, tags_finding_by};
-ghost use Rattle.exchange_check.specs.Inner.PlaceFinding.{line_finding_by, place_finding_by};
+ghost use Rattle.exchange_check.specs.Inner.PlaceFinding.{follow_sender_by, follow_found_by, completion_found_by};
+ghost use Rattle.exchange_check.specs.Inner.PlaceFinding.{response_sender_by, response_found_by, stamp_before, tagged};
+ghost use Rattle.exchange_check.specs.Inner.PlaceFinding.{follow_tagged, tags_found_by, placed_by, place_finding_by};
+ghost use Rattle.exchange_check.specs.Inner.Found.{of_report};
 
-use crate::facts::Fact;
-use crate::finding::{broken, or};
+use crate::facts::{Fact, Found};
 use crate::judging::{LineKind, is_of_line};
 use crate::kept::Kept;
 use network_model::{Name, Report};
 use trace_model::{Finding, Lack, Part};
-
-/// What a tag lacks.
-fn wrong_tag(part: Part, found: &Result<Fact, Lack>) -> Option<Finding>
-    ensures { result ≡ option_map (findings.WrongTag part) (result_err found.now) }
-{
-    match found {
-        Ok(_) => None,
-        Err(lack) => Some(Finding::WrongTag { part, lack: *lack }),
-    }
-}
 
 /// A line that passes a test, or what it lacks.
 fn passing(fact: &Fact, passes: bool, lack: Lack) -> Result<Fact, Lack>
     ensures { result ≡ (if passes then Ok fact.now else Err lack) }
 {
     if passes { Ok(*fact) } else { Err(lack) }
+}
+
+/// A line that the tag of a message names, or that this tag is wrong.
+fn tagged(part: Part, found: Result<Fact, Lack>) -> Result<Fact, Finding>
+    ensures { result ≡ tagged part found }
+{
+    match found {
+        Ok(fact) => Ok(fact),
+        Err(lack) => Err(Finding::WrongTag { part, lack }),
+    }
 }
 
 impl Kept {
@@ -71,6 +70,17 @@ impl Kept {
         match fact.event.heard_copy() {
             Some(copy) => self.line_found(fact.line, copy),
             None => Err(Lack::OtherEvent(fact.line)),
+        }
+    }
+
+    /// The same, where it is there.
+    #[tactic(auto, using(crate::proofs::Placed::sender_ok))]
+    pub(crate) fn sender(&self, fact: &Fact) -> Option<Fact>
+        ensures { result ≡ sender_by (facts_of self.now) fact.now }
+    {
+        match self.sender_found(fact) {
+            Ok(sender) => Some(sender),
+            Err(_) => None,
         }
     }
 
@@ -113,13 +123,16 @@ impl Kept {
         }
     }
 
-    /// What the tag of the Follow_Up lacks; nothing where the report has none.
-    fn follow_tag_finding(&self, slave: &Name, hearing: Option<u64>) -> Option<Finding>
-        ensures { result ≡ follow_tag_by (facts_of self.now) (length self.now.facts.items) slave.now hearing }
+    /// The same, where the report has a Follow_Up.
+    fn follow_tagged(&self, slave: &Name, hearing: Option<u64>) -> Result<Option<Fact>, Finding>
+        ensures { result ≡ follow_tagged (facts_of self.now) (length self.now.facts.items) slave.now hearing }
     {
         match hearing {
-            Some(hearing) => wrong_tag(Part::FollowUp, &self.follow_found(slave, hearing)),
-            None => None,
+            Some(hearing) => {
+                let follow = tagged(Part::FollowUp, self.follow_found(slave, hearing))?;
+                Ok(Some(follow))
+            }
+            None => Ok(None),
         }
     }
 
@@ -157,6 +170,35 @@ impl Kept {
         }
     }
 
+    /// The lines that the four tags of a report name.
+    fn tags_found(&self, slave: &Name, report: &Report) -> Result<Found, Finding>
+        ensures { result ≡ tags_found_by (facts_of self.now) (length self.now.facts.items) slave.now report.now }
+    {
+        let sync_arrival = tagged(Part::Sync, self.sync_found(slave, report))?;
+        let follow = self.follow_tagged(slave, report.follow_tag)?;
+        let request = self.tag_found(LineKind::Request, slave, report.request_tag);
+        let request = tagged(Part::DelayReq, request)?;
+        let response = self.response_found(slave, report.response_tag);
+        let request_arrival = tagged(Part::DelayResp, response)?;
+        Ok(Found {
+            sync_arrival,
+            follow,
+            request,
+            request_arrival,
+        })
+    }
+
+    /// Whether the slave learned between these two lines when its request departed.
+    fn is_stamped(&self, request: u64, hearing: u64) -> bool
+        ensures { result ≡ is_stamped_by (stamps_of self.now) request hearing }
+    {
+        let stamped = match self.stamps.get(&request) {
+            Some(stamp) => *stamp < hearing,
+            None => false,
+        };
+        request < hearing && stamped
+    }
+
     /// The first line before this one by which the slave learned when the request of this number departed.
     fn stamp_before(&self, request: u64, number: u64) -> Option<u64>
         ensures { result ≡ stamp_before (stamps_of self.now) request number }
@@ -167,54 +209,44 @@ impl Kept {
         }
     }
 
-    /// What is found of when the request of a report departed.
-    fn stamp_finding(&self, number: u64, report: &Report) -> Option<Finding>
-        ensures { result ≡ stamp_finding_by (stamps_of self.now) number report.now }
+    /// The lines of a report of this line, which counts, or the first thing that is found of them.
+    fn placed(&self, fact: &Fact, report: &Report) -> Result<Found, Finding>
+        ensures { result ≡ placed_by (facts_of self.now) (stamps_of self.now) (length self.now.facts.items) report.now
+            fact.now }
     {
-        let first = self.stamp_before(report.request_tag, number);
-        let stamped = match first {
-            Some(stamp) => stamp < report.response_tag,
-            None => false,
-        };
-        broken(
-            report.request_tag < report.response_tag && stamped,
-            Finding::Unstamped { first },
-        )
+        if !is_of_line(fact.line, report) {
+            return Err(Finding::OfOtherLine);
+        }
+        let found = self.tags_found(&fact.event.node(), report)?;
+        if self.is_stamped(report.request_tag, report.response_tag) {
+            return Ok(found);
+        }
+        let first = self.stamp_before(report.request_tag, fact.line);
+        Err(Finding::Unstamped { first })
     }
 
-    /// What the tags of the Delay_Req and the Delay_Resp lack.
-    fn request_tags_finding(&self, slave: &Name, report: &Report) -> Option<Finding>
-        ensures { result ≡ request_tags_by (facts_of self.now) (length self.now.facts.items) slave.now report.now }
-    {
-        let request = self.tag_found(LineKind::Request, slave, report.request_tag);
-        let response = self.response_found(slave, report.response_tag);
-        or(
-            wrong_tag(Part::DelayReq, &request),
-            wrong_tag(Part::DelayResp, &response),
-        )
-    }
-
-    /// What the tags of a report lack, the first of them first.
-    fn tags_finding(&self, slave: &Name, report: &Report) -> Option<Finding>
-        ensures { result ≡ tags_finding_by (facts_of self.now) (length self.now.facts.items) slave.now report.now }
-    {
-        let sync = wrong_tag(Part::Sync, &self.sync_found(slave, report));
-        let follow = self.follow_tag_finding(slave, report.follow_tag);
-        or(sync, or(follow, self.request_tags_finding(slave, report)))
-    }
-
-    /// What is found of the lines of a report of this line, which counts.
-    fn line_finding(&self, fact: &Fact, report: &Report) -> Option<Finding>
-        ensures { result ≡ line_finding_by (facts_of self.now) (stamps_of self.now) (length self.now.facts.items)
+    /// The same, as the lines are judged.
+    pub(crate) fn found(&self, fact: &Fact, report: &Report) -> Result<Found, Finding>
+        ensures placed { result ≡ placed_by (facts_of self.now) (stamps_of self.now) (length self.now.facts.items)
             report.now fact.now }
+        ensures lines { result_ok result ≡ found_by (facts_of self.now) (stamps_of self.now) (site_of fact.now.event)
+            fact.now.line report.now }
     {
-        or(
-            broken(is_of_line(fact.line, report), Finding::OfOtherLine),
-            or(
-                self.tags_finding(&fact.event.node(), report),
-                self.stamp_finding(fact.line, report),
-            ),
-        )
+        self.placed(fact, report)
+    }
+
+    /// The lines of a report of the line of this number, where that counts.
+    pub(crate) fn found_at(&self, number: u64, report: &Report) -> Option<Found>
+        ensures { result ≡ of_report (facts_of self.now) (stamps_of self.now) (λ fact found. Some found) number
+            report.now }
+    {
+        match self.at(number) {
+            Some(fact) => match self.found(fact, report) {
+                Ok(found) => Some(found),
+                Err(_) => None,
+            },
+            None => None,
+        }
     }
 
     /// What is found of the lines of a report of the last line; none where there is no line.
@@ -226,7 +258,10 @@ impl Kept {
             return None;
         }
         match self.at(self.last_number()) {
-            Some(fact) => self.line_finding(fact, report),
+            Some(fact) => match self.placed(fact, report) {
+                Ok(_) => None,
+                Err(finding) => Some(finding),
+            },
             None => Some(Finding::CantReport),
         }
     }

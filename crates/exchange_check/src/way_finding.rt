@@ -162,9 +162,9 @@ impl Exceptions {
         let Some(fact) = kept.at(number) else {
             return None;
         };
-        match kept.found(&fact.event.node(), fact.line, report) {
-            Some(found) => self.ways_finding(kept, &found),
-            None => None,
+        match kept.found(fact, report) {
+            Ok(found) => self.ways_finding(kept, &found),
+            Err(_) => None,
         }
     }
 }

@@ -1,8 +1,7 @@
--- 701: what is found of the lines of a report, by what is kept. Where trace_model's `Finding` has an `x`, `x_by` is that by
--- what is kept, as proofs/PlaceFound shows.
-use Rattle.std.specs.Prelude.{ℕ, ◌-◌, Bool, false, ◌&&◌, ◌||◌, nat_lt, ◌==◌, is_some, if◌then◌else◌}
-use Rattle.std.specs.Prelude.{Option, Some, None, option_map, Result, Err, ok_or}
-use Rattle.std.specs.Option.{option_or, option_map_or}
+-- 701: the lines of a report, by what is kept, or the first thing that is found of them. Where trace_model's `Finding` has an
+-- `x`, `x_by` is that by what is kept, as proofs/PlaceFound shows; the lines are those of `found_by`, as proofs/Placed shows.
+use Rattle.std.specs.Prelude.{ℕ, ◌-◌, Bool, ◌&&◌, ◌||◌, nat_lt, ◌==◌, is_some, if◌then◌else◌}
+use Rattle.std.specs.Prelude.{Option, Some, None, Result, Ok, Err, ok_or}
 use Rattle.std.specs.Result.{result_err}
 use Rattle.slave_port.specs.declared.heard.Report.{Report}
 use Rattle.network_model.specs.declared.event.Event.{Event}
@@ -13,10 +12,13 @@ use Rattle.trace_model.specs.declared.finding.Finding.{Finding}
 use Rattle.trace_model.specs.declared.finding.Finding.TheVariants as findings
 use Rattle.trace_model.specs.declared.finding.Lack.{Lack}
 use Rattle.trace_model.specs.declared.finding.Lack.TheVariants.{NotBefore, CameToNothing, OtherEvent, CompletedNothing}
+use Rattle.trace_model.specs.declared.finding.Part.{Part}
 use Rattle.trace_model.specs.declared.finding.Part.TheVariants as parts
 use Rattle.trace_model.specs.Sound.{where_passes, is_of_line}
-use Rattle.trace_model.specs.Finding.{broken, passing, going_on}
+use Rattle.trace_model.specs.Finding.{passing, going_on}
 use Rattle.exchange_check.specs.declared.facts.Fact.{Fact}
+use Rattle.exchange_check.specs.declared.facts.Found.{Found}
+use Rattle.exchange_check.specs.Inner.Judged.{is_stamped_by}
 use Rattle.exchange_check.specs.Inner.Kept.{Facts, Stamps}
 
 abbrev pub line_found_by : Facts → (limit number : ℕ) → Result Fact Lack
@@ -53,11 +55,6 @@ follow_found_by facts count slave hearing = passing
     (λ fact. OtherEvent fact.line)
     (follow_sender_by facts count slave hearing)
 
-abbrev pub follow_tag_by : Facts → (count : ℕ) → NodeName → Option ℕ → Option Finding
-follow_tag_by facts count slave None = None
-follow_tag_by facts count slave (Some hearing) =
-    option_map (findings.WrongTag parts.FollowUp) (result_err (follow_found_by facts count slave hearing))
-
 abbrev pub completion_found_by : Facts → (count : ℕ) → NodeName → ℕ → Result Fact Lack
 completion_found_by facts count slave hearing = passing
     (λ fact. fact.completes)
@@ -78,33 +75,47 @@ response_found_by facts count slave hearing = passing
 abbrev pub stamp_before : Stamps → (request number : ℕ) → Option ℕ
 stamp_before stamps request number = where_passes (λ stamp. nat_lt stamp number) (stamps request)
 
-abbrev pub stamp_finding_by : Stamps → (number : ℕ) → Report → Option Finding
-stamp_finding_by stamps number report = broken
-    (nat_lt report.request_tag report.response_tag
-    && option_map_or (λ stamp. nat_lt stamp report.response_tag) (stamp_before stamps report.request_tag number) false)
-    (findings.Unstamped (stamp_before stamps report.request_tag number))
+-- a value that a tag names, or that the tag is wrong
+abbrev pub tagged : {X : Type 0} → Part → Result X Lack → Result X Finding
+tagged part (Ok x) = Ok x
+tagged part (Err lack) = Err (findings.WrongTag part lack)
 
--- of the last two tags, and of all four
-abbrev pub request_tags_by : Facts → (count : ℕ) → NodeName → Report → Option Finding
-request_tags_by facts count slave report = option_or
-    (option_map (findings.WrongTag parts.DelayReq) (result_err (tag_found_by facts count is_request slave report.request_tag)))
-    (option_map (findings.WrongTag parts.DelayResp) (result_err (response_found_by facts count slave report.response_tag)))
+-- the same of the Follow_Up, where there is one
+abbrev pub follow_tagged : Facts → (count : ℕ) → NodeName → Option ℕ → Result (Option Fact) Finding
+follow_tagged facts count slave None = Ok None
+follow_tagged facts count slave (Some hearing) =
+    going_on (λ follow. Ok (Some follow)) (tagged parts.FollowUp (follow_found_by facts count slave hearing))
 
-abbrev pub tags_finding_by : Facts → (count : ℕ) → NodeName → Report → Option Finding
-tags_finding_by facts count slave report = option_or
-    (option_map (findings.WrongTag parts.Sync) (result_err (sync_found_by facts count slave report)))
-    (option_or (follow_tag_by facts count slave report.follow_tag) (request_tags_by facts count slave report))
+-- the lines that the four tags name
+abbrev pub tags_found_by : Facts → (count : ℕ) → NodeName → Report → Result Found Finding
+tags_found_by facts count slave report =
+    going_on (λ sync.
+    going_on (λ follow.
+    going_on (λ request.
+    going_on (λ arrival.
+    Ok (record { sync_arrival = sync; follow = follow; request = request; request_arrival = arrival }))
+    (tagged parts.DelayResp (response_found_by facts count slave report.response_tag)))
+    (tagged parts.DelayReq (tag_found_by facts count is_request slave report.request_tag)))
+    (follow_tagged facts count slave report.follow_tag))
+    (tagged parts.Sync (sync_found_by facts count slave report))
 
--- at a line that counts
-abbrev pub line_finding_by : Facts → Stamps → (count : ℕ) → Report → Fact → Option Finding
-line_finding_by facts stamps count report fact = option_or
-    (broken (is_of_line fact.line report) findings.OfOtherLine)
-    (option_or (tags_finding_by facts count (site_of fact.event) report) (stamp_finding_by stamps fact.line report))
+-- lines, where the slave learned between two of them when its request departed
+abbrev pub stamped_by : Stamps → (number : ℕ) → Report → Found → Result Found Finding
+stamped_by stamps number report found =
+    if is_stamped_by stamps report.request_tag report.response_tag then Ok found
+    else Err (findings.Unstamped (stamp_before stamps report.request_tag number))
 
--- at any line
+-- of a report of a line that counts
+abbrev pub placed_by : Facts → Stamps → (count : ℕ) → Report → Fact → Result Found Finding
+placed_by facts stamps count report fact =
+    if is_of_line fact.line report
+    then going_on (stamped_by stamps fact.line report) (tags_found_by facts count (site_of fact.event) report)
+    else Err findings.OfOtherLine
+
+-- what is found of them at any line
 abbrev pub place_finding_at : Facts → Stamps → (count : ℕ) → Report → Option Fact → Option Finding
 place_finding_at facts stamps count report None = Some findings.CantReport
-place_finding_at facts stamps count report (Some fact) = line_finding_by facts stamps count report fact
+place_finding_at facts stamps count report (Some fact) = result_err (placed_by facts stamps count report fact)
 
 -- at the last of so many lines
 abbrev pub place_finding_by : Facts → Stamps → (count : ℕ) → Report → Option Finding
