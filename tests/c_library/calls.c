@@ -60,10 +60,6 @@ static void places(void)
     CHECK(LIES(ptpx_slave_memory, octets, 0, PTPX_SLAVE_SIZE));
     CHECK(LIES(ptpx_wide_slave, memory, 0, 8));
     CHECK(LIES(ptpx_wide_slave_memory, octets, 0, PTPX_WIDE_SLAVE_SIZE));
-}
-
-static void places_in_messages(void)
-{
     CHECK(LIES(ptpx_message, kind, 0, 1) && LIES(ptpx_message, domain, 1, 2) && LIES(ptpx_message, major_sdo, 2, 3));
     CHECK(LIES(ptpx_message, minor_sdo, 3, 4) && LIES(ptpx_message, minor_version, 4, 5));
     CHECK(LIES(ptpx_message, flags, 5, 7) && LIES(ptpx_message, correction, 8, 16));
@@ -71,18 +67,10 @@ static void places_in_messages(void)
     CHECK(LIES(ptpx_message, sequence, 30, 32) && LIES(ptpx_message, log, 32, 33));
     CHECK(LIES(ptpx_message, control, 33, 34) && LIES(ptpx_message, timestamp, 40, 56));
     CHECK(LIES(ptpx_message, requesting, 56, 66) && LIES(ptpx_message, suffix_length, 66, 68));
-}
-
-static void places_in_answers(void)
-{
     CHECK(LIES(ptpx_heard, kind, 0, 2) && LIES(ptpx_heard, reason, 2, 4) && LIES(ptpx_heard, one_step, 4, 5));
     CHECK(LIES(ptpx_heard, offset2, 8, 24) && LIES(ptpx_heard, path2, 24, 40) && LIES(ptpx_heard, sync_tag, 40, 48));
     CHECK(LIES(ptpx_heard, follow_tag, 48, 56) && LIES(ptpx_heard, request_tag, 56, 64));
     CHECK(LIES(ptpx_heard, response_tag, 64, 72));
-}
-
-static void places_in_exchanges(void)
-{
     CHECK(LIES(ptpx_exchange, t1, 0, 16) && LIES(ptpx_exchange, t2, 16, 32) && LIES(ptpx_exchange, t3, 32, 48));
     CHECK(LIES(ptpx_exchange, t4, 48, 64) && LIES(ptpx_exchange, age, 64, 80));
     CHECK(LIES(ptpx_exchange, sync_correction, 80, 88) && LIES(ptpx_exchange, follow_correction, 88, 96));
@@ -600,31 +588,13 @@ static void follow_ups_of_lives(void)
 
 int main(void)
 {
-    sizes();
-    places();
-    places_in_messages();
-    places_in_answers();
-    places_in_exchanges();
-    versions();
-    texts();
-    numbers();
-    results();
-    moments();
-    timespecs();
-    timespecs_of_results();
-    times();
-    brackets();
-    codec();
-    refused_octets();
-    refused_fields();
-    clocks();
-    masters();
-    unmade_masters();
-    answers_of_masters();
-    refused_watches();
-    watches();
-    lives();
-    follow_ups_of_lives();
+    static void (*const tests[])(void) = {
+        sizes, places, versions, texts, numbers, results, moments, timespecs, timespecs_of_results, times, brackets,
+        codec, refused_octets, refused_fields, clocks, masters, unmade_masters, answers_of_masters, refused_watches,
+        watches, lives, follow_ups_of_lives,
+    };
+    for (size_t i = 0; i < sizeof tests / sizeof tests[0]; i++)
+        tests[i]();
     printf("calls: %lu checks\n", checks_made);
     return 0;
 }
