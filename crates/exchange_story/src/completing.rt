@@ -6,7 +6,7 @@ ghost use Rattle.exchange_story.specs.Counts.{completions_text, unreported_text}
 
 use exchange_check::KeptLine;
 use network_model::Event;
-use report_journeys::{Known, index_of};
+use finding_text::{Known, index_of};
 use std::alloc::{AllocError, Global};
 use std::collections::BTreeMap;
 

@@ -2,7 +2,7 @@
 
 use exchange_check::Results;
 use network_model::Report;
-use report_journeys::Reported;
+use finding_text::Reported;
 use std::alloc::{AllocError, Global};
 use std::collections::BTreeMap;
 

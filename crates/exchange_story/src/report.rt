@@ -8,7 +8,7 @@ ghost use Rattle.exchange_story.specs.Counts.{is_sound};
 
 use exchange_check::{Results, Why};
 use network_model::Report;
-use report_journeys::Reported;
+use finding_text::Reported;
 use std::alloc::AllocError;
 
 /// Whether no reason stands against a report.

@@ -14,7 +14,7 @@ use crate::tally::Tally;
 use exchange_check::{Checker, Evidence, KeptLine, TraceLine, TraceOut};
 use message_difference::{Compared, Differing};
 use network_model::NodeSpec;
-use report_journeys::{Case, Known, Reported, index_of};
+use finding_text::{Case, Known, Reported, index_of};
 use std::alloc::{AllocError, Global};
 use std::marker::Model;
 

@@ -1,0 +1,16 @@
+//! What is found wrong with a report that is refused, in sentences: of each reason the first thing that breaks its condition.
+#![tactic(auto)]
+
+mod cause;
+mod exchange;
+mod found;
+mod heard;
+mod known;
+mod reported;
+mod telling;
+
+pub use cause::Cause;
+pub use found::Found;
+pub use known::{Known, Named, Place, index_of};
+pub use reported::{Case, Reported};
+pub use telling::push_otherwise;
