@@ -64,8 +64,8 @@ impl Refused<'_> {
             return Ok(());
         };
         let mut lines = String::new(self.case.alloc);
-        let nodes = self.case.known.checker.nodes().len() as u64;
-        push_exchange(&mut lines, nodes, exchange)?;
+        let report = &self.case.reported.report;
+        push_exchange(&mut lines, self.case.known.checker, report, exchange)?;
         push_lines(text, "  t", lines.as_str())
     }
 

@@ -1,110 +1,47 @@
-//! Readings and octets that are wrong: what is found first, and others at the events that the exchange names.
+//! What is told behind a finding: other readings and octets that are wrong, at the events that the exchange names.
 
-use crate::cause::Cause;
 use crate::found::Found;
-use exchange_check::{Finding, Leg, STAYS_MOST, Stay};
+use exchange_check::{Exchange, Finding, Leg, STAYS_MOST, Stay};
 use message_difference::Compared;
 use std::alloc::AllocError;
 
-/// The most things that are told behind what is found first.
-const TOLD_MOST: usize = 15;
-
-/// What is found first, and how many others were met behind it.
-#[derive(Clone, Copy)]
-struct Others<'a> {
-    found: Found<'a>,
-    count: usize,
-}
-
 impl Found<'_> {
-    /// Appends the reading that is found, and others of the exchange.
-    pub(crate) fn push_readings(&self, text: &mut String) -> Result<(), AllocError> {
-        write!(text, "    {self}\n")?;
-        let Some(exchange) = self.case.exchange else {
-            return Ok(());
-        };
-        let mut others = Others {
-            found: *self,
-            count: 0,
-        };
-        for (name, leg) in [("Sync", &exchange.sync), ("Delay_Req", &exchange.request)] {
-            others.push_reading(text, leg.arrived.number)?;
-            others.push_reading(text, leg.departed.number)?;
-            for stay in leg.stays.iter().rev().flatten() {
-                others.push_stay(text, stay)?;
+    /// Appends what is found, and of readings and octets what else is wrong in the exchange, in lines that begin with four blanks.
+    pub fn push(&self, text: &mut String) -> Result<(), AllocError> {
+        match (self.finding, self.case.exchange) {
+            (Finding::OtherResults, _) => Ok(()),
+            (Finding::WrongReading { .. } | Finding::Falls { .. }, Some(exchange)) => {
+                write!(text, "    {self}\n")?;
+                self.push_readings(text, &exchange.sync, "Sync")?;
+                self.push_readings(text, &exchange.request, "Delay_Req")
             }
-            push_cut(text, name, leg)?;
-        }
-        others.push_rest(text)
-    }
-
-    /// Appends how the message of this event differs, which is found, and others of the exchange.
-    pub(crate) fn push_octets(&self, text: &mut String, event: u64) -> Result<(), AllocError> {
-        self.push_message(text, event)?;
-        let Some(exchange) = self.case.exchange else {
-            return Ok(());
-        };
-        let mut others = Others {
-            found: *self,
-            count: 0,
-        };
-        others.push_leg(text, "Sync", &exchange.sync)?;
-        if let Some(follow) = exchange.follow {
-            others.push_message(text, follow)?;
-        }
-        others.push_leg(text, "Delay_Req", &exchange.request)?;
-        others.push_message(text, exchange.request.arrived.number)?;
-        others.push_rest(text)
-    }
-
-    /// Appends how the message of an event differs from the one that its port or its clock writes.
-    fn push_message(&self, text: &mut String, number: u64) -> Result<(), AllocError> {
-        let known = self.case.known;
-        let Some(octets) = known.evidence.octets_at(known.checker, number) else {
-            return Ok(());
-        };
-        let compared = match known.checker.message_at(number) {
-            Some(wanted) => Compared::of(&wanted, octets.as_slice()),
-            None => None,
-        };
-        match compared {
-            Some(compared) => compared.push(text, &known.named(number)),
-            // A Follow_Up of no Sync: no port writes it.
-            None => write!(
-                text,
-                "    {}: no two-step Sync was sent before it, so no octets are right\n",
-                known.named(number)
-            ),
+            (Finding::OtherOctets { event }, Some(exchange)) => {
+                self.push_message(text, event)?;
+                self.push_others(text, event, exchange)
+            }
+            _ => write!(text, "    {self}\n"),
         }
     }
-}
 
-impl Others<'_> {
-    /// Whether one more thing is told, which isn't what is found first.
-    fn is_told(&mut self, finding: Finding) -> bool {
-        if finding == self.found.finding {
-            return false;
+    /// Appends what else is wrong with readings of a journey.
+    fn push_readings(&self, text: &mut String, leg: &Leg, name: &str) -> Result<(), AllocError> {
+        self.push_reading(text, leg.arrived.number)?;
+        self.push_reading(text, leg.departed.number)?;
+        for Stay { entered, left } in leg.stays.iter().rev().flatten() {
+            self.push_reading(text, entered.number)?;
+            self.push_reading(text, left.number)?;
+            if left.reading < entered.reading {
+                let (entered, left) = (entered.number, left.number);
+                self.push_other(text, Finding::Falls { entered, left })?;
+            }
         }
-        self.count = self.count.saturating_add(1);
-        self.count <= TOLD_MOST
+        push_cut(text, leg, name)
     }
 
-    /// Appends what is wrong with a reading.
-    fn push(&mut self, text: &mut String, finding: Finding) -> Result<(), AllocError> {
-        if !self.is_told(finding) {
-            return Ok(());
-        }
-        let cause = Cause {
-            case: self.found.case,
-            finding,
-        };
-        write!(text, "    {cause}\n")
-    }
-
-    /// Appends what is wrong with the reading of an event, if it is.
-    fn push_reading(&mut self, text: &mut String, event: u64) -> Result<(), AllocError> {
-        match self.found.case.known.evidence.wrong_reading_at(event) {
-            Some(wrong) => self.push(
+    /// Appends what is wrong with the reading of an event, where something is.
+    fn push_reading(&self, text: &mut String, event: u64) -> Result<(), AllocError> {
+        match self.case.known.evidence.wrong_reading_at(event) {
+            Some(wrong) => self.push_other(
                 text,
                 Finding::WrongReading {
                     event,
@@ -115,52 +52,80 @@ impl Others<'_> {
         }
     }
 
-    /// Appends what is wrong with the readings of a stay.
-    fn push_stay(&mut self, text: &mut String, stay: &Stay) -> Result<(), AllocError> {
-        let (entered, left) = (stay.entered.number, stay.left.number);
-        self.push_reading(text, entered)?;
-        self.push_reading(text, left)?;
-        if stay.left.reading >= stay.entered.reading {
+    /// Appends something else than is found.
+    fn push_other(&self, text: &mut String, finding: Finding) -> Result<(), AllocError> {
+        if finding == self.finding {
             return Ok(());
         }
-        self.push(text, Finding::Falls { entered, left })
+        let other = Found {
+            case: self.case,
+            finding,
+        };
+        write!(text, "    {other}\n")
     }
 
-    /// Appends how messages of a journey differ.
-    fn push_leg(
-        &mut self,
+    /// Appends how messages of the exchange differ, but for that of an event.
+    fn push_others(
+        &self,
         text: &mut String,
-        name: &'static str,
-        leg: &Leg,
+        but: u64,
+        exchange: &Exchange,
     ) -> Result<(), AllocError> {
-        self.push_message(text, leg.departed.number)?;
-        for stay in leg.stays.iter().rev().flatten() {
-            self.push_message(text, stay.left.number)?;
+        self.push_messages(text, but, &exchange.sync, "Sync")?;
+        if let Some(follow) = exchange.follow {
+            self.push_differing(text, but, follow)?;
         }
-        push_cut(text, name, leg)
+        self.push_messages(text, but, &exchange.request, "Delay_Req")?;
+        self.push_differing(text, but, exchange.request.arrived.number)
     }
 
-    /// Appends how the message of an event differs, if it does.
-    fn push_message(&mut self, text: &mut String, event: u64) -> Result<(), AllocError> {
-        match self.found.case.known.checker.line_at(event) {
-            Some(line) if !line.writes_right && self.is_told(Finding::OtherOctets { event }) => {
-                self.found.push_message(text, event)
-            }
+    /// The same of a journey.
+    fn push_messages(
+        &self,
+        text: &mut String,
+        but: u64,
+        leg: &Leg,
+        name: &str,
+    ) -> Result<(), AllocError> {
+        self.push_differing(text, but, leg.departed.number)?;
+        for stay in leg.stays.iter().rev().flatten() {
+            self.push_differing(text, but, stay.left.number)?;
+        }
+        push_cut(text, leg, name)
+    }
+
+    /// The same of an event.
+    fn push_differing(&self, text: &mut String, but: u64, number: u64) -> Result<(), AllocError> {
+        match self.case.known.checker.line_at(number) {
+            Some(line) if number != but && !line.writes_right => self.push_message(text, number),
             _ => Ok(()),
         }
     }
 
-    /// Appends how many more there are than were told.
-    fn push_rest(&self, text: &mut String) -> Result<(), AllocError> {
-        match self.count.checked_sub(TOLD_MOST) {
-            None | Some(0) => Ok(()),
-            Some(more) => write!(text, "    and {more} more\n"),
+    /// Appends how the message of an event differs from the one that its port or its clock writes.
+    fn push_message(&self, text: &mut String, number: u64) -> Result<(), AllocError> {
+        let known = self.case.known;
+        let named = known.named(number);
+        let Some(octets) = known.evidence.octets_at(known.checker, number) else {
+            return Ok(());
+        };
+        let compared = match known.checker.message_at(number) {
+            Some(wanted) => Compared::of(&wanted, octets.as_slice()),
+            None => None,
+        };
+        match compared {
+            Some(compared) => compared.push(text, &named),
+            // A Follow_Up of no Sync: no port writes it.
+            None => write!(
+                text,
+                "    {named}: no two-step Sync was sent before it, so no octets are right\n"
+            ),
         }
     }
 }
 
-/// Appends that not all stays of a message were looked at for more than is found first, where that is so.
-fn push_cut(text: &mut String, name: &'static str, leg: &Leg) -> Result<(), AllocError> {
+/// Appends that not all stays of a message were looked at for more than is found, where that is so.
+fn push_cut(text: &mut String, leg: &Leg, name: &str) -> Result<(), AllocError> {
     match leg.earlier {
         Some(_) => write!(
             text,

@@ -1,16 +1,21 @@
-//! What is found wrong with a report, in sentences.
+//! What is found wrong with a report, in a sentence.
 
-use crate::cause::{Cause, Drawing, Masters, Told, number_of};
-use crate::heard::{Heard, WhichIs, is_wanted, tag_of, words_of};
+use crate::heard::{Heard, Sent, WhichIs, Words, is_tagged, tag_of, words_of};
+use crate::known::{Known, Named, Port};
 use crate::reported::Case;
-use exchange_check::{Finding, Lack, Leg, Part, Why};
-use std::alloc::AllocError;
+use exchange_check::{Exchange, Finding, Lack, Part, Why, WrongReading};
+use network_model::Name;
+use ptp_units::ScaledTime;
 use std::fmt;
 use std::fmt::{Display, Formatter};
-use story_words::{Length, signed};
+use story_words::{Length, Moment, signed};
 
 /// A correctionField from here on says that it is too big, in units of 2^-16 ns.
 const TOO_BIG: i128 = i64::MAX as i128;
+
+/// What stands behind a message that is taken for another one, in a line of its own.
+const OF_NO_EXCHANGE: &str =
+    "\n    so what its messages tell together is the result of no exchange";
 
 /// The first thing that breaks the condition of a reason against a report, and the transcript up to the report.
 #[derive(Clone, Copy)]
@@ -22,102 +27,125 @@ pub struct Found<'a> {
 impl<'a> Found<'a> {
     /// What is found by this reason; none where it doesn't stand against the report.
     pub fn of(case: &'a Case<'a>, why: Why) -> Option<Found<'a>> {
-        let known = case.known;
-        let finding = known
-            .evidence
-            .finding(known.checker, &case.reported.report, why)?;
+        let Known { checker, evidence } = case.known;
+        let finding = evidence.finding(checker, &case.reported.report, why)?;
         Some(Found { case, finding })
     }
 
-    /// What is wrong, in words that are the same in each report that meets it.
-    pub fn cause(&self) -> Cause<'a> {
-        Cause {
-            case: self.case,
-            finding: self.finding,
-        }
+    /// The event that is wrong, which the sentence of each report names alike that meets it; of what is wrong with the report
+    /// itself, this.
+    pub fn cause(&self) -> Named {
+        self.case.known.named(match self.finding {
+            Finding::CantReport
+            | Finding::OfOtherLine
+            | Finding::Unstamped { .. }
+            | Finding::NoMaster
+            | Finding::OtherDomain
+            | Finding::TooLong { .. }
+            | Finding::OtherResults => self.case.reported.event,
+            Finding::WrongTag { lack, .. } => number_of(lack),
+            Finding::Stops {
+                lack: Lack::CameToNothing(number),
+                ..
+            } => number,
+            Finding::Stops { by, .. } => by,
+            Finding::LeftTwice { second, .. } => second,
+            Finding::OtherSync { follow_up, .. } => follow_up,
+            Finding::NoFollowUp { sync } => sync,
+            Finding::OtherRequest { request } => request,
+            Finding::ToldOther { set } | Finding::Early { set, .. } => set,
+            Finding::OtherAnswers { arrival } => arrival,
+            Finding::WrongReading { event, .. } | Finding::OtherOctets { event } => event,
+            Finding::Falls { left, .. } => left,
+        })
     }
+}
 
-    /// Appends what is found, a line each. Of readings and octets that is what is wrong first, and what else is wrong at the events
-    /// that the exchange names.
-    pub fn push(&self, text: &mut String) -> Result<(), AllocError> {
-        match self.finding {
-            Finding::OtherResults => Ok(()),
-            Finding::WrongReading { .. } | Finding::Falls { .. } => self.push_readings(text),
-            Finding::OtherOctets { event } => self.push_octets(text, event),
-            Finding::NoMaster
-            | Finding::ToldOther { .. }
-            | Finding::Early { .. }
-            | Finding::OtherAnswers { .. }
-            | Finding::OtherDomain => self.push_masters(text),
-            Finding::OtherSync { .. }
-            | Finding::NoFollowUp { .. }
-            | Finding::OtherRequest { .. } => write!(
-                text,
-                "    {self}\n    so what its messages tell together is the result of no exchange\n"
-            ),
-            _ => write!(text, "    {self}\n"),
-        }
-    }
-
-    /// Appends what the slave was told of its master, whose the Sync is and who answered, and which message came too early.
-    fn push_masters(&self, text: &mut String) -> Result<(), AllocError> {
-        write!(
-            text,
-            "    {}\n    {}\n",
-            Told(self.case),
-            Masters(self.case)
-        )?;
-        match self.finding {
-            Finding::Early { .. } => write!(text, "    {self}\n"),
-            _ => Ok(()),
-        }
-    }
-
-    /// An event that drew a number.
-    fn drawing(&self, number: u64) -> Drawing<'a> {
-        Drawing {
-            known: self.case.known,
-            number,
-        }
+/// The number that lacks this.
+fn number_of(lack: Lack) -> u64 {
+    match lack {
+        Lack::NotBefore(number)
+        | Lack::CameToNothing(number)
+        | Lack::OtherEvent(number)
+        | Lack::CompletedNothing(number) => number,
     }
 }
 
 impl Display for Found<'_> {
     fn fmt<W: fmt::Write>(&self, f: &mut Formatter<W>) -> fmt::Result {
         let cause = self.cause();
+        let known = self.case.known;
         match self.finding {
-            Finding::CantReport => write!(
-                f,
-                "{cause}; wanted is a report of an arrive or a hear at a slave"
-            ),
+            Finding::CantReport => {
+                let own = cause.without_outcome();
+                write!(
+                    f,
+                    "{own}, can't report; wanted is an arrive or a hear at a slave"
+                )
+            }
             Finding::OfOtherLine => write_other_line(f, self.case),
             Finding::WrongTag { part, lack } => write_tag(f, self.case, part, lack),
             Finding::Unstamped { first } => write_unstamped(f, self.case, first),
-            Finding::Stops { part, by, lack } => {
-                write!(f, "the journey of the {} stops at ", words_of(part).name)?;
-                if let Lack::CameToNothing(_) = lack {
-                    write!(f, "{}: it names ", self.case.known.place(by))?;
-                }
-                write!(f, "{cause}")
+            Finding::Stops { part, by, lack } => write_stop(f, known, part, by, lack),
+            Finding::LeftTwice {
+                part,
+                entered,
+                first,
+                ..
+            } => {
+                let (name, entered) = (words_of(part).name, known.place(entered));
+                let first = known.place(first);
+                write!(
+                    f,
+                    "the {name} entered a clock by {entered}, and left it twice: by {first} and by {cause}"
+                )
             }
-            Finding::LeftTwice { part, .. } => write!(f, "the {} {cause}", words_of(part).name),
-            Finding::OtherSync { sync, .. } => write!(
-                f,
-                "the Sync is {}; it was taken for {cause}",
-                self.drawing(sync)
-            ),
-            Finding::NoFollowUp { .. } => write!(
-                f,
-                "the Sync is {cause}, two-step; it was taken for one that needs no Follow_Up"
-            ),
-            Finding::OtherRequest { .. } => write!(
-                f,
-                "the Delay_Req that the master answered is {cause}; it was taken for {}",
-                self.drawing(self.case.reported.report.request_tag)
-            ),
-            Finding::Early { part, set } => write_early(f, self.case, part, set),
+            Finding::OtherSync { sync, follows, .. } => {
+                let sync = Sent(known, sync);
+                write!(f, "{sync}, is taken with the Follow_Up of {cause}, ")?;
+                match follows {
+                    Some(other) => write!(f, "which is of {}", Sent(known, other))?,
+                    None => f.write_str("before which its master sent no two-step Sync")?,
+                }
+                f.write_str(OF_NO_EXCHANGE)
+            }
+            Finding::NoFollowUp { sync } => {
+                let sync = Sent(known, sync);
+                write!(
+                    f,
+                    "{sync}, is two-step, and is taken for one that needs no Follow_Up{OF_NO_EXCHANGE}"
+                )
+            }
+            Finding::OtherRequest { request } => {
+                let (request, own) = (
+                    Sent(known, request),
+                    Sent(known, self.case.reported.report.request_tag),
+                );
+                write!(
+                    f,
+                    "the Delay_Resp answers {request}; it is taken for one to {own}{OF_NO_EXCHANGE}"
+                )
+            }
+            Finding::NoMaster
+            | Finding::ToldOther { .. }
+            | Finding::OtherAnswers { .. }
+            | Finding::OtherDomain => write_masters(f, self.case),
+            Finding::Early { part, set } => {
+                let name = words_of(part).name;
+                write_masters(f, self.case)?;
+                match tag_of(self.case, part) {
+                    Some(tag) => write!(
+                        f,
+                        "\n    the {name} of {}, is earlier than event {set}",
+                        known.named(tag)
+                    ),
+                    None => Ok(()),
+                }
+            }
+            Finding::WrongReading { event, set } => write_reading(f, known, event, set),
+            Finding::Falls { entered, left } => write_fall(f, known, entered, left),
             Finding::TooLong { part } => write_too_long(f, self.case, part),
-            _ => write!(f, "{cause}"),
+            Finding::OtherResults | Finding::OtherOctets { .. } => write!(f, "{cause}"),
         }
     }
 }
@@ -132,71 +160,63 @@ fn write_other_line<W: fmt::Write>(f: &mut Formatter<W>, case: &Case<'_>) -> fmt
              reports",
         );
     };
-    let words = words_of(heard.part);
-    write!(
-        f,
-        ", which is {heard}; the {}, of the {}, ",
-        words.place, words.name
-    )?;
-    match tag_of(&case.reported.report, heard.part) {
-        Some(tag) => write!(
-            f,
-            "names {}{}",
-            case.known.named(tag),
-            WhichIs(Heard::at(case.known, tag))
-        ),
+    let Words {
+        name,
+        tag: place,
+        ..
+    } = words_of(heard.part);
+    write!(f, ", which is {heard}; the {place}, of the {name}, ")?;
+    match tag_of(case, heard.part) {
+        Some(tag) => {
+            let heard = WhichIs(Heard::at(case.known, tag));
+            write!(f, "names {}{heard}", case.known.named(tag))
+        }
         None => f.write_str("is null"),
     }
 }
 
-/// Whether the tag of a message is that of an event as the report needs it.
-fn is_tagged(case: &Case<'_>, part: Part, tag: u64) -> bool {
-    match case.known.checker.line_at(tag) {
-        Some(line) => is_wanted(part, &line.event) && line.event.node() == case.reported.node,
-        None => false,
-    }
-}
-
-/// Writes what a tag names in place of what; of one that is right, what is wrong with what was heard there.
+/// Writes what a tag names in place of what; of one that is right, what was heard there.
 fn write_tag<W: fmt::Write>(
     f: &mut Formatter<W>,
     case: &Case<'_>,
     part: Part,
     lack: Lack,
 ) -> fmt::Result {
-    let Some(tag) = tag_of(&case.reported.report, part) else {
+    let Some(own) = tag_of(case, part) else {
         return Ok(());
     };
-    let words = words_of(part);
-    let place = case.known.place(tag);
-    let named = case.known.named(number_of(lack));
-    let heard = WhichIs(Heard::at(case.known, tag));
-    match (lack, part) {
-        (Lack::CompletedNothing(_), Part::Sync) => write!(
+    let Words {
+        name,
+        tag,
+        wanted,
+        sender,
+    } = words_of(part);
+    let (place, named) = (case.known.place(own), case.known.named(number_of(lack)));
+    let heard = WhichIs(Heard::at(case.known, own));
+    if let Lack::CompletedNothing(_) = lack {
+        return match part {
+            Part::Sync => write!(
+                f,
+                "the 2nd of \"tags\" is null, but the Sync of {named}, waits for a Follow_Up"
+            ),
+            _ => write!(f, "the {name} of {named}, completed nothing"),
+        };
+    }
+    if is_tagged(case, part, own) {
+        return write!(
             f,
-            "the 2nd of \"tags\" is null, but the Sync of {place} waits for a Follow_Up"
-        ),
-        (Lack::CompletedNothing(_), _) => {
-            write!(f, "the {} of {place} completed nothing", words.name)
-        }
-        _ if is_tagged(case, part, tag) => write!(
-            f,
-            "the {} of {place} is of {named}{heard}; wanted is {} before it that sent it",
-            words.name, words.sender
-        ),
-        _ => write!(
-            f,
-            "the {} of \"tags\", of the {}, names {named}{heard}; wanted is {} at {}{}",
-            words.place,
-            words.name,
-            words.wanted,
-            case.reported.node.text(),
-            if let Lack::CameToNothing(_) = lack {
-                " that came to something"
-            } else {
-                ""
-            }
-        ),
+            "the {name} of {place} is of {named}{heard}; wanted is {sender} before it that sent it"
+        );
+    }
+    let slave = case.reported.node;
+    write!(
+        f,
+        "the {tag} of \"tags\", of the {name}, names {named}{heard}; wanted is {wanted} at {}",
+        slave.text()
+    )?;
+    match lack {
+        Lack::CameToNothing(_) => f.write_str(" that came to something"),
+        _ => Ok(()),
     }
 }
 
@@ -207,68 +227,184 @@ fn write_unstamped<W: fmt::Write>(
     first: Option<u64>,
 ) -> fmt::Result {
     let report = &case.reported.report;
-    let request = case.known.place(report.request_tag);
+    let (request, response) = (report.request_tag, report.response_tag);
+    let place = case.known.place(request);
     match first {
-        _ if report.request_tag >= report.response_tag => write!(
-            f,
-            "the Delay_Req of {request} isn't before the Delay_Resp, event {}",
-            report.response_tag
-        ),
-        Some(stamp) => write!(
-            f,
-            "{} tells when the Delay_Req left; wanted is that before the Delay_Resp, event {}",
-            case.known.place(stamp),
-            report.response_tag
-        ),
+        _ if request >= response => {
+            write!(
+                f,
+                "the Delay_Req of {place} isn't before the Delay_Resp, event {response}"
+            )
+        }
+        Some(stamp) => {
+            let stamp = case.known.named(stamp);
+            write!(
+                f,
+                "{stamp}, tells when the Delay_Req left; wanted is that before the Delay_Resp, event {response}"
+            )
+        }
         None => write!(
             f,
-            "no event before the report tells when the Delay_Req of {request} left"
+            "no event before the report tells when the Delay_Req of {place} left"
         ),
     }
 }
 
-/// Writes that a message came before the slave was told its master by this event.
-fn write_early<W: fmt::Write>(
+/// Writes where the journey of a message stops, and which event is wrong.
+fn write_stop<W: fmt::Write>(
     f: &mut Formatter<W>,
-    case: &Case<'_>,
+    known: Known<'_>,
     part: Part,
-    set: u64,
+    by: u64,
+    lack: Lack,
 ) -> fmt::Result {
-    write!(f, "the {} ", words_of(part).name)?;
-    if let Some(tag) = tag_of(&case.reported.report, part) {
-        write!(f, "of {} ", case.known.place(tag))?;
+    let name = words_of(part).name;
+    let number = number_of(lack);
+    let named = known.named(number);
+    let event = known.event_at(number);
+    let is_leave = match known.event_at(by) {
+        Some(event) => event.named_transit().is_some(),
+        None => false,
+    };
+    let by = known.named(by);
+    write!(f, "the journey of the {name} stops at {by}: ")?;
+    match (lack, event) {
+        (Lack::NotBefore(_), _) => write!(f, "it names event {number}; wanted is one before it"),
+        (Lack::CameToNothing(_) | Lack::CompletedNothing(_), _) => write!(f, "it names {named}"),
+        (Lack::OtherEvent(_), _) if is_leave => write!(
+            f,
+            "it names {named}, which is no enter of this clock"
+        ),
+        (Lack::OtherEvent(_), Some(event)) if event.draws_sync() || event.is_request() => {
+            write!(f, "what arrives there was sent by {named}")
+        }
+        (Lack::OtherEvent(_), _) => write!(f, "it names {named}, which sent no such message"),
     }
-    write!(f, "came before event {set}")
 }
 
-/// The fraction that a message is sent with in its correctionField, in units of 2^-16 ns.
-fn fraction_sent(leg: &Leg) -> u16 {
-    if leg.departed.event.is_one_step_sync() {
-        leg.departed.reading.split().1
-    } else {
-        0
+/// Writes which master the slave was told last, of which one the Sync is, and which one answered.
+fn write_masters<W: fmt::Write>(f: &mut Formatter<W>, case: &Case<'_>) -> fmt::Result {
+    let known = case.known;
+    let slave = case.reported.node;
+    write!(f, "{}, was told ", Port(known, slave))?;
+    match master_told(known, &slave) {
+        Some((told, master)) => write!(f, "the master {} by {}", master.text(), known.named(told))?,
+        None => f.write_str("no master")?,
     }
-}
-
-/// Writes how long a message was in clocks that was there for too long.
-fn write_too_long<W: fmt::Write>(
-    f: &mut Formatter<W>,
-    case: &Case<'_>,
-    part: Part,
-) -> fmt::Result {
-    let Some(exchange) = case.exchange else {
+    let Some(Exchange { sync, request, .. }) = case.exchange else {
         return Ok(());
     };
-    let leg = match part {
-        Part::Sync | Part::FollowUp => &exchange.sync,
-        Part::DelayReq | Part::DelayResp => &exchange.request,
-    };
-    let sum = signed(leg.residence).saturating_add(i128::from(fraction_sent(leg)));
+    let (sender, answering) = (
+        Port(known, sync.departed.event.node()),
+        known.named(request.arrived.number),
+    );
     write!(
         f,
-        "the {} is to have {} in its correctionField, of clocks and of its departure; it can say less than {}",
-        words_of(part).name,
-        Length(sum),
-        Length(TOO_BIG)
+        "\n    the Sync is of {sender}; the Delay_Req was answered by {answering}"
+    )
+}
+
+/// The last event that told a slave its master, and which one.
+fn master_told(known: Known<'_>, slave: &Name) -> Option<(u64, Name)> {
+    let told = known.checker.master_told(slave)?;
+    Some((told, known.event_at(told)?.named_master()?))
+}
+
+/// Writes a reading that isn't that of its clock, which this event set.
+fn write_reading<W: fmt::Write>(
+    f: &mut Formatter<W>,
+    known: Known<'_>,
+    event: u64,
+    set: Option<u64>,
+) -> fmt::Result {
+    let named = known.named(event);
+    match known.evidence.wrong_reading_at(event) {
+        Some(
+            WrongReading {
+                reading: Some(reading),
+                ..
+            },
+        ) => {
+            write!(f, "{named}: read is {}", Moment(reading))?;
+            if let Some(at) = true_moment(known, event) {
+                let more = Length(difference(reading, at));
+                write!(
+                    f,
+                    ", the true moment is {}, and they differ by {more}",
+                    Moment(at)
+                )?;
+            }
+        }
+        _ => write!(f, "{named}: no reading")?,
+    }
+    let wanted = Length(difference_set(known, set));
+    match set {
+        Some(set) => write!(f, "; wanted is {wanted}, which {} set", known.place(set)),
+        None => write!(f, "; wanted is {wanted}, since no event set the clock"),
+    }
+}
+
+/// The true moment of an event.
+fn true_moment(known: Known<'_>, event: u64) -> Option<ScaledTime> {
+    known.event_at(event)?.true_moment()
+}
+
+/// What an event set its clock to differ by, in units of 2^-16 ns.
+fn difference_set(known: Known<'_>, set: Option<u64>) -> i128 {
+    match set {
+        Some(set) => match known.event_at(set) {
+            Some(event) => event.named_difference().unwrap_or(0),
+            None => 0,
+        },
+        None => 0,
+    }
+}
+
+/// By how much the first of two moments is later, in units of 2^-16 ns.
+fn difference(one: ScaledTime, other: ScaledTime) -> i128 {
+    one.signed_units().saturating_sub(other.signed_units())
+}
+
+/// Writes that a clock read less as a message left than as it entered.
+fn write_fall<W: fmt::Write>(
+    f: &mut Formatter<W>,
+    known: Known<'_>,
+    entered: u64,
+    left: u64,
+) -> fmt::Result {
+    let lines = known
+        .checker
+        .line_at(entered)
+        .zip(known.checker.line_at(left));
+    let Some((before, after)) = lines else {
+        return Ok(());
+    };
+    let less = Length(difference(before.reading, after.reading));
+    let (left, entered) = (known.named(left), known.place(entered));
+    write!(
+        f,
+        "{left}: the clock reads {less} less than at {entered}; wanted is no less"
+    )
+}
+
+/// Writes how long a message was in clocks that was there for too long. What a one-step Sync departs with is in its correction, too.
+fn write_too_long<W: fmt::Write>(f: &mut Formatter<W>, case: &Case<'_>, part: Part) -> fmt::Result {
+    let Some(Exchange { sync, request, .. }) = case.exchange else {
+        return Ok(());
+    };
+    let name = words_of(part).name;
+    let leg = if part == Part::Sync { sync } else { request };
+    let fraction = match leg.departed.event.is_one_step_sync() {
+        true => leg.departed.reading.split().1,
+        false => 0,
+    };
+    let (sum, most) = (
+        signed(leg.residence).saturating_add(i128::from(fraction)),
+        Length(TOO_BIG),
+    );
+    let sum = Length(sum);
+    write!(
+        f,
+        "the {name} is to have {sum} in its correctionField, of clocks and of its departure; it can say less than {most}"
     )
 }

@@ -1,8 +1,8 @@
-//! Which message an event heard, and what the tags of a report are to name.
+//! Messages by their names and numbers, and what the tags of a report are to name.
 
 use crate::known::Known;
+use crate::reported::Case;
 use exchange_check::{KeptLine, Part};
-use network_model::{Event, Report};
 use std::fmt;
 use std::fmt::{Display, Formatter};
 
@@ -11,16 +11,16 @@ use std::fmt::{Display, Formatter};
 pub(crate) struct Words {
     pub(crate) name: &'static str,
     /// The place of its tag among the four.
-    pub(crate) place: &'static str,
+    pub(crate) tag: &'static str,
     /// What the event of its tag is to be.
     pub(crate) wanted: &'static str,
-    /// What is to have sent it, where it is a general message.
+    /// What is to have sent it.
     pub(crate) sender: &'static str,
 }
 
 /// What is said of this message.
 pub(crate) fn words_of(part: Part) -> Words {
-    let (name, place, wanted, sender) = match part {
+    let (name, tag, wanted, sender) = match part {
         Part::Sync => ("Sync", "1st", "an arrive", "a sync"),
         Part::FollowUp => ("Follow_Up", "2nd", "a hear", "a follow"),
         Part::DelayReq => ("Delay_Req", "3rd", "a request", "a request"),
@@ -28,23 +28,15 @@ pub(crate) fn words_of(part: Part) -> Words {
     };
     Words {
         name,
-        place,
+        tag,
         wanted,
         sender,
     }
 }
 
-/// Whether an event is of the kind that the tag of a message is to name.
-pub(crate) fn is_wanted(part: Part, event: &Event) -> bool {
-    match part {
-        Part::Sync => event.is_arrival(),
-        Part::FollowUp | Part::DelayResp => event.is_hearing(),
-        Part::DelayReq => event.is_request(),
-    }
-}
-
-/// The tag of a message.
-pub(crate) fn tag_of(report: &Report, part: Part) -> Option<u64> {
+/// The tag of a message; none of the Follow_Up where the report has none.
+pub(crate) fn tag_of(case: &Case<'_>, part: Part) -> Option<u64> {
+    let report = &case.reported.report;
     match part {
         Part::Sync => Some(report.sync_tag),
         Part::FollowUp => report.follow_tag,
@@ -53,37 +45,77 @@ pub(crate) fn tag_of(report: &Report, part: Part) -> Option<u64> {
     }
 }
 
+/// Whether the tag of a message is that of an event as the report needs it.
+pub(crate) fn is_tagged(case: &Case<'_>, part: Part, tag: u64) -> bool {
+    let Some(KeptLine { event, .. }) = case.known.checker.line_at(tag) else {
+        return false;
+    };
+    let is_wanted = match part {
+        Part::Sync => event.is_arrival(),
+        Part::FollowUp | Part::DelayResp => event.is_hearing(),
+        Part::DelayReq => event.is_request(),
+    };
+    is_wanted && event.node() == case.reported.node
+}
+
+/// The name and the number of a Sync or of a Delay_Req, of the line that sent it.
+#[derive(Clone, Copy)]
+struct Numbered(KeptLine);
+
+impl Display for Numbered {
+    fn fmt<W: fmt::Write>(&self, f: &mut Formatter<W>) -> fmt::Result {
+        let name = if self.0.event.is_request() {
+            "Delay_Req"
+        } else {
+            "Sync"
+        };
+        write!(f, "{name} {}", self.0.sequence.0)
+    }
+}
+
+/// A Sync or a Delay_Req, by the number of the event that sent it.
+#[derive(Clone, Copy)]
+pub(crate) struct Sent<'a>(pub(crate) Known<'a>, pub(crate) u64);
+
+impl Display for Sent<'_> {
+    fn fmt<W: fmt::Write>(&self, f: &mut Formatter<W>) -> fmt::Result {
+        let Sent(known, number) = *self;
+        if let Some(line) = known.checker.line_at(number) {
+            write!(f, "{}, ", Numbered(line))?;
+        }
+        write!(f, "{}", known.named(number))
+    }
+}
+
 /// The message that an event heard.
 #[derive(Clone, Copy)]
 pub(crate) struct Heard {
     /// Which message of an exchange it is.
     pub(crate) part: Part,
-    /// The Sync or the Delay_Req that it is or is of, as it was sent.
-    origin: KeptLine,
+    /// The Sync or the Delay_Req that it is or is of.
+    sent: Numbered,
 }
 
 impl Heard {
     /// The message that an event heard, where it can be followed back.
     pub(crate) fn at(known: Known<'_>, number: u64) -> Option<Heard> {
-        let line = known.checker.line_at(number)?;
-        let copy = line.event.heard_copy()?;
+        let event = known.checker.line_at(number)?.event;
+        let copy = event.heard_copy()?;
         if copy >= number {
             return None;
         }
         let sender = known.checker.line_at(copy)?;
-        let (part, origin) = if line.event.is_arrival() {
+        let (part, sent) = if event.is_arrival() {
             (Part::Sync, known.checker.origin_of(copy)?)
         } else if sender.event.is_follow() {
             (Part::FollowUp, sender.last_sync?)
-        } else if sender.made {
+        } else {
             let request = sender.event.heard_copy()?;
             (Part::DelayResp, known.checker.origin_of(request)?)
-        } else {
-            return None;
         };
         Some(Heard {
             part,
-            origin: known.checker.line_at(origin)?,
+            sent: Numbered(known.checker.line_at(sent)?),
         })
     }
 }
@@ -95,16 +127,11 @@ impl Display for Heard {
             Part::FollowUp => "the Follow_Up of ",
             Part::DelayResp => "the Delay_Resp to ",
         })?;
-        let origin = if self.origin.event.draws_sync() {
-            "Sync"
-        } else {
-            "Delay_Req"
-        };
-        write!(f, "{origin} {}", self.origin.sequence.0)
+        write!(f, "{}", self.sent)
     }
 }
 
-/// That an event heard a message, where it did and that can be followed back.
+/// The event of a number, and which message it heard, where that can be followed back.
 #[derive(Clone, Copy)]
 pub(crate) struct WhichIs(pub(crate) Option<Heard>);
 

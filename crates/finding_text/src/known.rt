@@ -1,7 +1,7 @@
 //! What is known of the lines of a transcript: by its checker of those that count, and by its evidence of others.
 
 use exchange_check::{Came, Checker, Evidence};
-use network_model::{Event, Name};
+use network_model::{Event, Name, NodeKind};
 use std::fmt;
 use std::fmt::{Display, Formatter};
 use story_words::AnEvent;
@@ -34,6 +34,13 @@ pub struct Named {
     place: Place,
     event: Option<Event>,
     came: Option<Came>,
+}
+
+impl Named {
+    /// The same without what came of it.
+    pub(crate) fn without_outcome(self) -> Named {
+        Named { came: None, ..self }
+    }
 }
 
 impl Display for Named {
@@ -95,4 +102,23 @@ impl Known<'_> {
 /// The place of a node, from 0.
 pub fn index_of(checker: &Checker, name: &Name) -> Option<u64> {
     Some(checker.nodes().index_of(name)? as u64)
+}
+
+/// The name of a port, and its domain.
+#[derive(Clone, Copy)]
+pub(crate) struct Port<'a>(pub(crate) Known<'a>, pub(crate) Name);
+
+impl Display for Port<'_> {
+    fn fmt<W: fmt::Write>(&self, f: &mut Formatter<W>) -> fmt::Result {
+        f.write_str(self.1.text())?;
+        let Some(node) = self.0.checker.nodes().get(&self.1) else {
+            return Ok(());
+        };
+        match &node.kind {
+            NodeKind::Master { config, .. } | NodeKind::Slave { config, .. } => {
+                write!(f, ", domain {}", config.domain)
+            }
+            NodeKind::Clock => Ok(()),
+        }
+    }
 }

@@ -1,7 +1,6 @@
 //! What is found wrong with a report that is refused, in sentences: of each reason the first thing that breaks its condition.
 #![tactic(auto)]
 
-mod cause;
 mod exchange;
 mod found;
 mod heard;
@@ -9,7 +8,6 @@ mod known;
 mod reported;
 mod telling;
 
-pub use cause::Cause;
 pub use found::Found;
 pub use known::{Known, Named, Place, index_of};
 pub use reported::{Case, Reported};
