@@ -204,10 +204,11 @@ struct Telling {
 /// The Follow_Up, which tells of the last two-step Sync before it.
 fn follow_up(checker: &Checker, exchange: &Exchange) -> Option<Telling> {
     let event = exchange.follow?;
-    Some(Telling {
-        event,
-        sent: checker.line_at(event)?.last_sync,
-    })
+    let sent = match checker.line_at(event) {
+        Some(line) => line.last_sync,
+        None => None,
+    };
+    Some(Telling { event, sent })
 }
 
 /// The event by which the slave learned when the Delay_Req of the report departed.

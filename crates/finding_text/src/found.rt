@@ -1,9 +1,9 @@
 //! What is found wrong with a report, in a sentence.
 
-use crate::heard::{Heard, Sent, WhichIs, Words, is_tagged, tag_of, words_of};
+use crate::heard::{Heard, Sent, heard_at, is_tagged, tag_of, words_of};
 use crate::known::{Known, Named, Port};
 use crate::reported::Case;
-use exchange_check::{Exchange, Finding, Lack, Part, Why, WrongReading};
+use exchange_check::{Exchange, Finding, Lack, Part, Why};
 use network_model::Name;
 use ptp_units::ScaledTime;
 use std::fmt;
@@ -77,11 +77,8 @@ impl Display for Found<'_> {
         let known = self.case.known;
         match self.finding {
             Finding::CantReport => {
-                let own = cause.without_outcome();
-                write!(
-                    f,
-                    "{own}, can't report; wanted is an arrive or a hear at a slave"
-                )
+                write!(f, "{}, can't report", cause.without_outcome())?;
+                f.write_str("; wanted is an arrive or a hear at a slave")
             }
             Finding::OfOtherLine => write_other_line(f, self.case),
             Finding::WrongTag { part, lack } => write_tag(f, self.case, part, lack),
@@ -152,25 +149,25 @@ impl Display for Found<'_> {
 
 /// Writes that no tag is of the event that reports, which message that is, and what the tag of such a message names.
 fn write_other_line<W: fmt::Write>(f: &mut Formatter<W>, case: &Case<'_>) -> fmt::Result {
+    let known = case.known;
     let own = case.reported.event;
     write!(f, "none of \"tags\" is {own}")?;
-    let Some(heard) = Heard::at(case.known, own) else {
+    let Some((part, _)) = heard_at(known, own) else {
         return f.write_str(
             "; wanted is that the Sync (1st), the Follow_Up (2nd) or the Delay_Resp (4th) came by the event that \
              reports",
         );
     };
-    let Words {
-        name,
-        tag: place,
-        ..
-    } = words_of(heard.part);
-    write!(f, ", which is {heard}; the {place}, of the {name}, ")?;
-    match tag_of(case, heard.part) {
-        Some(tag) => {
-            let heard = WhichIs(Heard::at(case.known, tag));
-            write!(f, "names {}{heard}", case.known.named(tag))
-        }
+    let words = words_of(part);
+    write!(
+        f,
+        "{}; the {}, of the {}, ",
+        Heard(known, own),
+        words.tag,
+        words.name
+    )?;
+    match tag_of(case, part) {
+        Some(tag) => write!(f, "names {}{}", known.named(tag), Heard(known, tag)),
         None => f.write_str("is null"),
     }
 }
@@ -185,38 +182,37 @@ fn write_tag<W: fmt::Write>(
     let Some(own) = tag_of(case, part) else {
         return Ok(());
     };
-    let Words {
-        name,
-        tag,
-        wanted,
-        sender,
-    } = words_of(part);
-    let (place, named) = (case.known.place(own), case.known.named(number_of(lack)));
-    let heard = WhichIs(Heard::at(case.known, own));
-    if let Lack::CompletedNothing(_) = lack {
-        return match part {
-            Part::Sync => write!(
-                f,
-                "the 2nd of \"tags\" is null, but the Sync of {named}, waits for a Follow_Up"
-            ),
-            _ => write!(f, "the {name} of {named}, completed nothing"),
-        };
-    }
-    if is_tagged(case, part, own) {
-        return write!(
+    let words = words_of(part);
+    let (name, named) = (words.name, case.known.named(number_of(lack)));
+    let (place, heard) = (case.known.place(own), Heard(case.known, own));
+    match (lack, part) {
+        (Lack::CompletedNothing(_), Part::Sync) => write!(
             f,
-            "the {name} of {place} is of {named}{heard}; wanted is {sender} before it that sent it"
-        );
-    }
-    let slave = case.reported.node;
-    write!(
-        f,
-        "the {tag} of \"tags\", of the {name}, names {named}{heard}; wanted is {wanted} at {}",
-        slave.text()
-    )?;
-    match lack {
-        Lack::CameToNothing(_) => f.write_str(" that came to something"),
-        _ => Ok(()),
+            "the 2nd of \"tags\" is null, but the Sync of {named}, waits for a Follow_Up"
+        ),
+        (Lack::CompletedNothing(_), _) => write!(f, "the {name} of {named}, completed nothing"),
+        _ if is_tagged(case, part, own) => write!(
+            f,
+            "the {name} of {place} is of {named}{heard}; wanted is {} before it that sent it",
+            words.sender
+        ),
+        _ => {
+            write!(
+                f,
+                "the {} of \"tags\", of the {name}, names {named}{heard}",
+                words.tag
+            )?;
+            write!(
+                f,
+                "; wanted is {} at {}",
+                words.wanted,
+                case.reported.node.text()
+            )?;
+            match lack {
+                Lack::CameToNothing(_) => f.write_str(" that came to something"),
+                _ => Ok(()),
+            }
+        }
     }
 }
 
@@ -258,15 +254,13 @@ fn write_stop<W: fmt::Write>(
     by: u64,
     lack: Lack,
 ) -> fmt::Result {
-    let name = words_of(part).name;
     let number = number_of(lack);
-    let named = known.named(number);
-    let event = known.event_at(number);
+    let (named, event) = (known.named(number), known.event_at(number));
     let is_leave = match known.event_at(by) {
         Some(event) => event.named_transit().is_some(),
         None => false,
     };
-    let by = known.named(by);
+    let (name, by) = (words_of(part).name, known.named(by));
     write!(f, "the journey of the {name} stops at {by}: ")?;
     match (lack, event) {
         (Lack::NotBefore(_), _) => write!(f, "it names event {number}; wanted is one before it"),
@@ -317,25 +311,24 @@ fn write_reading<W: fmt::Write>(
     event: u64,
     set: Option<u64>,
 ) -> fmt::Result {
-    let named = known.named(event);
-    match known.evidence.wrong_reading_at(event) {
-        Some(
-            WrongReading {
-                reading: Some(reading),
-                ..
-            },
-        ) => {
-            write!(f, "{named}: read is {}", Moment(reading))?;
-            if let Some(at) = true_moment(known, event) {
-                let more = Length(difference(reading, at));
-                write!(
-                    f,
-                    ", the true moment is {}, and they differ by {more}",
-                    Moment(at)
-                )?;
-            }
-        }
-        _ => write!(f, "{named}: no reading")?,
+    let (named, at) = (known.named(event), true_moment(known, event));
+    let reading = match known.evidence.wrong_reading_at(event) {
+        Some(wrong) => wrong.reading,
+        None => None,
+    };
+    match reading {
+        Some(reading) => write!(f, "{named}: read is {}", Moment(reading))?,
+        None => write!(f, "{named}: no reading")?,
+    }
+    if let Some(at) = at {
+        write!(f, ", the true moment is {}", Moment(at))?;
+    }
+    if let Some((reading, at)) = reading.zip(at) {
+        write!(
+            f,
+            ", and they differ by {}",
+            Length(difference(reading, at))
+        )?;
     }
     let wanted = Length(difference_set(known, set));
     match set {
@@ -395,16 +388,13 @@ fn write_too_long<W: fmt::Write>(f: &mut Formatter<W>, case: &Case<'_>, part: Pa
     let name = words_of(part).name;
     let leg = if part == Part::Sync { sync } else { request };
     let fraction = match leg.departed.event.is_one_step_sync() {
-        true => leg.departed.reading.split().1,
+        true => i128::from(leg.departed.reading.split().1),
         false => 0,
     };
-    let (sum, most) = (
-        signed(leg.residence).saturating_add(i128::from(fraction)),
-        Length(TOO_BIG),
-    );
-    let sum = Length(sum);
+    let sum = Length(signed(leg.residence).saturating_add(fraction));
     write!(
         f,
-        "the {name} is to have {sum} in its correctionField, of clocks and of its departure; it can say less than {most}"
-    )
+        "the {name} is to have {sum} in its correctionField, of clocks and of its departure"
+    )?;
+    write!(f, "; it can say less than {}", Length(TOO_BIG))
 }

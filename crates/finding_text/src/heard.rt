@@ -64,11 +64,8 @@ struct Numbered(KeptLine);
 
 impl Display for Numbered {
     fn fmt<W: fmt::Write>(&self, f: &mut Formatter<W>) -> fmt::Result {
-        let name = if self.0.event.is_request() {
-            "Delay_Req"
-        } else {
-            "Sync"
-        };
+        let is_request = self.0.event.is_request();
+        let name = if is_request { "Delay_Req" } else { "Sync" };
         write!(f, "{name} {}", self.0.sequence.0)
     }
 }
@@ -87,58 +84,42 @@ impl Display for Sent<'_> {
     }
 }
 
-/// The message that an event heard.
-#[derive(Clone, Copy)]
-pub(crate) struct Heard {
-    /// Which message of an exchange it is.
-    pub(crate) part: Part,
-    /// The Sync or the Delay_Req that it is or is of.
-    sent: Numbered,
-}
-
-impl Heard {
-    /// The message that an event heard, where it can be followed back.
-    pub(crate) fn at(known: Known<'_>, number: u64) -> Option<Heard> {
-        let event = known.checker.line_at(number)?.event;
-        let copy = event.heard_copy()?;
-        if copy >= number {
-            return None;
-        }
-        let sender = known.checker.line_at(copy)?;
-        let (part, sent) = if event.is_arrival() {
-            (Part::Sync, known.checker.origin_of(copy)?)
-        } else if sender.event.is_follow() {
-            (Part::FollowUp, sender.last_sync?)
-        } else {
-            let request = sender.event.heard_copy()?;
-            (Part::DelayResp, known.checker.origin_of(request)?)
-        };
-        Some(Heard {
-            part,
-            sent: Numbered(known.checker.line_at(sent)?),
-        })
+/// Which message of an exchange an event heard, and the number of the event that sent the Sync or the Delay_Req that this is or is
+/// of; none where that can't be followed back.
+pub(crate) fn heard_at(known: Known<'_>, number: u64) -> Option<(Part, u64)> {
+    let event = known.checker.line_at(number)?.event;
+    let copy = event.heard_copy()?;
+    if copy >= number {
+        return None;
     }
+    if event.is_arrival() {
+        return Some((Part::Sync, known.checker.origin_of(copy)?));
+    }
+    let sender = known.checker.line_at(copy)?;
+    if sender.event.is_follow() {
+        return Some((Part::FollowUp, sender.last_sync?));
+    }
+    let request = sender.event.heard_copy()?;
+    Some((Part::DelayResp, known.checker.origin_of(request)?))
 }
 
-impl Display for Heard {
+/// Which message the event of a number heard, behind what names this event; nothing where that can't be followed back.
+#[derive(Clone, Copy)]
+pub(crate) struct Heard<'a>(pub(crate) Known<'a>, pub(crate) u64);
+
+impl Display for Heard<'_> {
     fn fmt<W: fmt::Write>(&self, f: &mut Formatter<W>) -> fmt::Result {
-        f.write_str(match self.part {
+        let Heard(known, number) = *self;
+        let Some((part, origin)) = heard_at(known, number) else {
+            return Ok(());
+        };
+        let of = match part {
             Part::Sync | Part::DelayReq => "",
             Part::FollowUp => "the Follow_Up of ",
             Part::DelayResp => "the Delay_Resp to ",
-        })?;
-        write!(f, "{}", self.sent)
-    }
-}
-
-/// The event of a number, and which message it heard, where that can be followed back.
-#[derive(Clone, Copy)]
-pub(crate) struct WhichIs(pub(crate) Option<Heard>);
-
-impl Display for WhichIs {
-    fn fmt<W: fmt::Write>(&self, f: &mut Formatter<W>) -> fmt::Result {
-        match self.0 {
-            Some(heard) => write!(f, ", which is {heard}"),
+        };
+        match known.checker.line_at(origin) {
+            Some(line) => write!(f, ", which is {of}{}", Numbered(line)),
             None => Ok(()),
         }
     }

@@ -2,31 +2,27 @@
 
 use crate::known::Place;
 use crate::reported::Case;
-use event_codec::{Body, Header, decode};
-use exchange_check::{Exchange, Why};
-use network_model::Name;
+use event_codec::{Body, decode};
+use exchange_check::{Exchange, ExchangeLine, Leg, Why};
 use ptp_units::ScaledTime;
 use std::alloc::AllocError;
 use std::fmt;
 use std::fmt::{Display, Formatter};
 use story_words::{Length, signed};
 
-/// A message that came to a slave.
+/// A message that came to a slave. Its times are in units of 2^-16 ns.
 #[derive(Clone, Copy)]
 struct Message {
     name: &'static str,
+    sequence: u16,
     place: Place,
-    header: Header,
-    body: Body,
+    timestamp: i128,
+    correction: i128,
 }
 
 impl Display for Message {
     fn fmt<W: fmt::Write>(&self, f: &mut Formatter<W>) -> fmt::Result {
-        write!(
-            f,
-            "{} {} ({})",
-            self.name, self.header.sequence.0, self.place
-        )
+        write!(f, "{} {} ({})", self.name, self.sequence, self.place)
     }
 }
 
@@ -35,98 +31,37 @@ impl Message {
     fn of(case: &Case<'_>, name: &'static str, number: u64) -> Option<Message> {
         let known = case.known;
         let octets = known.evidence.octets_at(known.checker, number)?;
-        match decode(octets.as_slice()) {
-            Ok((message, _)) => Some(Message {
-                name,
-                place: known.place(number),
-                header: message.header,
-                body: message.body,
-            }),
-            Err(_) => None,
-        }
-    }
-
-    /// The timestamp, in units of 2^-16 ns.
-    fn time(&self) -> i128 {
-        let timestamp = match self.body {
+        let Ok((message, _)) = decode(octets.as_slice()) else {
+            return None;
+        };
+        let timestamp = match message.body {
             Body::Sync { origin } | Body::DelayReq { origin } => origin,
             Body::FollowUp { precise } => precise,
             Body::DelayResp { receive, .. } => receive,
         };
-        ScaledTime::join(timestamp, 0).signed_units()
-    }
-
-    /// correctionField, in units of 2^-16 ns.
-    fn correction(&self) -> i128 {
-        i128::from(self.header.correction.0)
+        Some(Message {
+            name,
+            sequence: message.header.sequence.0,
+            place: known.place(number),
+            timestamp: ScaledTime::join(timestamp, 0).signed_units(),
+            correction: i128::from(message.header.correction.0),
+        })
     }
 }
 
-/// What the messages of a half tell otherwise than clocks read.
+/// A half of a report, by the messages.
 #[derive(Clone, Copy)]
-struct Half {
+struct Half<'a> {
+    leg: &'a Leg,
+    /// Its moment, which is told, and where that was read.
+    moment: &'static str,
+    read: &'a ExchangeLine,
+    /// Whether the fraction of the moment is taken from the correction, in place of standing in it.
+    is_taken: bool,
     /// The message that tells the moment.
     teller: Message,
     /// The Sync of a Follow_Up: their corrections count together, since a two-step clock tells its residence in the Follow_Up.
     sync: Option<Message>,
-    moment: &'static str,
-    /// Where the moment was read.
-    node: Name,
-    /// By how much the moment is later than was read, in units of 2^-16 ns.
-    later: i128,
-    /// How much more is told of the clocks.
-    more: i128,
-}
-
-/// The fraction of a nanosecond of a moment, in units of 2^-16 ns.
-fn fraction_of(time: ScaledTime) -> i128 {
-    i128::from(time.split().1)
-}
-
-/// By how much a message tells a moment later than a clock read, but for the fraction of a nanosecond.
-fn later(message: &Message, read: ScaledTime) -> i128 {
-    let whole = read.signed_units().saturating_sub(fraction_of(read));
-    message.time().saturating_sub(whole)
-}
-
-/// Of t1 and the Sync's stays. The fraction of t1 counts with the corrections.
-fn sync_half(case: &Case<'_>, exchange: &Exchange) -> Option<Half> {
-    let leg = &exchange.sync;
-    let sync = Message::of(case, "Sync", leg.arrived.event.heard_copy()?)?;
-    let (teller, beside) = match exchange.follow {
-        Some(follow) => (Message::of(case, "Follow_Up", follow)?, Some(sync)),
-        None => (sync, None),
-    };
-    let read = leg.departed.reading;
-    let corrections = match beside {
-        Some(sync) => sync.correction().saturating_add(teller.correction()),
-        None => teller.correction(),
-    };
-    let wanted = signed(leg.residence).saturating_add(fraction_of(read));
-    Some(Half {
-        teller,
-        sync: beside,
-        moment: "t1",
-        node: leg.departed.event.node(),
-        later: later(&teller, read),
-        more: corrections.saturating_sub(wanted),
-    })
-}
-
-/// Of t4 and the Delay_Req's stays. The fraction of t4 is taken from the correction.
-fn request_half(case: &Case<'_>, exchange: &Exchange) -> Option<Half> {
-    let leg = &exchange.request;
-    let teller = Message::of(case, "Delay_Resp", leg.arrived.number)?;
-    let read = leg.arrived.reading;
-    let wanted = signed(leg.residence).saturating_sub(fraction_of(read));
-    Some(Half {
-        teller,
-        sync: None,
-        moment: "t4",
-        node: leg.arrived.event.node(),
-        later: later(&teller, read),
-        more: teller.correction().saturating_sub(wanted),
-    })
 }
 
 /// Appends which of the messages that came to the slave tell otherwise than the clocks read, and by how much: nothing of a half
@@ -140,43 +75,95 @@ pub fn push_otherwise(
     if reasons.iter().any(|why| *why == Why::OtherNumber) {
         return Ok(());
     }
-    if let Some(half) = sync_half(case, exchange)
-        && half.later.saturating_add(half.more) != 0
-    {
-        half.push(text)?;
+    for half in [sync_half(case, exchange), request_half(case, exchange)] {
+        if let Some(half) = half {
+            half.push(text)?;
+        }
     }
-    match request_half(case, exchange) {
-        Some(half) if half.later != half.more => half.push(text),
-        _ => Ok(()),
-    }
+    Ok(())
 }
 
-impl Half {
-    /// Appends what is told of the moment and of the clocks, where that is otherwise.
+/// That of the Sync and its Follow_Up.
+fn sync_half<'a>(case: &Case<'_>, exchange: &'a Exchange) -> Option<Half<'a>> {
+    let leg = &exchange.sync;
+    let sync = Message::of(case, "Sync", leg.arrived.event.heard_copy()?)?;
+    let (teller, sync) = match exchange.follow {
+        Some(follow) => (Message::of(case, "Follow_Up", follow)?, Some(sync)),
+        None => (sync, None),
+    };
+    Some(Half {
+        leg,
+        moment: "t1",
+        read: &leg.departed,
+        is_taken: false,
+        teller,
+        sync,
+    })
+}
+
+/// That of the Delay_Resp.
+fn request_half<'a>(case: &Case<'_>, exchange: &'a Exchange) -> Option<Half<'a>> {
+    let leg = &exchange.request;
+    Some(Half {
+        leg,
+        moment: "t4",
+        read: &leg.arrived,
+        is_taken: true,
+        teller: Message::of(case, "Delay_Resp", leg.arrived.number)?,
+        sync: None,
+    })
+}
+
+impl Half<'_> {
+    /// By how much the moment is told later than it was read, and how much more is told of the clocks.
+    fn more(&self) -> (i128, i128) {
+        let fraction = i128::from(self.read.reading.split().1);
+        let whole = self.read.reading.signed_units().saturating_sub(fraction);
+        let later = self.teller.timestamp.saturating_sub(whole);
+        let told = match self.sync {
+            Some(sync) => sync.correction.saturating_add(self.teller.correction),
+            None => self.teller.correction,
+        };
+        let more = told.saturating_sub(signed(self.leg.residence));
+        if self.is_taken {
+            (later, more.saturating_add(fraction))
+        } else {
+            (later, more.saturating_sub(fraction))
+        }
+    }
+
+    /// Appends what is told otherwise of the moment and of the clocks.
     fn push(&self, text: &mut String) -> Result<(), AllocError> {
-        if self.later != 0 {
+        let (later, more) = self.more();
+        let teller = &self.teller;
+        if later
+            == if self.is_taken {
+                more
+            } else {
+                more.saturating_neg()
+            }
+        {
+            return Ok(());
+        }
+        if later != 0 {
+            let side = if later < 0 { "earlier" } else { "later" };
+            let node = self.read.event.node();
+            let (moment, later) = (self.moment, Length(later.saturating_abs()));
             write!(
                 text,
-                "    {} tells {} {} {} than {}'s clock read\n",
-                self.teller,
-                self.moment,
-                Length(self.later.saturating_abs()),
-                if self.later < 0 { "earlier" } else { "later" },
-                self.node.text()
+                "    {teller} tells {moment} {later} {side} than {}'s clock read\n",
+                node.text()
             )?;
         }
-        if self.more == 0 {
+        if more == 0 {
             return Ok(());
         }
         match self.sync {
-            Some(sync) => write!(text, "    {sync} and {} together tell", self.teller)?,
-            None => write!(text, "    {} tells", self.teller)?,
+            Some(sync) => write!(text, "    {sync} and {teller} together tell")?,
+            None => write!(text, "    {teller} tells")?,
         }
-        write!(
-            text,
-            " of {} {} in clocks than these read\n",
-            Length(self.more.saturating_abs()),
-            if self.more < 0 { "less" } else { "more" }
-        )
+        let side = if more < 0 { "less" } else { "more" };
+        let more = Length(more.saturating_abs());
+        write!(text, " of {more} {side} in clocks than these read\n")
     }
 }
