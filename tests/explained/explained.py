@@ -257,6 +257,10 @@ MET = [
      '    the Delay_Resp of event 13, line 17 is of event 11, line 15, an arrive at M, which was refused with 302; '
      'wanted is an arrive at a master before it that sent it\n'
      '1 report: 0 sound\n'),
+    (16, '"copy":11', '"copy":5',
+     refused(13, 17, 701) +
+     '    the Delay_Resp of event 13, line 17 is of event 5, line 9, an arrive at S; wanted is an arrive at a master before it that sent it\n'
+     '1 report: 0 sound\n'),
     (16, '"copy":11,"ev":"hear"', '"ev":"tick"',
      refused(13, 17, 701) +
      "    event 13, line 17, a tick at S, can't report; wanted is an arrive or a hear at a slave\n"

@@ -40,7 +40,8 @@ impl Found<'_> {
 
     /// Appends what is wrong with the reading of an event, where something is.
     fn push_reading(&self, text: &mut String, event: u64) -> Result<(), AllocError> {
-        match self.case.known.evidence.wrong_reading_at(event) {
+        let known = self.case.known;
+        match known.evidence.wrong_reading_at(event) {
             Some(wrong) => self.push_other(
                 text,
                 Finding::WrongReading {
@@ -96,7 +97,8 @@ impl Found<'_> {
 
     /// The same of an event.
     fn push_differing(&self, text: &mut String, but: u64, number: u64) -> Result<(), AllocError> {
-        match self.case.known.checker.line_at(number) {
+        let known = self.case.known;
+        match known.checker.line_at(number) {
             Some(line) if number != but && !line.writes_right => self.push_message(text, number),
             _ => Ok(()),
         }

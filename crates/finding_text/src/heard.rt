@@ -99,6 +99,9 @@ pub(crate) fn heard_at(known: Known<'_>, number: u64) -> Option<(Part, u64)> {
     if sender.event.is_follow() {
         return Some((Part::FollowUp, sender.last_sync?));
     }
+    if !sender.made {
+        return None;
+    }
     let request = sender.event.heard_copy()?;
     Some((Part::DelayResp, known.checker.origin_of(request)?))
 }
