@@ -21,9 +21,9 @@ WORKED = [json.loads(line) for line in TRANSCRIPT]
 NODES, BEGIN, EXCHANGE = WORKED[:3], WORKED[3:5], WORKED[5:]
 UNIT = Fraction(1, 65536)
 
-# The messages of an exchange: the place of the event that made each; and their order where it is told what differs.
+# The messages of an exchange: the place of the event that made each, in the order in which it is told what differs.
 SYNC, SYNC_LEFT, FOLLOW_UP, DELAY_REQ, DELAY_REQ_LEFT, DELAY_RESP = 0, 2, 4, 6, 8, 9
-TOLD = SYNC, SYNC_LEFT, DELAY_REQ, DELAY_REQ_LEFT, FOLLOW_UP, DELAY_RESP
+TOLD = SYNC, SYNC_LEFT, FOLLOW_UP, DELAY_REQ, DELAY_REQ_LEFT, DELAY_RESP
 TYPES = {0: 'Sync', 1: 'Delay_Req', 8: 'Follow_Up', 9: 'Delay_Resp'}
 TIMES = {0: 'originTimestamp', 1: 'originTimestamp', 8: 'preciseOriginTimestamp', 9: 'receiveTimestamp'}
 
@@ -613,7 +613,7 @@ def end(bent):
     told = sum(exchange.reported == exchange.messages for exchange in bent)
     against = (f'  706 stands against {wrong}: {REASON[706]}\n' if wrong else '') + f'  708 stands against {len(bent)}: {REASON[708]}\n'
     messages = [(exchange.octets(place), exchange.octets(place, right=True))
-                for exchange in bent for place in sorted(TOLD) if 'hex' in exchange.events[place]]
+                for exchange in bent for place in TOLD if 'hex' in exchange.events[place]]
     first = bent[0]
     # The Sync of each exchange but the first completes a half where that of the Delay_Req before it is there, and has no report.
     passed = len(bent) - 1

@@ -221,12 +221,12 @@ MET = [
      '1 report: 0 sound\n'),
     (16, '[5,7,8,13]', '[5,null,8,13]',
      refused(13, 17, 701) +
-     '    the 2nd of "tags" is null, but the Sync of event 5, line 9 waits for a Follow_Up\n'
+     '    the 2nd of "tags" is null, but the Sync of event 5, line 9, an arrive at S, waits for a Follow_Up\n'
      '1 report: 0 sound\n'),
     (16, '[5,7,8,13]', '[5,7,8,7]',
      refused(13, 17, 701) +
-     '    the Delay_Resp of event 7, line 11 is of event 6, line 10, a follow at M, which is the Follow_Up of Sync 0; '
-     'wanted is an arrive at a master before it\n'
+     '    none of "tags" is 13, which is the Delay_Resp to Delay_Req 0; the 4th, of the Delay_Resp, names event 7, line 11, a hear at S, '
+     'which is the Follow_Up of Sync 0\n'
      '1 report: 0 sound\n'),
     (16, '[5,7,8,13]', '[7,7,8,13]',
      refused(13, 17, 701) +
@@ -235,11 +235,31 @@ MET = [
      '1 report: 0 sound\n'),
     (15, '"S"', '"M"',
      refused(13, 17, 701) +
-     '    no event tells when the Delay_Req of event 8, line 12 left\n'
+     '    no event before the report tells when the Delay_Req of event 8, line 12 left\n'
      '1 report: 0 sound\n'),
     (8, '"out":"held"', '"out":"done"',
      refused(13, 17, 701) +
-     '    the 1st of "tags", of the Sync, names event 5, line 9, an arrive at S, which came to nothing; wanted is an arrive at S\n'
+     '    the 1st of "tags", of the Sync, names event 5, line 9, an arrive at S, which can\'t have come out so; '
+     'wanted is an arrive at S that came to something\n'
+     '1 report: 0 sound\n'),
+    (16, '[5,7,8,13]', '[99,7,8,13]',
+     refused(13, 17, 701) +
+     '    the 1st of "tags", of the Sync, names event 99, which comes behind the report or isn\'t there; wanted is an arrive at S\n'
+     '1 report: 0 sound\n'),
+    (10, '"out":"completed"', '"code":505,"out":"ignored"',
+     refused(13, 17, 701) +
+     '    the 2nd of "tags", of the Follow_Up, names event 7, line 11, a hear at S, which was ignored with 505; '
+     'wanted is a hear at S that came to something\n'
+     '1 report: 0 sound\n'),
+    (14, '"hex":"0912003600000000000000000dac000000000000001122fffe3344550001000003000000000000020000119400aabbfffeccddee0001","n":11,'
+     '"node":"M","out":"made"', '"code":302,"n":11,"node":"M","out":"refused"',
+     refused(13, 17, 701) +
+     '    the Delay_Resp of event 13, line 17 is of event 11, line 15, an arrive at M, which was refused with 302; '
+     'wanted is an arrive at a master before it that sent it\n'
+     '1 report: 0 sound\n'),
+    (16, '"copy":11', '"copy":5',
+     refused(13, 17, 701) +
+     '    the Delay_Resp of event 13, line 17 is of event 5, line 9, an arrive at S; wanted is an arrive at a master before it that sent it\n'
      '1 report: 0 sound\n'),
     (16, '"copy":11,"ev":"hear"', '"ev":"tick"',
      refused(13, 17, 701) +
@@ -247,32 +267,39 @@ MET = [
      '1 report: 0 sound\n'),
     (8, '"copy":4', '"copy":1',
      refused(13, 17, 704) +
-     '    the journey of the Sync stops at event 5, line 9: it names event 1, line 5, a setmaster at S, which sent no such message\n'
+     '    the journey of the Sync stops at event 5, line 9, an arrive at S: it names event 1, line 5, a setmaster at S, which sent no such message\n'
      '1 report: 0 sound\n'),
     (6, '"out":"entered"', '"out":"done"',
      refused(13, 17, 704) +
-     '    the journey of the Sync stops at event 4, line 8: it names event 3, line 7, an enter at T, which came to nothing\n'
+     '    the journey of the Sync stops at event 4, line 8, a leave at T: it names event 3, line 7, an enter at T, '
+     'which can\'t have come out so\n'
+     '1 report: 0 sound\n'),
+    (7, '"hex":"0012002c000002000000000007d0000000000000001122fffe33445500010000000000000000000000000000","n":4,"node":"T","out":"made"',
+     '"code":401,"n":4,"node":"T","out":"refused"',
+     refused(13, 17, 704) +
+     '    the journey of the Sync stops at event 5, line 9, an arrive at S: it names event 4, line 8, a leave at T, which was refused with 401\n'
      '1 report: 0 sound\n'),
     (6, '"copy":2', '"copy":4',
      refused(13, 17, 704) +
-     '    the journey of the Sync stops at event 3, line 7, which names event 4; wanted is one before it\n'
+     '    the journey of the Sync stops at event 3, line 7, an enter at T: it names event 4; wanted is one before it\n'
      '1 report: 0 sound\n'),
     (7, '"transit":3', '"transit":2',
      refused(13, 17, 704) +
-     '    the journey of the Sync stops at event 4, line 8: it names event 2, line 6, a sync at M, which is no enter of this clock\n'
+     '    the journey of the Sync stops at event 4, line 8, a leave at T: it names event 2, line 6, a sync at M, which is no enter of this clock\n'
      '1 report: 0 sound\n'),
     (12, '"copy":8', '"copy":2',
      refused(13, 17, 704) +
-     '    the journey of the Delay_Req stops at event 9, line 13: it names event 2, line 6, a sync at M, which sent no such message\n'
+     '    the journey of the Delay_Req stops at event 11, line 15, an arrive at M: what arrives there was sent by event 2, line 6, a sync at M\n'
      '1 report: 0 sound\n'),
     (13, '"transit":9', '"transit":3',
      refused(13, 17, 704) +
-     '    the Sync and the Delay_Req entered a clock by event 3, line 7, and left it twice: by event 4, line 8 and by event 10, line 14\n'
+     '    the Sync entered a clock by event 3, line 7, and left it twice: by event 4, line 8 and by event 10, line 14, a leave at T\n'
      '1 report: 0 sound\n'),
     (5, '"sync"', '"syncone"',
      refused(13, 17, 702) +
-     '    the Sync is number 0, event 2, line 6, a syncone at M; it was taken for that of the Follow_Up of event 6, line 10, '
-     'before which its master sent none\n'
+     '    Sync 0, event 2, line 6, a syncone at M, is taken with the Follow_Up of event 6, line 10, a follow at M, '
+     'before which its master sent no two-step Sync\n'
+     '    so what its messages tell together is the result of no exchange\n'
      '  and 708: '),
     (16, '"offset2":"131072000","out":"report","path2":"131072000","tags":[5,7,8,13]}',
      '"out":"completed"}\n'
@@ -281,18 +308,19 @@ MET = [
      '{"at":[3,1000,0],"copy":14,"ev":"arrive","n":15,"node":"S","out":"held","reading":[3,2000,0]}\n'
      '{"copy":6,"ev":"hear","n":16,"node":"S","offset2":"131072000","out":"report","path2":"131072000","tags":[15,16,8,13]}',
      refused(16, 20, 702) +
-     '    the Sync is number 1, event 14, line 18, a sync at M; it was taken for that of the Follow_Up of event 6, line 10, '
-     'number 0, event 2, line 6, a sync at M\n'
-     '  t1  event 14  '),
+     '    Sync 1, event 14, line 18, a sync at M, is taken with the Follow_Up of event 6, line 10, a follow at M, '
+     'which is of Sync 0, event 2, line 6, a sync at M\n'
+     '    so what its messages tell together is the result of no exchange\n'
+     '  t1  event 14  line 18  M  3.000000000                   Sync 1 departs; event 6 tells when Sync 0 did\n'),
     (4, '"M"', '"T"',
      refused(13, 17, 703) +
      '    S, domain 0, was told no master\n'
-     '    the Sync is of M, domain 0; M answered the Delay_Req\n'
+     '    the Sync is of M, domain 0; the Delay_Req was answered by event 11, line 15, an arrive at M\n'
      '  t1  event  2  '),
     (0, '"domain":0', '"domain":1',
      refused(13, 17, 703) +
-     '    event 1, line 5 told S, domain 0, the master M\n'
-     '    the Sync is of M, domain 1; M answered the Delay_Req\n'
+     '    S, domain 0, was told the master M by event 1, line 5, a setmaster at S\n'
+     '    the Sync is of M, domain 1; the Delay_Req was answered by event 11, line 15, an arrive at M\n'
      '  and 708: '),
     (8, '[1,4000,0]', '[1,4001,0]',
      refused(13, 17, 705) +
@@ -303,7 +331,7 @@ MET = [
      refused(13, 17, 705) +
      '    event 4, line 8, a leave at T: read is 1.000000400, the true moment is 1.000002500, and they differ by -2100 ns; '
      'wanted is 0 ns, since no event set the clock\n'
-     '    the clock reads 100 ns less at event 4, line 8 than at event 3, line 7; wanted is no less\n'
+     '    event 4, line 8, a leave at T: the clock reads 100 ns less than at event 3, line 7; wanted is no less\n'
      '  and 706: '),
     (7, '[1,2500,0]', '[140738,488355827,65535]',
      refused(13, 17, 707) +
@@ -337,20 +365,45 @@ CHANGED = [
                    '{"domain":0,"first":0,"id":"001122fffe334466","kind":"master","log":0,"node":"N","port":1}'),
                   ('"n":11,"node":"M"', '"n":11,"node":"N"')],
      refused(13, 18, 703) +
-     '    event 1, line 6 told S, domain 0, the master M\n'
-     '    the Sync is of M, domain 0; N answered the Delay_Req\n'
+     '    S, domain 0, was told the master M by event 1, line 6, a setmaster at S\n'
+     '    the Sync is of M, domain 0; the Delay_Req was answered by event 11, line 16, an arrive at N\n'
      '  and 708: '),
-    # A Delay_Resp that completed nothing, and one that is taken for a Follow_Up.
+    # A Delay_Resp that is taken for a Follow_Up.
     (TRANSCRIPT, [('"n":7,"node":"S","out":"completed"', '"n":7,"node":"S","out":"held"'), ('[5,7,8,13]', '[5,13,8,7]')],
      refused(13, 17, 701) +
      '    the Follow_Up of event 13, line 17 is of event 11, line 15, an arrive at M, which is the Delay_Resp to Delay_Req 0; '
-     'wanted is a follow before it\n'
-     '    the Delay_Resp of event 7, line 11 completed nothing\n'
+     'wanted is a follow before it that sent it\n'
      '1 report: 0 sound\n'),
+    # The slave learns when the Delay_Req left behind the Delay_Resp, or the Delay_Req left behind it.
+    (TRANSCRIPT[:15], [(TRANSCRIPT[14], TRANSCRIPT[14] +
+                        '{"copy":11,"ev":"hear","n":12,"node":"S","out":"completed"}\n'
+                        '{"ev":"stamped","n":13,"node":"S","out":"done"}\n'
+                        '{"copy":6,"ev":"hear","n":14,"node":"S","offset2":"131072000","out":"report","path2":"131072000","tags":[5,14,8,12]}\n')],
+     refused(14, 18, 701) +
+     '    event 13, line 17, a stamped at S, tells when the Delay_Req left; wanted is that before the Delay_Resp, event 12\n'
+     '1 report: 0 sound\n'),
+    (TRANSCRIPT[:16], [(TRANSCRIPT[15], TRANSCRIPT[15] +
+                        '{"copy":11,"ev":"hear","n":13,"node":"S","out":"completed"}\n'
+                        '{"at":[3,0,0],"ev":"request","hex":"0112002c0000000000000000000000000000000000aabbfffeccddee00010001017f00000000000000000000",'
+                        '"n":14,"node":"S","out":"made","reading":[3,1000,0]}\n'
+                        '{"ev":"stamped","n":15,"node":"S","out":"done"}\n'
+                        '{"copy":6,"ev":"hear","n":16,"node":"S","offset2":"131072000","out":"report","path2":"131072000","tags":[5,16,14,13]}\n')],
+     refused(16, 20, 701) +
+     "    the Delay_Req of event 14, line 18 isn't before the Delay_Resp, event 13\n"
+     '1 report: 0 sound\n'),
+    # Readings of both messages that are wrong.
+    (TRANSCRIPT, [('"reading":[1,4000,0]', '"reading":[1,4001,0]'), ('"reading":[2,4500,16384]', '"reading":[2,4500,0]')],
+     refused(13, 17, 705) +
+     '    event 5, line 9, an arrive at S: read is 1.000004001, the true moment is 1.000003000, and they differ by 1001 ns; '
+     'wanted is 1000 ns, which event 0, line 4 set\n'
+     '    event 11, line 15, an arrive at M: read is 2.000004500, the true moment is 2.000004500 + 16384/65536 ns, and they differ by -0.25 ns; '
+     'wanted is 0 ns, since no event set the clock\n'
+     '  and 706: '),
     # A two-step Sync without a Follow_Up.
     (TRANSCRIPT, [('"n":5,"node":"S","out":"held"', '"n":5,"node":"S","out":"completed"'), ('[5,7,8,13]', '[5,null,8,13]')],
      refused(13, 17, 702) +
-     '    the Sync is number 0, event 2, line 6, a sync at M, two-step; it was taken for one that needs no Follow_Up\n'
+     '    Sync 0, event 2, line 6, a sync at M, is two-step, and is taken for one that needs no Follow_Up\n'
+     '    so what its messages tell together is the result of no exchange\n'
      '  t1  event  2  '),
     # The first event has a flaw, of a transcript and of a schedule.
     (TRANSCRIPT, [('"65536000"', '65536000')],
@@ -667,9 +720,13 @@ no report was judged from line 1 on
 
     def test_tells_which_request_was_answered(self):
         self.begins(explain(''.join(TRANSCRIPT[:16] + TAKEN_FOR_ANOTHER)).output, refused(15, 19, 702) + """\
-    the Delay_Req that the master answered is number 0, event 8, line 12, a request at S; it was taken for number 1, \
-event 13, line 17, a request at S
-  t1  event  2  """)
+    the Delay_Resp answers Delay_Req 0, event 8, line 12, a request at S; it is taken for one to Delay_Req 1, event 13, line 17, a request at S
+    so what its messages tell together is the result of no exchange
+  t1  event  2  line  6  M  1.000000000                   Sync 0 departs; told by event 6
+      3 to 4  line 7, 8  T in the clock 2000 ns
+  t2  event  5  line  9  S  1.000004000                   a = t2 - t1 - 2000 ns = 2000 ns
+  t3  event  8  line 12  S  2.000001000                   Delay_Req 0 departs; event 14 tells when Delay_Req 1 did
+""")
 
     def test_tells_of_devices_of_the_older_standard(self):
         for changes, said, end in OLDER:
@@ -734,18 +791,16 @@ other octets than a port or a clock writes: 1 of 6 messages
 
     def test_tells_which_message_brought_a_report_of_another(self):
         self.begins(explain(''.join(TRANSCRIPT[:16] + OF_ANOTHER_EVENT)).output, refused(17, 21, 701) + """\
-    none of "tags" is 17; wanted is that the Sync (1st), the Follow_Up (2nd) or the Delay_Resp (4th) came by the event that reports
-    17 is the Follow_Up of Sync 1; the report is of Sync 0
+    none of "tags" is 17, which is the Follow_Up of Sync 1; the 2nd, of the Follow_Up, names event 7, line 11, a hear at S, \
+which is the Follow_Up of Sync 0
 1 report: 0 sound
 """)
 
     def test_tells_what_came_before_the_master_was_told(self):
         self.begins(explain(''.join(TRANSCRIPT[:16] + TOLD_AGAIN)).output, refused(14, 18, 703) + """\
-    event 13, line 17 told S, domain 0, the master M
-    the Sync is of M, domain 0; M answered the Delay_Req
-    the Sync of event 5, line 9 is earlier than that
-    the Follow_Up of event 7, line 11 is earlier than that
-    the Delay_Req of event 8, line 12 is earlier than that
+    S, domain 0, was told the master M by event 13, line 17, a setmaster at S
+    the Sync is of M, domain 0; the Delay_Req was answered by event 11, line 15, an arrive at M
+    the Sync of event 5, line 9, an arrive at S, is earlier than event 13
   t1  event  2  """)
 
     def test_tells_of_long_journeys_in_few_lines(self):
@@ -758,7 +813,7 @@ other octets than a port or a clock writes: 1 of 6 messages
 """),
             (300, 0, """\
 can't be followed back to where it was sent, or a stay on it was left twice
-    the journey of the Sync stops at event 2, line 6: it names event 0, line 4, a setmaster at S, which sent no such message
+    the journey of the Sync stops at event 2, line 6, an enter at T: it names event 0, line 4, a setmaster at S, which sent no such message
 """),
         ]:
             with self.subTest(stays=stays):
@@ -768,14 +823,13 @@ can't be followed back to where it was sent, or a stay on it was left twice
 
     def test_tells_how_much_of_a_journey_was_looked_at(self):
         for stays, message in ((300, 0), 'Sync'), ((0, 300), 'Delay_Req'):
-            output = explain(changed(staying(stays[0], 1, stays[1]), ('"hex":"0812', '"hex":"0802'))).output
-            self.assertIn(f'    of the journey of the {message} only the last 256 stays were looked at\n', output)
-            for place, said in (3, "doesn't stop in its last 256 stays; those before them weren't looked at"), (299, None):
-                output = explain(staying(stays[0], 1, stays[1], place)).output
-                if said:
-                    self.assertIn(f'    the journey of the {message} {said}\n', output)
-                else:
-                    self.assertRegex(output, f'    the {message} entered a clock by event [0-9]+, .*, and left it twice: by event [0-9]+, .* and by event [0-9]+, ')
+            with self.subTest(message=message):
+                output = explain(changed(staying(stays[0], 1, stays[1]), ('"hex":"0812', '"hex":"0802'))).output
+                self.assertIn(f'    of the stays of the {message} only the last 16 were looked at for more\n', output)
+                for place in 3, 299:
+                    output = explain(staying(stays[0], 1, stays[1], place)).output
+                    self.assertRegex(output, f'    the {message} entered a clock by event [0-9]+, .*, and left it twice: '
+                                             'by event [0-9]+, line [0-9]+ and by event [0-9]+, line [0-9]+, a leave at T\n')
 
     def test_tells_what_is_wrong_first_before_the_stays_that_are_looked_at(self):
         octets = 'octet 0 from 0, in majorSdoId and messageType, is {}; wanted is {}'
@@ -792,5 +846,5 @@ can't be followed back to where it was sent, or a stay on it was left twice
                 self.assertEqual(output.count(f'    event {event}, line {event + 4}, '), 2 if 'reading' in old else 1)
                 self.assertIn(f"""
     event {event}, line {event + 4}, a leave at T: {said}
-    of the journey of the {message} only the last 256 stays were looked at
+    of the stays of the {message} only the last 16 were looked at for more
 """, output)

@@ -9,7 +9,7 @@ use Rattle.schedule_reading.specs.declared.fault.TaskFault.{TaskFault}
 use Rattle.schedule_reading.specs.declared.fault.TaskFault.TheVariants.{Memory}
 use Rattle.schedule_reading.specs.declared.transcript.Judged.{Judged}
 use Rattle.schedule_reading.specs.Transcript.{Recorded}
-use Rattle.report_journeys.specs.declared.reported.Reported.{Reported}
+use Rattle.finding_text.specs.declared.reported.Reported.{Reported}
 use Rattle.exchange_story.specs.Counts.{Counts, counts_of, TellsCounts}
 use Rattle.exchange_story.specs.Report.{TellsReport}
 use Rattle.explain_input.specs.declared.input.FoundInput.TheVariants as found

@@ -19,7 +19,7 @@ use Rattle.schedule_reading.specs.declared.fault.TaskFault.TheVariants.{Write, W
 use Rattle.schedule_reading.specs.declared.transcript.Judged.{Judged}
 use Rattle.schedule_reading.specs.Fault.{is_write}
 use Rattle.schedule_reading.specs.Verdict.{verdict_text}
-use Rattle.report_journeys.specs.declared.reported.Reported.{Reported}
+use Rattle.finding_text.specs.declared.reported.Reported.{Reported}
 use Rattle.exchange_story.specs.Counts.{counts_of, TellsCounts}
 use Rattle.exchange_story.specs.Report.{TellsReport}
 use Rattle.explain_input.specs.declared.input.FoundInput.{FoundInput}

@@ -23,7 +23,7 @@ use explain_input::{FoundInput, Input, Taken};
 use line_flaws::Foreign;
 use network_model::WorldRefusal;
 use obstacle_text::{Before, push_clash};
-use report_journeys::Reported;
+use finding_text::Reported;
 use schedule_lines::TranscriptLine;
 use schedule_reading::{Judged, TaskFault};
 use std::alloc::{AllocError, Global};

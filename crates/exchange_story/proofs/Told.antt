@@ -8,7 +8,7 @@ use Rattle.std.proofs.lemmas.List.{drop_more, drop_all}
 use Rattle.slave_port.specs.declared.heard.Report.{Report}
 use Rattle.trace_model.specs.declared.judgement.Results.{Results}
 use Rattle.trace_model.specs.declared.verdict.Why.{Why}
-use Rattle.report_journeys.specs.declared.reported.Reported.{Reported}
+use Rattle.finding_text.specs.declared.reported.Reported.{Reported}
 use Rattle.story_words.specs.Lines.{are_lines}
 use Rattle.exchange_story.specs.Report.{begin_text, difference_text, noun_of_units, reason_text, row_text, rows_text}
 use Rattle.exchange_story.specs.Report.{all_rows_text, are_same, as_reported_text, messages_row_text, tells_otherwise}

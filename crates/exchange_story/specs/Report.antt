@@ -7,7 +7,7 @@ use Rattle.slave_port.specs.declared.heard.Report.{Report}
 use Rattle.trace_model.specs.declared.judgement.Results.{Results}
 use Rattle.trace_model.specs.declared.verdict.Why.{Why}
 use Rattle.trace_model.specs.Refusal.{code_of, words_of}
-use Rattle.report_journeys.specs.declared.reported.Reported.{Reported}
+use Rattle.finding_text.specs.declared.reported.Reported.{Reported}
 use Rattle.story_words.specs.Lines.{are_lines}
 
 -- the beginning of a report's first line

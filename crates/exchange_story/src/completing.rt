@@ -5,8 +5,8 @@ ghost use Rattle.std.specs.String.{string_bytes};
 ghost use Rattle.exchange_story.specs.Counts.{completions_text, unreported_text};
 
 use exchange_check::KeptLine;
+use finding_text::{Known, index_of};
 use network_model::Event;
-use report_journeys::{Known, index_of};
 use std::alloc::{AllocError, Global};
 use std::collections::BTreeMap;
 

@@ -1,8 +1,8 @@
 //! What reports of a slave were like before, against which results are held that are wrong.
 
 use exchange_check::Results;
+use finding_text::Reported;
 use network_model::Report;
-use report_journeys::Reported;
 use std::alloc::{AllocError, Global};
 use std::collections::BTreeMap;
 

@@ -8,11 +8,9 @@ use crate::past::Past;
 use crate::report::{push_begin, push_reason, push_results, tells_otherwise};
 use exchange_check::{Results, Why};
 use exchange_table::push_exchange;
-use reasons_met::{push_met, push_otherwise};
-use report_journeys::Case;
+use finding_text::{Case, Found, push_otherwise};
 use std::alloc::AllocError;
 use story_words::push_lines;
-use tags_met::{push_broken, push_tags};
 
 /// A report that is refused, and the transcript up to it.
 #[derive(Clone, Copy)]
@@ -66,8 +64,8 @@ impl Refused<'_> {
             return Ok(());
         };
         let mut lines = String::new(self.case.alloc);
-        let nodes = self.case.known.checker.nodes().len() as u64;
-        push_exchange(&mut lines, nodes, exchange)?;
+        let report = &self.case.reported.report;
+        push_exchange(&mut lines, self.case.known.checker, report, exchange)?;
         push_lines(text, "  t", lines.as_str())
     }
 
@@ -89,12 +87,12 @@ impl Refused<'_> {
 
     /// Appends what a reason met.
     fn push_met(&self, text: &mut String, why: Why) -> Result<(), AllocError> {
-        match (why, self.case.exchange) {
-            (Why::NoSuchLine, _) => push_tags(&self.case, text),
-            (Why::BrokenJourney, _) => push_broken(&self.case, text),
-            (Why::WrongValue, Some(_)) => self.push_values(text),
-            (_, Some(exchange)) => push_met(&self.case, text, why, exchange),
-            (_, None) => Ok(()),
+        if why == Why::WrongValue {
+            return self.push_values(text);
+        }
+        match Found::of(&self.case, why) {
+            Some(found) => found.push(text),
+            None => Ok(()),
         }
     }
 }

@@ -7,8 +7,8 @@ ghost use Rattle.exchange_story.specs.Report.{row_text, rows_text, side_text, te
 ghost use Rattle.exchange_story.specs.Counts.{is_sound};
 
 use exchange_check::{Results, Why};
+use finding_text::Reported;
 use network_model::Report;
-use report_journeys::Reported;
 use std::alloc::AllocError;
 
 /// Whether no reason stands against a report.

@@ -12,9 +12,9 @@ use crate::refused::Refused;
 use crate::report::{is_sound, push_sound};
 use crate::tally::Tally;
 use exchange_check::{Checker, Evidence, KeptLine, TraceLine, TraceOut};
+use finding_text::{Case, Known, Reported, index_of};
 use message_difference::{Compared, Differing};
 use network_model::NodeSpec;
-use report_journeys::{Case, Known, Reported, index_of};
 use std::alloc::{AllocError, Global};
 use std::marker::Model;
 

@@ -1,6 +1,7 @@
 //! The lines of a report, for a person: when its messages departed, were in clocks and arrived.
 
-use exchange_check::{Exchange, ExchangeLine, Leg, Stay};
+use exchange_check::{Checker, Exchange, ExchangeLine, Leg, Stay};
+use network_model::Report;
 use ptp_units::ScaledTime;
 use std::alloc::AllocError;
 use std::fmt;
@@ -193,14 +194,65 @@ const REQUEST: Letters = Letters {
     message: "Delay_Req",
 };
 
-/// Appends the journey of a message, with the event that told when it departed.
+/// An event that tells when a message departed, and the event that sent this message, where there is one.
+#[derive(Clone, Copy)]
+struct Telling {
+    event: u64,
+    sent: Option<u64>,
+}
+
+/// The Follow_Up, which tells of the last two-step Sync before it.
+fn follow_up(checker: &Checker, exchange: &Exchange) -> Option<Telling> {
+    let event = exchange.follow?;
+    let sent = match checker.line_at(event) {
+        Some(line) => line.last_sync,
+        None => None,
+    };
+    Some(Telling { event, sent })
+}
+
+/// The event by which the slave learned when the Delay_Req of the report departed.
+fn stamped(report: &Report, exchange: &Exchange) -> Option<Telling> {
+    Some(Telling {
+        event: exchange.stamped?,
+        sent: Some(report.request_tag),
+    })
+}
+
+/// Appends which event tells when a message departed, or of which other message it tells.
+fn push_told(
+    text: &mut String,
+    checker: &Checker,
+    message: &'static str,
+    departed: u64,
+    telling: Telling,
+) -> Result<(), AllocError> {
+    let Telling { event, sent } = telling;
+    if sent == Some(departed) {
+        return write!(text, "; told by event {event}");
+    }
+    let other = match sent {
+        Some(sent) => checker.line_at(sent),
+        None => None,
+    };
+    match other {
+        Some(line) => write!(
+            text,
+            "; event {event} tells when {message} {} did",
+            line.sequence.0
+        ),
+        None => write!(text, "; event {event} tells of no {message}"),
+    }
+}
+
+/// Appends the journey of a message, with the event that tells when it departed.
 fn push_leg(
     text: &mut String,
-    nodes: u64,
+    checker: &Checker,
     columns: Columns,
     letters: Letters,
     leg: &Leg,
-    told: Option<u64>,
+    telling: Option<Telling>,
 ) -> Result<(), AllocError> {
     let Letters {
         departed,
@@ -208,6 +260,7 @@ fn push_leg(
         bracket,
         message,
     } = letters;
+    let nodes = nodes_of(checker);
     let stamp = Stamp {
         name: departed,
         at: &leg.departed,
@@ -219,10 +272,10 @@ fn push_leg(
         "{stamp}  {message} {} departs",
         leg.departed.sequence.0
     )?;
-    match told {
-        Some(event) => write!(text, "; told by event {event}\n")?,
-        None => text.push('\n')?,
+    if let Some(telling) = telling {
+        push_told(text, checker, message, leg.departed.number, telling)?;
     }
+    text.push('\n')?;
     push_stays(text, nodes, leg)?;
     let stamp = Stamp {
         name: arrived,
@@ -238,16 +291,21 @@ fn push_leg(
     )
 }
 
-/// Appends the journeys of the Sync and of the Delay_Req of a report.
-pub fn push_exchange(text: &mut String, nodes: u64, exchange: &Exchange) -> Result<(), AllocError> {
-    let columns = Columns::of(nodes, exchange);
-    push_leg(text, nodes, columns, SYNC, &exchange.sync, exchange.follow)?;
-    push_leg(
-        text,
-        nodes,
-        columns,
-        REQUEST,
-        &exchange.request,
-        exchange.stamped,
-    )
+/// How many nodes stand before the first event.
+fn nodes_of(checker: &Checker) -> u64 {
+    checker.nodes().len() as u64
+}
+
+/// Appends the journeys of the Sync and of the Delay_Req of a report, whose exchange this is.
+pub fn push_exchange(
+    text: &mut String,
+    checker: &Checker,
+    report: &Report,
+    exchange: &Exchange,
+) -> Result<(), AllocError> {
+    let columns = Columns::of(nodes_of(checker), exchange);
+    let follow = follow_up(checker, exchange);
+    push_leg(text, checker, columns, SYNC, &exchange.sync, follow)?;
+    let stamped = stamped(report, exchange);
+    push_leg(text, checker, columns, REQUEST, &exchange.request, stamped)
 }

@@ -1,8 +1,7 @@
 //! What is known of the lines of a transcript: by its checker of those that count, and by its evidence of others.
 
-use exchange_check::{Checker, Evidence};
-use network_model::{Event, Name};
-use ptp_units::Seq;
+use exchange_check::{Came, Checker, Evidence};
+use network_model::{Event, Name, NodeKind};
 use std::fmt;
 use std::fmt::{Display, Formatter};
 use story_words::AnEvent;
@@ -29,24 +28,42 @@ impl Display for Place {
     }
 }
 
-/// The event that a number names: where it stands, what it is and at which node.
+/// The event that a number names: where it stands, what it is, at which node, and what came of it where it doesn't count.
 #[derive(Clone, Copy)]
 pub struct Named {
     place: Place,
     event: Option<Event>,
+    came: Option<Came>,
+}
+
+impl Named {
+    /// The same without what came of it.
+    pub(crate) fn without_outcome(self) -> Named {
+        Named { came: None, ..self }
+    }
 }
 
 impl Display for Named {
     fn fmt<W: fmt::Write>(&self, f: &mut Formatter<W>) -> fmt::Result {
-        match &self.event {
-            Some(event) => write!(
+        let Some(event) = &self.event else {
+            return write!(
                 f,
-                "{}, {} at {}",
-                self.place,
-                AnEvent(event),
-                event.node().text()
-            ),
-            None => write!(f, "event {}, which isn't there", self.place.number),
+                "event {}, which comes behind the report or isn't there",
+                self.place.number
+            );
+        };
+        write!(
+            f,
+            "{}, {} at {}",
+            self.place,
+            AnEvent(event),
+            event.node().text()
+        )?;
+        match self.came {
+            None => Ok(()),
+            Some(Came::Refused(code)) => write!(f, ", which was refused with {code}"),
+            Some(Came::Ignored(code)) => write!(f, ", which was ignored with {code}"),
+            Some(Came::Otherwise) => f.write_str(", which can't have come out so"),
         }
     }
 }
@@ -74,36 +91,34 @@ impl Known<'_> {
         Named {
             place: self.place(number),
             event: self.event_at(number),
+            came: match self.evidence.uncounted_at(number) {
+                Some(uncounted) => Some(uncounted.came),
+                None => None,
+            },
         }
-    }
-
-    /// The number that an event drew.
-    pub fn sequence_at(self, number: u64) -> Option<Seq> {
-        match self.checker.line_at(number) {
-            Some(line) => Some(line.sequence),
-            None => None,
-        }
-    }
-
-    /// The two-step Sync that the Follow_Up of an event is of.
-    pub fn followed_by(self, follow: u64) -> Option<u64> {
-        match self.checker.line_at(follow) {
-            Some(line) => line.last_sync,
-            None => None,
-        }
-    }
-
-    /// The event that sent the message which entered a clock or left it by this one.
-    pub fn origin_of(self, number: u64) -> Option<u64> {
-        let copy = match self.checker.line_at(number)?.event.entered_copy() {
-            Some(copy) => copy,
-            None => number,
-        };
-        self.checker.origin_of(copy)
     }
 }
 
 /// The place of a node, from 0.
 pub fn index_of(checker: &Checker, name: &Name) -> Option<u64> {
     Some(checker.nodes().index_of(name)? as u64)
+}
+
+/// The name of a port, and its domain.
+#[derive(Clone, Copy)]
+pub(crate) struct Port<'a>(pub(crate) Known<'a>, pub(crate) Name);
+
+impl Display for Port<'_> {
+    fn fmt<W: fmt::Write>(&self, f: &mut Formatter<W>) -> fmt::Result {
+        f.write_str(self.1.text())?;
+        let Some(node) = self.0.checker.nodes().get(&self.1) else {
+            return Ok(());
+        };
+        match &node.kind {
+            NodeKind::Master { config, .. } | NodeKind::Slave { config, .. } => {
+                write!(f, ", domain {}", config.domain)
+            }
+            NodeKind::Clock => Ok(()),
+        }
+    }
 }
