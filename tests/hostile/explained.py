@@ -6,13 +6,13 @@ from fractions import Fraction
 from shown import lines_of
 from texts import FAULT, VERDICT
 
-BEGIN = re.compile(r'event ([0-9]+), line ([0-9]+), slave ([A-Za-z0-9_-]+): (?:sound|refused, (70[1-8]): .*)')
+BEGIN = re.compile(r'event ([0-9]+), line ([0-9]+): the report of ([A-Za-z0-9_-]+) is refused, (70[1-8]): .*')
 FURTHER = re.compile(r'  and (70[1-8]): .*')
 COUNT = re.compile(r'([0-9]+) reports?: ([0-9]+) sound')
 AGAINST = re.compile(r'  (70[1-8]) stands against ([0-9]+): .*')
 ASIDE = re.compile(r'were octets left aside \(708\), ([0-9]+) of ([0-9]+) reports? would be sound')
-# How many are right by the messages, and how many by the readings.
-RIGHT = re.compile(r'right by the (?:messages \(the device\)|readings \(device and network\)): ([0-9]+) of ([0-9]+) reports?')
+# How many have the results by the messages, and how many those by the readings.
+RIGHT = re.compile(r'results equal to those by the (?:messages that came to the slave|readings of the clocks): ([0-9]+) of ([0-9]+) reports?')
 # In place of that, where a field that is read differs in so many messages.
 READ = re.compile(r"octets can't be left aside \(708\): a field that a slave or a master reads differs in [1-9][0-9]* messages?")
 KEYS = ['by_messages', 'by_readings', 'error', 'event', 'line', 'node', 'octets', 'offset2', 'path2', 'reasons', 'tags', 'time']
@@ -92,7 +92,7 @@ def stories(text):
     for line in text.splitlines():
         begin, further = BEGIN.fullmatch(line), FURTHER.fullmatch(line)
         # behind the two results lines say which message tells otherwise
-        behind = not begin and (behind or line.startswith('  offset2  reported '))
+        behind = not begin and (behind or line.startswith('  offset  reported '))
         if begin:
             told.append((int(begin[1]), int(begin[2]), begin[3], []))
         reason = begin[4] if begin else further[1] if further else None
@@ -127,7 +127,7 @@ def counts_owed(found, is_read, by_messages):
 
 def mistold(found, text, is_first):
     """What is wrong with the text of these judgements, or of the first alone that is refused, in words."""
-    wanted = [(judged['event'], judged['line'], judged['node'], judged['reasons']) for judged in found if judged['reasons'] or not is_first]
+    wanted = [(judged['event'], judged['line'], judged['node'], judged['reasons']) for judged in found if judged['reasons']]
     told, met = stories(text)
     if told != (wanted[:1] if is_first else wanted):
         yield f'{told} is told, and {wanted} is judged'
@@ -158,7 +158,7 @@ def misexplained(text, checked, replayed, start):
     by_messages = counted[3][0][0] if counted[3] else 0
     owed = counts_owed(found, None in counted[2], by_messages)
     if not sum(not judged['reasons'] for judged in found) <= by_messages <= len(found) and counted[3]:
-        yield f'{by_messages} of {len(found)} reports are right by the messages'
+        yield f'{by_messages} of {len(found)} reports have the results by the messages'
     if found and counted != owed:
         yield f'{counted} is counted, and {owed} is judged'
     if not told.endswith(b'verdict: ' + checked[1]):

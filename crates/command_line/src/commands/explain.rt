@@ -50,16 +50,16 @@ them, whoever wrote these; the lines tell which. Standard output says, as text f
                                   how many more there are. No report is judged after the first
   of input of another kind        which it is, and the command that makes of it what is wanted
   of a schedule                   which event its network refuses, and why
-  of each report of a transcript  each reason that stands against it, the journeys of its Sync and its
+  of each report that is refused  each reason that stands against it, the journeys of its Sync and its
                                   Delay_Req, and by how much its results differ from those of the readings;
                                   where the messages told the slave something else, the results by these,
-                                  and which message does
-  at the end                      how many reports there are, how many each reason stands against, how many
-                                  are right by the messages and how many by the readings, what is wrong
-                                  with octets, how many completions have no report, and the verdict of
-                                  'ptpx check'
+                                  and which message does. A sound one has no line but with --json
+  at the end                      how many reports there are, how many are sound, how many each reason
+                                  stands against, how many have the results by the messages and how many
+                                  those by the readings, what is wrong with octets, how many completions
+                                  have no report, and the verdict of 'ptpx check'
 What is said of a line goes out before the next is read. The line
-  event 13, line 17, slave S: refused, 706: the two results aren't those of the readings
+  event 13, line 17: the report of S is refused, 706: the two results aren't those of the readings
 is of the report with n 13, at line 17 of the input; lines count from 1. With --first, of all reports only
 the first that is refused is told.
 
