@@ -475,17 +475,22 @@ def pair(results):
 def judged(exchange):
     """What is owed of a report as JSON."""
     wrong, last = exchange.readings != exchange.reported, exchange.events[-1]
+    read = [place for place in sorted(TOLD) if any(way.read for way in exchange.case.ways if way.message == place)]
     owed = {
+        'brackets': {name: decimals(half * UNIT / 2) for name, half in zip('ab', halves(exchange.readings))},
         'by_messages': pair(exchange.messages),
         'by_readings': pair(exchange.readings),
         'error': {'by_messages': error(exchange.reported, exchange.messages),
-                  'by_readings': error(exchange.reported, exchange.readings)} if wrong else None,
+                  'by_readings': error(exchange.reported, exchange.readings)},
         'event': last['n'],
         'line': len(NODES) + last['n'] + 1,
         'node': 'S',
-        'octets': 'told' if any(way.read for way in exchange.case.ways) else 'other',
-        **pair(exchange.reported),
+        'octets': 'told' if read else 'other',
+        'offset2': str(exchange.reported[0]),
+        'otherwise': exchange.events[read[0]]['n'] if read else None,
+        'path2': str(exchange.reported[1]),
         'reasons': [706, 708] if wrong else [708],
+        **{f't{number}': exchange.events[place]['reading'] for number, place in enumerate((SYNC, 3, DELAY_REQ, DELAY_RESP), 1)},
         'tags': last['tags'],
         # the Delay_Req left behind the Sync's arrival
         'time': exchange.events[DELAY_REQ]['reading'],
@@ -705,7 +710,7 @@ class Bent(unittest.TestCase):
         for event in first.events[-1], second.events[-1]:
             events[events.index(event)] = dict(event, offset2='7', path2='9')
         text = explain(transcript([*NODES, *BEGIN, *events])).output
-        self.assertIn(f': refused, 706: {REASON[706]}\n    the results are equal to those of the report before, {first.place(-1)}, as they were reported there\n',
+        self.assertIn(f' is refused, 706: {REASON[706]}\n    the results are equal to those of the report before, {first.place(-1)}, as they were reported there\n',
                       text)
 
     def test_names_the_way_in_which_results_are_wrong_by_the_messages(self):
@@ -713,7 +718,7 @@ class Bent(unittest.TestCase):
         late = Exchange(EXCHANGE, 0, case(LATE, EARLY))
         event = dict(late.events[-1], offset2=str(late.messages[1]), path2=str(late.messages[0]))
         text = explain(transcript([*NODES, *BEGIN, *late.events[:-1], event])).output
-        self.assertIn(f": refused, 706: {REASON[706]}\n    the results are equal to those by the messages, with offset2 and path2 in each other's place\n", text)
+        self.assertIn(f" is refused, 706: {REASON[706]}\n    the results are equal to those by the messages, with offset2 and path2 in each other's place\n", text)
 
     def test_names_the_master_that_answered(self):
         another = dict(NODES[0], id='001122fffe334466', node='N')
@@ -721,7 +726,7 @@ class Bent(unittest.TestCase):
         answer = len(BEGIN) + DELAY_RESP
         events[answer] = with_octets(events[answer], Way(DELAY_RESP, 20, another['id']), EARLY, node='N')
         text = explain(transcript([*NODES, another, *events])).output
-        self.assertIn(': refused, 703: ', text)
+        self.assertIn(' is refused, 703: ', text)
         # b is 1 ns less
         rows = ''.join(map(result_row, ('offset', 'path'), (131072000, 131072000), (131072000, 131072000)))
         self.assertEqual(behind_moments(text), rows + messages_row((2001 * 65536, 1999 * 65536), False) +
@@ -734,6 +739,6 @@ class Bent(unittest.TestCase):
                 judged = json.loads(explain(transcript(lines), '--json').output.splitlines()[-1])
                 self.assertEqual((judged['reasons'], judged['by_messages'], judged['time']), ([702], pair(messages), time))
                 text = explain(transcript(lines)).output
-                self.assertIn(': refused, 702: ', text)
+                self.assertIn(' is refused, 702: ', text)
                 rows = ''.join(map(result_row, ('offset', 'path'), reported, reported))
                 self.assertEqual(behind_moments(text), rows + messages_row(messages, False))

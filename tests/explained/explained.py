@@ -68,14 +68,16 @@ verdict: refused event 13: 706
 """
 
 # The same as JSON, and what is said so of the sound report.
+MOMENTS = '"t1":[1,0,0],"t2":[1,4000,0],"t3":[2,1000,0],"t4":[2,4500,16384],'
 JUDGED = (
-    '{"by_messages":{"offset2":"131072000","path2":"131072000"},"by_readings":{"offset2":"131072000","path2":"131072000"},'
+    '{"brackets":{"a":"2000","b":"0"},"by_messages":{"offset2":"131072000","path2":"131072000"},"by_readings":{"offset2":"131072000","path2":"131072000"},'
     '"error":{"by_messages":{"offset":"0.00000762939453125","path":"0"},"by_readings":{"offset":"0.00000762939453125","path":"0"}},'
-    '"event":13,"line":17,"node":"S","octets":null,"offset2":"131072001","path2":"131072000","reasons":[706],"tags":[5,7,8,13],"time":[2,1000,0]}\n')
+    '"event":13,"line":17,"node":"S","octets":null,"offset2":"131072001","otherwise":null,"path2":"131072000","reasons":[706],'
+    + MOMENTS + '"tags":[5,7,8,13],"time":[2,1000,0]}\n')
 JUDGED_SOUND = (
-    '{"by_messages":{"offset2":"131072000","path2":"131072000"},"by_readings":{"offset2":"131072000","path2":"131072000"},'
-    '"error":null,"event":13,"line":17,"node":"S","octets":null,"offset2":"131072000","path2":"131072000","reasons":[],"tags":[5,7,8,13],'
-    '"time":[2,1000,0]}\n')
+    '{"brackets":{"a":"2000","b":"0"},"by_messages":{"offset2":"131072000","path2":"131072000"},"by_readings":{"offset2":"131072000","path2":"131072000"},'
+    '"error":{"by_messages":{"offset":"0","path":"0"},"by_readings":{"offset":"0","path":"0"}},"event":13,"line":17,"node":"S","octets":null,'
+    '"offset2":"131072000","otherwise":null,"path2":"131072000","reasons":[],' + MOMENTS + '"tags":[5,7,8,13],"time":[2,1000,0]}\n')
 SOUND = '1 report: 1 sound\nverdict: accepted 1\n'
 
 # The line of the first event, at a node that no name can have.

@@ -15,7 +15,8 @@ ASIDE = re.compile(r'were octets left aside \(708\), ([0-9]+) of ([0-9]+) report
 RIGHT = re.compile(r'results equal to those by the (?:messages that came to the slave|readings of the clocks): ([0-9]+) of ([0-9]+) reports?')
 # In place of that, where a field that is read differs in so many messages.
 READ = re.compile(r"octets can't be left aside \(708\): a field that a slave or a master reads differs in [1-9][0-9]* messages?")
-KEYS = ['by_messages', 'by_readings', 'error', 'event', 'line', 'node', 'octets', 'offset2', 'path2', 'reasons', 'tags', 'time']
+TIMES = ['t1', 't2', 't3', 't4']
+KEYS = ['brackets', 'by_messages', 'by_readings', 'error', 'event', 'line', 'node', 'octets', 'offset2', 'otherwise', 'path2', 'reasons', *TIMES, 'tags', 'time']
 ALONE = [701, 704]
 TOGETHER = [702, 703, 705, 707, 706, 708]
 
@@ -44,8 +45,8 @@ def is_later(explained, checked):
 
 def wrong_errors(judged):
     """What is wrong with the errors of a judgement, in words: nanoseconds of twice 2^-16 ns, against each of the two results."""
-    if (judged['error'] is None) == (706 in judged['reasons']):
-        return [f'error {judged["error"]} with reasons {judged["reasons"]}']
+    if (judged['error'] is None) != (judged['by_readings'] is None):
+        return [f'error {judged["error"]} with results by the readings {judged["by_readings"]}']
     if judged['error'] is None:
         return []
     owed = {key: None if judged[key] is None else
@@ -53,6 +54,19 @@ def wrong_errors(judged):
             for key in ('by_messages', 'by_readings')}
     told = {key: errors and {name: Fraction(text) for name, text in errors.items()} for key, errors in judged['error'].items()}
     return [] if told == owed else [f'error {judged["error"]}']
+
+
+def wrong_exchange(judged):
+    """What is wrong with the brackets and the moments of a judgement, and with which message tells otherwise, in words."""
+    results = judged['by_readings']
+    if len({results is None, judged['brackets'] is None, *(judged[key] is None for key in TIMES)}) > 1:
+        yield f'brackets {judged["brackets"]} and moments {[judged[key] for key in TIMES]} with results by the readings {results}'
+    elif results:
+        offset, path = (Fraction(int(results[key]), 131072) for key in ('offset2', 'path2'))
+        if {key: Fraction(text) for key, text in judged['brackets'].items()} != {'a': path + offset, 'b': path - offset}:
+            yield f'brackets {judged["brackets"]} with results by the readings {results}'
+    if (judged['otherwise'] is None) == (judged['octets'] == 'told'):
+        yield f'octets {judged["octets"]}, and the message of {judged["otherwise"]} tells otherwise'
 
 
 def judgements(output):
@@ -78,7 +92,7 @@ def judgements(output):
             wrong.append(f'octets {judged["octets"]} with reasons {reasons}')
         if judged['octets'] == 'other' and 702 not in reasons and 707 not in reasons and judged['by_messages'] != judged['by_readings']:
             wrong.append(f'other octets, and results by the messages {judged["by_messages"]}')
-        wrong += wrong_errors(judged)
+        wrong += [*wrong_errors(judged), *wrong_exchange(judged)]
         same = judged['by_readings'] == {key: judged[key] for key in ('offset2', 'path2')}
         if judged['by_readings'] and same == (706 in reasons):
             wrong.append(f'results by the readings {judged["by_readings"]} with reasons {reasons}')
@@ -146,7 +160,7 @@ def misexplained(text, checked, replayed, start):
             yield f'{name} ends in {answer}, check in {checked[0]} {checked[2]!r}, replay in {replayed[0]} {replayed[2]!r}'
     found, wrong = judgements(as_json[1])
     yield from wrong
-    refused = [line for line in lines_of(as_json[1]) if b',"reasons":[],"tags":' not in line]
+    refused = [line for line in lines_of(as_json[1]) if b',"reasons":[],' not in line]
     if lines_of(first[1]) != refused[:1]:
         yield f'with --first {first[1]!r} is told'
     yield from mistold(found, told.decode(), False)

@@ -65,19 +65,22 @@ the first that is refused is told.
 
 With --json standard output has a line for each report, before the next line is read, or with --first for
 that report alone, and nothing else:
-  {"by_messages":{"offset2":"131072000","path2":"131072000"},"by_readings":{"offset2":"131072000",
-  "path2":"131072000"},"error":{"by_messages":{"offset":"0.5","path":"0"},"by_readings":{"offset":"0.5",
-  "path":"0"}},"event":13,"line":17,"node":"S","octets":null,"offset2":"131137536","path2":"131072000",
-  "reasons":[706],"tags":[5,7,8,13],"time":[2,1000,0]}
+  {"brackets":{"a":"2000","b":"0"},"by_messages":{"offset2":"131072000","path2":"131072000"},
+  "by_readings":{"offset2":"131072000","path2":"131072000"},"error":{"by_messages":{"offset":"0.5",
+  "path":"0"},"by_readings":{"offset":"0.5","path":"0"}},"event":13,"line":17,"node":"S","octets":null,
+  "offset2":"131137536","otherwise":null,"path2":"131072000","reasons":[706],"t1":[1,0,0],
+  "t2":[1,4000,0],"t3":[2,1000,0],"t4":[2,4500,16384],"tags":[5,7,8,13],"time":[2,1000,0]}
 in one line. reasons are all that stand against the report, none where it is sound: 701 alone, or else 704
 alone, or else each that applies of 702, 703, 705, 707, 706 and 708, in this order. by_readings is what
 the results are by the readings, by_messages what they are by what the messages told the slave and its own
-readings; both are null where 701 or 704 stands, by_messages also where one of these messages can't be
-read. error is how many nanoseconds the results are too much against each of the two, null where 706
-doesn't stand. octets is "told" where 708 stands and a field differs that a slave or a master reads (behind
-a two-step transparent clock no finding), and "other" where only fields do that nobody here reads. offset2
-is twice offsetFromMaster and path2 twice meanPathDelay, in units of 2^-16 ns. time is what the slave read
-at the later of the Sync's arrival and the Delay_Req's departure.
+readings; both are null where 701 or 704 stands, as are error, brackets and all times, by_messages also
+where one of these messages can't be read. error is how many nanoseconds the results are too much against
+each of the two. a is t2 - t1 less the time in clocks, b is t4 - t3 less it, in nanoseconds, and t1 to t4
+are what the clocks read. octets is "told" where 708 stands and a field differs that a slave or a master
+reads (behind a two-step transparent clock no finding), and otherwise is then the event that made the first
+such message; "other" where only fields differ that nobody here reads. offset2 is twice offsetFromMaster
+and path2 twice meanPathDelay, in units of 2^-16 ns. time is what the slave read at the later of the Sync's
+arrival and the Delay_Req's departure.
 
 Reasons and faults are those that 'ptpx check --help' lists, and of a schedule those of 'ptpx replay --help'.
 The first fault goes as 'ptpx: fault 806 at line 3' to standard error.
