@@ -422,6 +422,10 @@ def which(exchange):
         yield from clocks(response_came, 'tells', more)
 
 
+# What is said below 706 where the results are equal to those by the messages.
+EQUAL = '    the results are equal to those by the messages that came to the slave\n'
+
+
 def above(exchange):
     """What is owed above the moments of a report: the reasons, and what is said of each message."""
     lines, numbers = [], [708] if exchange.readings == exchange.reported else [706, 708]
@@ -434,14 +438,27 @@ def above(exchange):
         said, is_read = sentences(found, wanted)
         assert said and is_read == any(way.read for way in exchange.case.ways if way.message == place), (said, exchange.case)
         lines += [f'    {exchange.place(place)}, {exchange.made(place)}: {sentence}\n' for sentence in said]
-    reasons = '  and '.join(f'{number}: {REASON[number]}\n' for number in numbers)
-    return f'{exchange.place(-1)}, slave S: refused, {reasons}' + ''.join(lines)
+    met = {706: EQUAL if exchange.messages == exchange.reported else '', 708: ''.join(lines)}
+    reasons = '  and '.join(f'{number}: {REASON[number]}\n{met[number]}' for number in numbers)
+    return f'{exchange.place(-1)}: the report of S is refused, {reasons}'
+
+
+def in_nanoseconds(result):
+    """Half of twice a result in units of 2^-16 ns."""
+    return f'{decimals(result * UNIT / 2)} ns'
 
 
 def result_row(name, reported, wanted):
     more = reported - wanted
-    excess = f'  {texts.counted(abs(more), "unit")} of 2^-16 ns too {"much" if more > 0 else "little"}' if more else ''
-    return f'  {name:7}  reported {reported}  by the readings {wanted}{excess}\n'
+    excess = f'  {in_nanoseconds(abs(more))} too {"much" if more > 0 else "little"}' if more else ''
+    raw = f'{reported}, wanted {wanted}' if more else reported
+    return f'  {name:6}  reported {in_nanoseconds(reported)}  by the readings {in_nanoseconds(wanted)}{excess}  ("{name}2" {raw})\n'
+
+
+def messages_row(messages, same):
+    offset2, path2 = messages
+    return (f'  by the messages  offset {in_nanoseconds(offset2)}  path {in_nanoseconds(path2)}{"  as reported" if same else ""}'
+            f'  ("offset2" {offset2}, "path2" {path2})\n')
 
 
 def error(reported, wanted):
@@ -458,17 +475,22 @@ def pair(results):
 def judged(exchange):
     """What is owed of a report as JSON."""
     wrong, last = exchange.readings != exchange.reported, exchange.events[-1]
+    read = [place for place in sorted(TOLD) if any(way.read for way in exchange.case.ways if way.message == place)]
     owed = {
+        'brackets': {name: decimals(half * UNIT / 2) for name, half in zip('ab', halves(exchange.readings))},
         'by_messages': pair(exchange.messages),
         'by_readings': pair(exchange.readings),
         'error': {'by_messages': error(exchange.reported, exchange.messages),
-                  'by_readings': error(exchange.reported, exchange.readings)} if wrong else None,
+                  'by_readings': error(exchange.reported, exchange.readings)},
         'event': last['n'],
         'line': len(NODES) + last['n'] + 1,
         'node': 'S',
-        'octets': 'told' if any(way.read for way in exchange.case.ways) else 'other',
-        **pair(exchange.reported),
+        'octets': 'told' if read else 'other',
+        'offset2': str(exchange.reported[0]),
+        'otherwise': exchange.events[read[0]]['n'] if read else None,
+        'path2': str(exchange.reported[1]),
         'reasons': [706, 708] if wrong else [708],
+        **{f't{number}': exchange.events[place]['reading'] for number, place in enumerate((SYNC, 3, DELAY_REQ, DELAY_RESP), 1)},
         'tags': last['tags'],
         # the Delay_Req left behind the Sync's arrival
         'time': exchange.events[DELAY_REQ]['reading'],
@@ -478,12 +500,10 @@ def judged(exchange):
 
 def below(exchange):
     """What is owed below the moments of a report: the results, those by the messages where they are others, and which message tells otherwise."""
-    rows = ''.join(map(result_row, ('offset2', 'path2'), exchange.reported, exchange.readings))
+    rows = ''.join(map(result_row, ('offset', 'path'), exchange.reported, exchange.readings))
     if exchange.messages in (None, exchange.readings):
         return rows
-    offset2, path2 = exchange.messages
-    same = '  as reported' if exchange.messages == exchange.reported else ''
-    return f'{rows}  by the messages  offset2 {offset2}  path2 {path2}{same}\n' + ''.join(which(exchange))
+    return rows + messages_row(exchange.messages, exchange.messages == exchange.reported) + ''.join(which(exchange))
 
 
 # An exchange whose Sync and whose Delay_Req take so much longer, in nanoseconds, so that the results of each are others: of one whose a and b are
@@ -520,17 +540,17 @@ def rounded(results):
 # In which way the results of the exchange of this number are wrong, which it is known to be, and what is said of it: of those by the readings, of
 # all exchanges up to it, and of the events by which their Sync and their Delay_Resp were heard.
 WRONG = [
-    (2, lambda all: rounded(all[2]), 'these are the results by the readings, in whole nanoseconds: both errors are less than 1 ns'),
-    (1, lambda all: (all[1][1], all[1][0]), "these are the results by the readings, with offset2 and path2 in each other's place"),
-    (1, lambda all: (-all[1][0], all[1][1]), 'these are the results by the readings, with the sign of offset2 turned'),
-    (1, lambda all: (all[1][0], -all[1][1]), 'these are the results by the readings, with the sign of path2 turned'),
-    (1, lambda all: (-all[1][0], -all[1][1]), 'these are the results by the readings, with both signs turned'),
-    (3, lambda all: all[2], 'these are the results of the report before, event {report[2]}, line {report_line[2]}, by the readings'),
+    (2, lambda all: rounded(all[2]), 'the results are whole nanoseconds, each less than 1 ns from that by the readings'),
+    (1, lambda all: (all[1][1], all[1][0]), "the results are equal to those by the readings, with offset2 and path2 in each other's place"),
+    (1, lambda all: (-all[1][0], all[1][1]), 'the results are equal to those by the readings, with the sign of offset2 turned'),
+    (1, lambda all: (all[1][0], -all[1][1]), 'the results are equal to those by the readings, with the sign of path2 turned'),
+    (1, lambda all: (-all[1][0], -all[1][1]), 'the results are equal to those by the readings, with both signs turned'),
+    (3, lambda all: all[2], 'the results are equal to those of the report before, event {report[2]}, line {report_line[2]}, by the readings'),
     (3, lambda all: of_halves(halves(all[3])[0], halves(all[2])[1]),
-     'these are the results by the readings of another pair: of the Sync of event {sync[3]}, line {sync_line[3]} and of the Delay_Resp of '
+     'the results are equal to those by the readings of another pair: of the Sync of event {sync[3]}, line {sync_line[3]} and of the Delay_Resp of '
      'event {report[2]}, line {report_line[2]}'),
     (4, lambda all: of_halves(halves(all[1])[0], halves(all[4])[1]),
-     'these are the results by the readings of another pair: of the Sync of event {sync[1]}, line {sync_line[1]} and of the Delay_Resp of '
+     'the results are equal to those by the readings of another pair: of the Sync of event {sync[1]}, line {sync_line[1]} and of the Delay_Resp of '
      'event {report[4]}, line {report_line[4]}'),
     (4, lambda all: of_halves(halves(all[0])[0], halves(all[4])[1]), None),    # of a half that is too old
     (2, lambda all: (all[2][0] + 1, all[2][1]), None),
@@ -619,8 +639,8 @@ def end(bent):
     passed = len(bent) - 1
     unreported = f'{texts.counted(passed, "completion")} had no report, though both halves of one were there; the verdict says nothing of these\n'
     verdict = 708 if first.reported == first.readings else 706
-    return (f'{reports}: 0 sound\n{against}right by the messages (the device): {told} of {reports}\n'
-            f'right by the readings (device and network): {len(bent) - wrong} of {reports}\n'
+    return (f'{reports}: 0 sound\n{against}results equal to those by the messages that came to the slave: {told} of {reports}\n'
+            f'results equal to those by the readings of the clocks: {len(bent) - wrong} of {reports}\n'
             + fields_that_differ(messages) + other_octets(messages) + (unreported if passed else '') + f"verdict: refused event {first.events[-1]['n']}: {verdict}\n")
 
 
@@ -630,7 +650,7 @@ def transcript(events):
 
 def behind_moments(text):
     """What stands behind the moments of a report, up to the next report or to how many there are."""
-    lines = text[text.index('  offset2  reported '):].splitlines(True)
+    lines = text[text.index('  offset  reported '):].splitlines(True)
     return ''.join(itertools.takewhile(lambda line: line.startswith('  '), lines))
 
 
@@ -682,7 +702,7 @@ class Bent(unittest.TestCase):
                 text = explain(transcript([*NODES, *BEGIN, *events])).output
                 place = f"event {places['report'][number]}, line {lines['report_line'][number]}"
                 sentence = '' if said is None else f'    {said.format(**places, **lines)}\n'
-                self.assertIn(f'{place}, slave S: refused, 706: {REASON[706]}\n{sentence}  t1  ', text)
+                self.assertIn(f'{place}: the report of S is refused, 706: {REASON[706]}\n{sentence}  t1  ', text)
 
     def test_names_the_results_that_were_reported_before(self):
         first, second = (Exchange(with_longer(EXCHANGE, *longer), by, case()) for by, longer in enumerate(LONGER[:2]))
@@ -690,7 +710,7 @@ class Bent(unittest.TestCase):
         for event in first.events[-1], second.events[-1]:
             events[events.index(event)] = dict(event, offset2='7', path2='9')
         text = explain(transcript([*NODES, *BEGIN, *events])).output
-        self.assertIn(f': refused, 706: {REASON[706]}\n    these are the results of the report before, {first.place(-1)}, as they were reported there\n',
+        self.assertIn(f' is refused, 706: {REASON[706]}\n    the results are equal to those of the report before, {first.place(-1)}, as they were reported there\n',
                       text)
 
     def test_names_the_way_in_which_results_are_wrong_by_the_messages(self):
@@ -698,7 +718,7 @@ class Bent(unittest.TestCase):
         late = Exchange(EXCHANGE, 0, case(LATE, EARLY))
         event = dict(late.events[-1], offset2=str(late.messages[1]), path2=str(late.messages[0]))
         text = explain(transcript([*NODES, *BEGIN, *late.events[:-1], event])).output
-        self.assertIn(f": refused, 706: {REASON[706]}\n    these are the results by the messages, with offset2 and path2 in each other's place\n", text)
+        self.assertIn(f" is refused, 706: {REASON[706]}\n    the results are equal to those by the messages, with offset2 and path2 in each other's place\n", text)
 
     def test_names_the_master_that_answered(self):
         another = dict(NODES[0], id='001122fffe334466', node='N')
@@ -706,10 +726,10 @@ class Bent(unittest.TestCase):
         answer = len(BEGIN) + DELAY_RESP
         events[answer] = with_octets(events[answer], Way(DELAY_RESP, 20, another['id']), EARLY, node='N')
         text = explain(transcript([*NODES, another, *events])).output
-        self.assertIn(': refused, 703: ', text)
+        self.assertIn(' is refused, 703: ', text)
         # b is 1 ns less
-        rows = ''.join(map(result_row, ('offset2', 'path2'), (131072000, 131072000), (131072000, 131072000)))
-        self.assertEqual(behind_moments(text), rows + f'  by the messages  offset2 {2001 * 65536}  path2 {1999 * 65536}\n'
+        rows = ''.join(map(result_row, ('offset', 'path'), (131072000, 131072000), (131072000, 131072000)))
+        self.assertEqual(behind_moments(text), rows + messages_row((2001 * 65536, 1999 * 65536), False) +
                          "    Delay_Resp 0 (event 11, line 16) tells t4 1 ns earlier than N's clock read\n")
 
     def test_names_no_message_where_messages_are_of_two_exchanges(self):
@@ -719,7 +739,6 @@ class Bent(unittest.TestCase):
                 judged = json.loads(explain(transcript(lines), '--json').output.splitlines()[-1])
                 self.assertEqual((judged['reasons'], judged['by_messages'], judged['time']), ([702], pair(messages), time))
                 text = explain(transcript(lines)).output
-                self.assertIn(': refused, 702: ', text)
-                rows = ''.join(map(result_row, ('offset2', 'path2'), reported, reported))
-                row = f'  by the messages  offset2 {messages[0]}  path2 {messages[1]}\n'
-                self.assertEqual(behind_moments(text), rows + row)
+                self.assertIn(' is refused, 702: ', text)
+                rows = ''.join(map(result_row, ('offset', 'path'), reported, reported))
+                self.assertEqual(behind_moments(text), rows + messages_row(messages, False))

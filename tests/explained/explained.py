@@ -39,7 +39,7 @@ REASON = {
 
 def refused(event, line, why):
     """The line that tells of a report that it is refused; what the reason met stands below it."""
-    return f'event {event}, line {line}, slave S: refused, {why}: {REASON[why]}\n'
+    return f'event {event}, line {line}: the report of S is refused, {why}: {REASON[why]}\n'
 
 
 # The line of the report, with one unit too much.
@@ -50,32 +50,35 @@ TOLD_TWICE = '{"copy":11,"ev":"hear","n":14,"node":"S","offset2":"131072000","ou
 
 # What is said of a report with one unit too much.
 STORY = """\
-event 13, line 17, slave S: refused, 706: the two results aren't those of the readings
+event 13, line 17: the report of S is refused, 706: the two results aren't those of the readings
   t1  event  2  line  6  M  1.000000000                   Sync 0 departs; told by event 6
       3 to 4  line 7, 8  T in the clock 2000 ns
   t2  event  5  line  9  S  1.000004000                   a = t2 - t1 - 2000 ns = 2000 ns
   t3  event  8  line 12  S  2.000001000                   Delay_Req 0 departs; told by event 12
       9 to 10  line 13, 14  T in the clock 3500.25 ns
   t4  event 11  line 15  M  2.000004500 + 16384/65536 ns  b = t4 - t3 - 3500.25 ns = 0 ns
-  offset2  reported 131072001  by the readings 131072000  1 unit of 2^-16 ns too much
-  path2    reported 131072000  by the readings 131072000
+  offset  reported 1000.00000762939453125 ns  by the readings 1000 ns  0.00000762939453125 ns too much  \
+("offset2" 131072001, wanted 131072000)
+  path    reported 1000 ns  by the readings 1000 ns  ("path2" 131072000)
 1 report: 0 sound
   706 stands against 1: the two results aren't those of the readings
-right by the messages (the device): 0 of 1 report
-right by the readings (device and network): 0 of 1 report
+results equal to those by the messages that came to the slave: 0 of 1 report
+results equal to those by the readings of the clocks: 0 of 1 report
 verdict: refused event 13: 706
 """
 
 # The same as JSON, and what is said so of the sound report.
+MOMENTS = '"t1":[1,0,0],"t2":[1,4000,0],"t3":[2,1000,0],"t4":[2,4500,16384],'
 JUDGED = (
-    '{"by_messages":{"offset2":"131072000","path2":"131072000"},"by_readings":{"offset2":"131072000","path2":"131072000"},'
+    '{"brackets":{"a":"2000","b":"0"},"by_messages":{"offset2":"131072000","path2":"131072000"},"by_readings":{"offset2":"131072000","path2":"131072000"},'
     '"error":{"by_messages":{"offset":"0.00000762939453125","path":"0"},"by_readings":{"offset":"0.00000762939453125","path":"0"}},'
-    '"event":13,"line":17,"node":"S","octets":null,"offset2":"131072001","path2":"131072000","reasons":[706],"tags":[5,7,8,13],"time":[2,1000,0]}\n')
+    '"event":13,"line":17,"node":"S","octets":null,"offset2":"131072001","otherwise":null,"path2":"131072000","reasons":[706],'
+    + MOMENTS + '"tags":[5,7,8,13],"time":[2,1000,0]}\n')
 JUDGED_SOUND = (
-    '{"by_messages":{"offset2":"131072000","path2":"131072000"},"by_readings":{"offset2":"131072000","path2":"131072000"},'
-    '"error":null,"event":13,"line":17,"node":"S","octets":null,"offset2":"131072000","path2":"131072000","reasons":[],"tags":[5,7,8,13],'
-    '"time":[2,1000,0]}\n')
-SOUND = 'event 13, line 17, slave S: sound\n1 report: 1 sound\nverdict: accepted 1\n'
+    '{"brackets":{"a":"2000","b":"0"},"by_messages":{"offset2":"131072000","path2":"131072000"},"by_readings":{"offset2":"131072000","path2":"131072000"},'
+    '"error":{"by_messages":{"offset":"0","path":"0"},"by_readings":{"offset":"0","path":"0"}},"event":13,"line":17,"node":"S","octets":null,'
+    '"offset2":"131072000","otherwise":null,"path2":"131072000","reasons":[],' + MOMENTS + '"tags":[5,7,8,13],"time":[2,1000,0]}\n')
+SOUND = '1 report: 1 sound\nverdict: accepted 1\n'
 
 # The line of the first event, at a node that no name can have.
 NO_NAME = '{"diff":"65536000","ev":"stepclock","n":0,"node":"S 1","out":"done"}\n'
@@ -596,7 +599,7 @@ class Explained(unittest.TestCase):
         text = changed(TRANSCRIPT, (TRANSCRIPT[16], TOO_MUCH + TOLD_TWICE))
         both = '1 report: 0 sound\n  706 stands against 1', '2 reports: 0 sound\n  706 stands against 2'
         self.assertEqual(explain(text, '--first').output, changed(STORY, both, ('0 of 1 report', '0 of 2 reports')))
-        self.assertIn('\nevent 14, line 18, slave S: refused, 706: ', explain(text).output)
+        self.assertIn('\nevent 14, line 18: the report of S is refused, 706: ', explain(text).output)
 
     def test_counts_each_reason(self):
         output = explain(changed([*TRANSCRIPT, TOLD_TWICE], *VERSIONS)).output
@@ -605,8 +608,8 @@ class Explained(unittest.TestCase):
   706 stands against 1: the two results aren't those of the readings
   708 stands against 2: """, output)
         self.assertIn("""
-right by the messages (the device): 1 of 2 reports
-right by the readings (device and network): 1 of 2 reports
+results equal to those by the messages that came to the slave: 1 of 2 reports
+results equal to those by the readings of the clocks: 1 of 2 reports
 were octets left aside (708), 1 of 2 reports would be sound
 """, output)
 

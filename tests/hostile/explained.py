@@ -6,16 +6,17 @@ from fractions import Fraction
 from shown import lines_of
 from texts import FAULT, VERDICT
 
-BEGIN = re.compile(r'event ([0-9]+), line ([0-9]+), slave ([A-Za-z0-9_-]+): (?:sound|refused, (70[1-8]): .*)')
+BEGIN = re.compile(r'event ([0-9]+), line ([0-9]+): the report of ([A-Za-z0-9_-]+) is refused, (70[1-8]): .*')
 FURTHER = re.compile(r'  and (70[1-8]): .*')
 COUNT = re.compile(r'([0-9]+) reports?: ([0-9]+) sound')
 AGAINST = re.compile(r'  (70[1-8]) stands against ([0-9]+): .*')
 ASIDE = re.compile(r'were octets left aside \(708\), ([0-9]+) of ([0-9]+) reports? would be sound')
-# How many are right by the messages, and how many by the readings.
-RIGHT = re.compile(r'right by the (?:messages \(the device\)|readings \(device and network\)): ([0-9]+) of ([0-9]+) reports?')
+# How many have the results by the messages, and how many those by the readings.
+RIGHT = re.compile(r'results equal to those by the (?:messages that came to the slave|readings of the clocks): ([0-9]+) of ([0-9]+) reports?')
 # In place of that, where a field that is read differs in so many messages.
 READ = re.compile(r"octets can't be left aside \(708\): a field that a slave or a master reads differs in [1-9][0-9]* messages?")
-KEYS = ['by_messages', 'by_readings', 'error', 'event', 'line', 'node', 'octets', 'offset2', 'path2', 'reasons', 'tags', 'time']
+TIMES = ['t1', 't2', 't3', 't4']
+KEYS = ['brackets', 'by_messages', 'by_readings', 'error', 'event', 'line', 'node', 'octets', 'offset2', 'otherwise', 'path2', 'reasons', *TIMES, 'tags', 'time']
 ALONE = [701, 704]
 TOGETHER = [702, 703, 705, 707, 706, 708]
 
@@ -44,8 +45,8 @@ def is_later(explained, checked):
 
 def wrong_errors(judged):
     """What is wrong with the errors of a judgement, in words: nanoseconds of twice 2^-16 ns, against each of the two results."""
-    if (judged['error'] is None) == (706 in judged['reasons']):
-        return [f'error {judged["error"]} with reasons {judged["reasons"]}']
+    if (judged['error'] is None) != (judged['by_readings'] is None):
+        return [f'error {judged["error"]} with results by the readings {judged["by_readings"]}']
     if judged['error'] is None:
         return []
     owed = {key: None if judged[key] is None else
@@ -53,6 +54,19 @@ def wrong_errors(judged):
             for key in ('by_messages', 'by_readings')}
     told = {key: errors and {name: Fraction(text) for name, text in errors.items()} for key, errors in judged['error'].items()}
     return [] if told == owed else [f'error {judged["error"]}']
+
+
+def wrong_exchange(judged):
+    """What is wrong with the brackets and the moments of a judgement, and with which message tells otherwise, in words."""
+    results = judged['by_readings']
+    if len({results is None, judged['brackets'] is None, *(judged[key] is None for key in TIMES)}) > 1:
+        yield f'brackets {judged["brackets"]} and moments {[judged[key] for key in TIMES]} with results by the readings {results}'
+    elif results:
+        offset, path = (Fraction(int(results[key]), 131072) for key in ('offset2', 'path2'))
+        if {key: Fraction(text) for key, text in judged['brackets'].items()} != {'a': path + offset, 'b': path - offset}:
+            yield f'brackets {judged["brackets"]} with results by the readings {results}'
+    if (judged['otherwise'] is None) == (judged['octets'] == 'told'):
+        yield f'octets {judged["octets"]}, and the message of {judged["otherwise"]} tells otherwise'
 
 
 def judgements(output):
@@ -78,7 +92,7 @@ def judgements(output):
             wrong.append(f'octets {judged["octets"]} with reasons {reasons}')
         if judged['octets'] == 'other' and 702 not in reasons and 707 not in reasons and judged['by_messages'] != judged['by_readings']:
             wrong.append(f'other octets, and results by the messages {judged["by_messages"]}')
-        wrong += wrong_errors(judged)
+        wrong += [*wrong_errors(judged), *wrong_exchange(judged)]
         same = judged['by_readings'] == {key: judged[key] for key in ('offset2', 'path2')}
         if judged['by_readings'] and same == (706 in reasons):
             wrong.append(f'results by the readings {judged["by_readings"]} with reasons {reasons}')
@@ -92,7 +106,7 @@ def stories(text):
     for line in text.splitlines():
         begin, further = BEGIN.fullmatch(line), FURTHER.fullmatch(line)
         # behind the two results lines say which message tells otherwise
-        behind = not begin and (behind or line.startswith('  offset2  reported '))
+        behind = not begin and (behind or line.startswith('  offset  reported '))
         if begin:
             told.append((int(begin[1]), int(begin[2]), begin[3], []))
         reason = begin[4] if begin else further[1] if further else None
@@ -127,7 +141,7 @@ def counts_owed(found, is_read, by_messages):
 
 def mistold(found, text, is_first):
     """What is wrong with the text of these judgements, or of the first alone that is refused, in words."""
-    wanted = [(judged['event'], judged['line'], judged['node'], judged['reasons']) for judged in found if judged['reasons'] or not is_first]
+    wanted = [(judged['event'], judged['line'], judged['node'], judged['reasons']) for judged in found if judged['reasons']]
     told, met = stories(text)
     if told != (wanted[:1] if is_first else wanted):
         yield f'{told} is told, and {wanted} is judged'
@@ -146,7 +160,7 @@ def misexplained(text, checked, replayed, start):
             yield f'{name} ends in {answer}, check in {checked[0]} {checked[2]!r}, replay in {replayed[0]} {replayed[2]!r}'
     found, wrong = judgements(as_json[1])
     yield from wrong
-    refused = [line for line in lines_of(as_json[1]) if b',"reasons":[],"tags":' not in line]
+    refused = [line for line in lines_of(as_json[1]) if b',"reasons":[],' not in line]
     if lines_of(first[1]) != refused[:1]:
         yield f'with --first {first[1]!r} is told'
     yield from mistold(found, told.decode(), False)
@@ -158,7 +172,7 @@ def misexplained(text, checked, replayed, start):
     by_messages = counted[3][0][0] if counted[3] else 0
     owed = counts_owed(found, None in counted[2], by_messages)
     if not sum(not judged['reasons'] for judged in found) <= by_messages <= len(found) and counted[3]:
-        yield f'{by_messages} of {len(found)} reports are right by the messages'
+        yield f'{by_messages} of {len(found)} reports have the results by the messages'
     if found and counted != owed:
         yield f'{counted} is counted, and {owed} is judged'
     if not told.endswith(b'verdict: ' + checked[1]):

@@ -1,24 +1,28 @@
 -- What was noted of the events of an input, behind one more line.
 use Rattle.std.proofs.Common.{◌≡◌, ◌∙◌, ◌++◌, [], ◌∷◌, ℕ, Option, Some, None, refl, sym, ap, subst}
-use Rattle.std.specs.Prelude.{reverse}
+use Rattle.std.specs.Prelude.{option_map, reverse}
 use Rattle.std.proofs.lemmas.List.{reverse-append, reverse-reverse}
 use Rattle.slave_port.specs.declared.heard.Report.{Report}
 use Rattle.network_model.specs.Network.{Network}
+use Rattle.trace_model.specs.declared.finding.Finding.{Finding}
 use Rattle.trace_model.specs.declared.judgement.Results.{Results}
 use Rattle.trace_model.specs.declared.line.TraceLine.{TraceLine}
 use Rattle.trace_model.specs.declared.verdict.Why.TheVariants.{Bytes}
 use Rattle.trace_model.specs.Line.{Lines}
 use Rattle.exchange_check.specs.Transcript.{Transcript as Fed}
 use Rattle.exchange_check.specs.Evidence.{Evidences, IsWithLine, last_by_messages, last_finding, last_otherwise, unbegun}
+use Rattle.exchange_check.specs.Exchange.{last_exchange}
 use Rattle.exchange_check.specs.declared.evidence.Evidence.{Evidence}
+use Rattle.exchange_check.specs.declared.exchange.Exchange.{Exchange as Followed}
 use Rattle.schedule_lines.specs.declared.reading.transcript.TranscriptLine.{TranscriptLine}
 use Rattle.schedule_lines.specs.declared.reading.transcript.TranscriptLine.TheVariants as recorded
 use Rattle.schedule_reading.specs.Transcript.{Recorded}
 use Rattle.explain_input.specs.declared.input.Input.{Input}
 use Rattle.explain_input.specs.declared.input.Input.TheVariants.{Transcript, Schedule}
 use Rattle.explain_input.specs.Input.{Enters}
-use Rattle.exchange_explain.specs.Details.{details_of, last_time, octets_of}
+use Rattle.exchange_explain.specs.Details.{details_of, last_time, made_by, moments_of, octets_of}
 use Rattle.exchange_explain.specs.declared.details.Details.{Details}
+use Rattle.exchange_explain.specs.declared.details.Moments.{Moments}
 use Rattle.exchange_explain.specs.declared.details.Octets.{Octets}
 use Rattle.exchange_explain.specs.Inner.Noting.{IsNotedOf, IsNotedIn, fed_of}
 
@@ -91,28 +95,41 @@ note_told evidence evidence' before input state entry inner number line fed is s
 
 -- what is told of a report of the last line beside its judgement
 pub details_told : (evidence : Evidence) (input : Input) (state : Recorded) (report : Report) (fed : Fed)
-    (told : Option Results) (octets : Option Octets) (time : Option ℕ)
+    (told : Option Results) (octets : Option Octets) (otherwise : Option Finding) (event : Option ℕ)
+    (exchange : Option Followed) (moments : Option Moments) (time : Option ℕ)
     → input ≡ Transcript state → IsNotedIn evidence input
     → (fed.network ≡ state.nodes) × (reverse fed.lines ≡ state.lines)
     → (Evidences evidence fed → told ≡ last_by_messages fed.network (reverse fed.lines) report)
-    → (Evidences evidence fed → octets ≡ octets_of (last_finding fed.network (reverse fed.lines) report Bytes)
-    (last_otherwise fed.network (reverse fed.lines) report))
-    → time ≡ last_time fed.network (reverse fed.lines) report
-    → (record { by_messages = told; octets = octets; time = time }) ≡ details_of input report
-details_told evidence input state report fed told octets time is notes (nodes, lines) messages differing times =
+    → (Evidences evidence fed → octets ≡ octets_of (last_finding fed.network (reverse fed.lines) report Bytes) otherwise)
+    → (Evidences evidence fed → otherwise ≡ last_otherwise fed.network (reverse fed.lines) report)
+    → event ≡ made_by otherwise → exchange ≡ last_exchange fed.network (reverse fed.lines) report
+    → moments ≡ option_map moments_of exchange
+    → (exchange ≡ last_exchange fed.network (reverse fed.lines) report → time ≡ last_time fed.network (reverse fed.lines) report)
+    → (record { by_messages = told; octets = octets; otherwise = event; moments = moments; time = time }) ≡ details_of input report
+details_told evidence input state report fed told octets otherwise event exchange moments time is notes (nodes, lines)
+    messages differing others made exchanges moments_is times =
     let here : IsNotedIn evidence (Transcript state) = subst (λ (i : Input). IsNotedIn evidence i) is notes in
     let evidences : Evidences evidence fed = subst (λ (f : Fed). Evidences evidence f)
     (sym (fed_same fed state.nodes state.lines (nodes, lines))) (noted_of evidence state.nodes state.lines here) in
-    let mine : Details = record { by_messages = told; octets = octets; time = time } in
+    let mine : Details = record { by_messages = told; octets = octets; otherwise = event; moments = moments; time = time } in
     let told_is : told ≡ last_by_messages state.nodes state.lines report =
     messages evidences ∙ (λ i. last_by_messages (nodes i) (lines i) report) in
+    let otherwise_is : otherwise ≡ last_otherwise state.nodes state.lines report =
+    others evidences ∙ (λ i. last_otherwise (nodes i) (lines i) report) in
     let octets_are : octets ≡ octets_of (last_finding state.nodes state.lines report Bytes)
     (last_otherwise state.nodes state.lines report) =
-    differing evidences ∙ (λ i. octets_of (last_finding (nodes i) (lines i) report Bytes)
-    (last_otherwise (nodes i) (lines i) report)) in
-    let time_is : time ≡ last_time state.nodes state.lines report = times ∙ (λ i. last_time (nodes i) (lines i) report) in
+    differing evidences ∙ (λ i. octets_of (last_finding (nodes i) (lines i) report Bytes) (otherwise_is i)) in
+    let event_is : event ≡ made_by (last_otherwise state.nodes state.lines report) = made ∙ ap made_by otherwise_is in
+    let exchange_is : exchange ≡ last_exchange state.nodes state.lines report =
+    exchanges ∙ (λ i. last_exchange (nodes i) (lines i) report) in
+    let moments_are : moments ≡ option_map moments_of (last_exchange state.nodes state.lines report) =
+    moments_is ∙ ap (option_map moments_of) exchange_is in
+    let time_is : time ≡ last_time state.nodes state.lines report =
+    times exchanges ∙ (λ i. last_time (nodes i) (lines i) report) in
     subst (λ (i : Input). mine ≡ details_of i report) (sym is) (λ i. record {
       by_messages = told_is i;
       octets = octets_are i;
+      otherwise = event_is i;
+      moments = moments_are i;
       time = time_is i;
     })

@@ -1,18 +1,22 @@
 -- What is told of the report of a line beside its judgement: its results by the messages, in which fields octets differ
--- that it rests on, and when it was.
+-- that it rests on, and in which message first in one that is read, its four moments, and when it was.
 use Rattle.std.specs.Prelude.{ℕ, [], ◌∷◌, nat_lt, if◌then◌else◌, Option, Some, None, option_map, option_and_then}
 use Rattle.slave_port.specs.declared.heard.Report.{Report}
 use Rattle.network_model.specs.Kinds.{draws_sync, is_request}
 use Rattle.network_model.specs.Network.{Network}
 use Rattle.trace_model.specs.declared.finding.Finding.{Finding}
+use Rattle.trace_model.specs.declared.finding.Finding.TheVariants.{OtherOctets}
 use Rattle.trace_model.specs.declared.verdict.Why.TheVariants.{Bytes}
 use Rattle.trace_model.specs.Line.{Lines}
 use Rattle.trace_model.specs.Record.{LinePlace, line_number, line_place, reading, site}
 use Rattle.trace_model.specs.Sound.{Exchange, exchange_of, unbroken}
+use Rattle.exchange_check.specs.declared.exchange.Exchange.{Exchange as Followed}
 use Rattle.exchange_check.specs.Evidence.{last_by_messages, last_finding, last_otherwise}
+use Rattle.exchange_check.specs.Exchange.{last_exchange}
 use Rattle.explain_input.specs.declared.input.Input.{Input}
 use Rattle.explain_input.specs.declared.input.Input.TheVariants.{Transcript, Schedule}
 use Rattle.exchange_explain.specs.declared.details.Details.{Details}
+use Rattle.exchange_explain.specs.declared.details.Moments.{Moments}
 use Rattle.exchange_explain.specs.declared.details.Octets.{Octets}
 use Rattle.exchange_explain.specs.declared.details.Octets.TheVariants.{Told, Other}
 
@@ -36,6 +40,20 @@ abbrev pub last_time : Network → Lines → Report → Option ℕ
 last_time network [] report = None
 last_time network (line ∷ earlier) report = time_of network (line_place line earlier) report
 
+-- what the clocks read at the four moments of an exchange
+abbrev pub moments_of : Followed → Moments
+moments_of x = record {
+  t1 = x.sync.departed.reading;
+  t2 = x.sync.arrived.reading;
+  t3 = x.request.departed.reading;
+  t4 = x.request.arrived.reading;
+}
+
+-- the event that made the message whose octets were found to be others
+abbrev pub made_by : Option Finding → Option ℕ
+made_by (Some (OtherOctets event)) = Some event
+made_by _ = None
+
 -- in which fields octets differ that aren't right: in one that a slave or a master reads, where a message of the exchange
 -- tells otherwise
 abbrev pub fields_of : (otherwise : Option Finding) → Octets
@@ -51,6 +69,9 @@ abbrev pub details_of : Input → Report → Details
 details_of (Transcript state) report = record {
   by_messages = last_by_messages state.nodes state.lines report;
   octets = octets_of (last_finding state.nodes state.lines report Bytes) (last_otherwise state.nodes state.lines report);
+  otherwise = made_by (last_otherwise state.nodes state.lines report);
+  moments = option_map moments_of (last_exchange state.nodes state.lines report);
   time = last_time state.nodes state.lines report;
 }
-details_of (Schedule state) report = record { by_messages = None; octets = None; time = None }
+details_of (Schedule state) report =
+    record { by_messages = None; octets = None; otherwise = None; moments = None; time = None }

@@ -1,14 +1,15 @@
 //! What is told of a report beside its judgement.
-ghost use Rattle.std.specs.Prelude.{◌≡◌, MatchResult, reverse};
+ghost use Rattle.std.specs.Prelude.{◌≡◌, MatchResult, option_map, reverse};
 ghost use Rattle.trace_model.specs.declared.verdict.Why.TheVariants.{Bytes};
-ghost use Rattle.exchange_check.specs.Evidence.{Evidences, last_finding, last_otherwise};
+ghost use Rattle.exchange_check.specs.Evidence.{Evidences, last_finding};
+ghost use Rattle.exchange_check.specs.Exchange.{last_exchange};
 ghost use Rattle.schedule_reading.specs.declared.fault.TaskFault.TheVariants.{Memory};
 ghost use Rattle.explain_input.specs.Input.{Enters};
-ghost use Rattle.exchange_explain.specs.Details.{details_of, fields_of, last_time, octets_of};
+ghost use Rattle.exchange_explain.specs.Details.{details_of, fields_of, last_time, made_by, moments_of, octets_of};
 ghost use Rattle.exchange_explain.specs.Inner.Noting.{IsNotedIn};
 ghost use Rattle.exchange_explain.specs.Inner.Times.{later_reading};
 
-use exchange_check::{Checker, Evidence, ExchangeLine, Finding, Results, Why};
+use exchange_check::{Checker, Evidence, Exchange, ExchangeLine, Finding, Results, Why};
 use explain_input::{Input, Taken};
 use network_model::Report;
 use ptp_units::ScaledTime;
@@ -24,6 +25,19 @@ pub enum Octets {
     Other,
 }
 
+/// What the clocks read as the two event messages of an exchange departed and came (IEEE 1588-2019, 11.3).
+#[derive(Clone, Copy, Debug, PartialEq, Eq)]
+pub struct Moments {
+    /// The Sync departed.
+    pub t1: ScaledTime,
+    /// It came to the slave.
+    pub t2: ScaledTime,
+    /// The Delay_Req departed.
+    pub t3: ScaledTime,
+    /// It came to the master.
+    pub t4: ScaledTime,
+}
+
 /// What is told of a report beside its judgement.
 #[derive(Clone, Copy, Debug)]
 pub struct Details {
@@ -31,6 +45,11 @@ pub struct Details {
     pub by_messages: Option<Results>,
     /// In which fields octets of its messages differ; none where 708 doesn't stand against it.
     pub octets: Option<Octets>,
+    /// The event that made the first of its messages in which a field differs that a slave or a master reads, the Sync's
+    /// journey before the Follow_Up, the Delay_Req's and the Delay_Resp.
+    pub otherwise: Option<u64>,
+    /// The four moments of its exchange; none where 701 or 704 stands.
+    pub moments: Option<Moments>,
     /// What its slave read at the last of its two event messages, as the Sync came or as the Delay_Req left.
     pub time: Option<ScaledTime>,
 }
@@ -39,6 +58,8 @@ pub struct Details {
 const NOTHING: Details = Details {
     by_messages: None,
     octets: None,
+    otherwise: None,
+    moments: None,
     time: None,
 };
 
@@ -77,14 +98,47 @@ fn later_reading(checker: &Checker, request: u64, arrived: &ExchangeLine) -> Opt
     }
 }
 
-/// What the slave read at the last of the two event messages of a report of the line that the checker was fed last. None
-/// where 701 or 704 stands.
-fn last_time(checker: &Checker, report: &Report) -> Option<ScaledTime>
-    ensures { result ≡ last_time checker.now.network (reverse checker.now.lines) report.now }
+/// What the slave read at the last of the two event messages of a report of the line that the checker was fed last, which
+/// has this exchange. None where 701 or 704 stands.
+fn last_time(checker: &Checker, report: &Report, exchange: Option<Exchange>) -> Option<ScaledTime>
+    ensures { exchange ≡ last_exchange checker.now.network (reverse checker.now.lines) report.now
+        → result ≡ last_time checker.now.network (reverse checker.now.lines) report.now }
 {
-    match checker.exchange(report) {
+    match exchange {
         Some(exchange) => later_reading(checker, report.request_tag, &exchange.sync.arrived),
         None => None,
+    }
+}
+
+/// The four moments of an exchange.
+fn moments_of(exchange: &Exchange) -> Moments
+    ensures { result ≡ moments_of exchange.now }
+{
+    Moments {
+        t1: exchange.sync.departed.reading,
+        t2: exchange.sync.arrived.reading,
+        t3: exchange.request.departed.reading,
+        t4: exchange.request.arrived.reading,
+    }
+}
+
+/// The same, where there is an exchange.
+fn moments_told(exchange: Option<Exchange>) -> Option<Moments>
+    ensures { result ≡ option_map moments_of exchange }
+{
+    match exchange {
+        Some(exchange) => Some(moments_of(&exchange)),
+        None => None,
+    }
+}
+
+/// The event that made the message whose octets were found to be others.
+fn made_by(finding: Option<Finding>) -> Option<u64>
+    ensures { result ≡ made_by finding }
+{
+    match finding {
+        Some(Finding::OtherOctets { event }) => Some(event),
+        _ => None,
     }
 }
 
@@ -98,14 +152,19 @@ fn fields_of(otherwise: Option<Finding>) -> Octets
     }
 }
 
-/// In which fields octets differ of the messages of a report of the line that was noted last.
-fn octets_of(evidence: &Evidence, checker: &Checker, report: &Report) -> Option<Octets>
+/// In which fields octets differ of the messages of a report of the line that was noted last, of which this is the first that
+/// tells otherwise.
+fn octets_of(
+    evidence: &Evidence,
+    checker: &Checker,
+    report: &Report,
+    otherwise: Option<Finding>,
+) -> Option<Octets>
     ensures { Evidences evidence.now checker.now → result ≡ octets_of
-        (last_finding checker.now.network (reverse checker.now.lines) report.now Bytes)
-        (last_otherwise checker.now.network (reverse checker.now.lines) report.now) }
+        (last_finding checker.now.network (reverse checker.now.lines) report.now Bytes) otherwise }
 {
     match evidence.finding(checker, report, Why::Bytes) {
-        Some(_) => Some(fields_of(evidence.first_otherwise(checker, report))),
+        Some(_) => Some(fields_of(otherwise)),
         None => None,
     }
 }
@@ -116,11 +175,17 @@ pub(crate) fn details_of(evidence: &Evidence, input: &Input, report: &Report) ->
 {
     match input {
         Input::Transcript(transcript) => match transcript.checker() {
-            Some(checker) => Details {
-                by_messages: evidence.by_messages(checker, report),
-                octets: octets_of(evidence, checker, report),
-                time: last_time(checker, report),
-            },
+            Some(checker) => {
+                let exchange = checker.exchange(report);
+                let otherwise = evidence.first_otherwise(checker, report);
+                Details {
+                    by_messages: evidence.by_messages(checker, report),
+                    octets: octets_of(evidence, checker, report, otherwise),
+                    otherwise: made_by(otherwise),
+                    moments: moments_told(exchange),
+                    time: last_time(checker, report, exchange),
+                }
+            }
             None => NOTHING,
         },
         Input::Schedule(_) => NOTHING,

@@ -360,9 +360,9 @@ fn push_unread(text: &mut String, line: u64, what: ReadingFault) -> Result<(), A
 }
 
 /// Says for a person what is wrong with a transcript or a schedule: of each line that isn't read, of the first 20 of
-/// them, what is wrong with it; of an input of another kind, which it is; of each report, or where
-/// `first` is asked for of the first alone that is refused, what it is judged to be; of an event of a schedule that the
-/// network refuses, why; and at the end how many reports there are, and the verdict. What is told of a line is written
+/// them, what is wrong with it; of an input of another kind, which it is; of each report that is refused, or where
+/// `first` is asked for of the first alone, what stands against it; of an event of a schedule that the network
+/// refuses, why; and at the end how many reports there are, and the verdict. What is told of a line is written
 /// before the next one is read. After the first fault no report is judged. Answers what the input is, or its first
 /// fault with its line.
 ///

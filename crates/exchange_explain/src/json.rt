@@ -1,11 +1,11 @@
 //! What a report is judged to be, as JSON.
 ghost use Rattle.std.specs.Prelude.{◌≡◌, ◌++◌, OnOk, Some};
 ghost use Rattle.std.specs.String.{string_bytes};
-ghost use Rattle.exchange_explain.specs.Judged.{codes_text, difference, errors_against, errors_text, error_text};
-ghost use Rattle.exchange_explain.specs.Judged.{follow_text, is_wrong, judged_text, octets_text, owed_text, reasons_text};
-ghost use Rattle.exchange_explain.specs.Judged.{reported_text, results_text, time_text};
+ghost use Rattle.exchange_explain.specs.Judged.{are_known, brackets_text, codes_text, difference, errors_against, errors_text};
+ghost use Rattle.exchange_explain.specs.Judged.{error_text, event_text, judged_text, moments_text, octets_text, owed_text};
+ghost use Rattle.exchange_explain.specs.Judged.{reasons_text, reported_text, results_text, sum, time_text};
 
-use crate::details::{Details, Octets};
+use crate::details::{Details, Moments, Octets};
 use exchange_check::{Results, Why};
 use network_model::Report;
 use ptp_units::{Nanoseconds, ScaledTime};
@@ -33,6 +33,32 @@ impl Display for Pair {
     }
 }
 
+/// The two brackets of these results in nanoseconds, or null.
+#[derive(Clone, Copy)]
+struct Brackets(Option<Results>);
+
+impl Display for Brackets {
+    ghost output = { λ results. Some (brackets_text results.0) };
+
+    fn fmt<W: fmt::Write>(&self, f: &mut Formatter<W>) -> fmt::Result {
+        let Some(results) = self.0 else {
+            return f.write_str("null");
+        };
+        let Some(a2) = sum(results.path2, results.offset2) else {
+            return f.write_str("null");
+        };
+        match difference(results.path2, results.offset2) {
+            Some(b2) => write!(
+                f,
+                "{{\"a\":\"{}\",\"b\":\"{}\"}}",
+                Nanoseconds(a2),
+                Nanoseconds(b2)
+            ),
+            None => f.write_str("null"),
+        }
+    }
+}
+
 /// Two errors in nanoseconds, or null.
 #[derive(Clone, Copy)]
 struct Errors(Option<Results>);
@@ -53,19 +79,19 @@ impl Display for Errors {
     }
 }
 
-/// The errors of a report against its results by the messages and by the readings, or null where 706 doesn't stand.
+/// The errors of a report against its results by the messages and by the readings, or null where none are known by these.
 #[derive(Clone, Copy)]
 struct Error {
-    stands: bool,
+    known: bool,
     by_messages: Option<Results>,
     by_readings: Option<Results>,
 }
 
 impl Display for Error {
-    ghost output = { λ error. Some (error_text error.stands error.by_messages error.by_readings) };
+    ghost output = { λ error. Some (error_text error.known error.by_messages error.by_readings) };
 
     fn fmt<W: fmt::Write>(&self, f: &mut Formatter<W>) -> fmt::Result {
-        if !self.stands {
+        if !self.known {
             return f.write_str("null");
         }
         write!(
@@ -94,16 +120,16 @@ impl Display for Codes<'_> {
     }
 }
 
-/// The tag of a Follow_Up, or null.
+/// The number of an event, or null.
 #[derive(Clone, Copy)]
-struct FollowTag(Option<u64>);
+struct EventNumber(Option<u64>);
 
-impl Display for FollowTag {
-    ghost output = { λ tag. Some (follow_text tag.0) };
+impl Display for EventNumber {
+    ghost output = { λ event. Some (event_text event.0) };
 
     fn fmt<W: fmt::Write>(&self, f: &mut Formatter<W>) -> fmt::Result {
         match self.0 {
-            Some(tag) => write!(f, "{tag}"),
+            Some(event) => write!(f, "{event}"),
             None => f.write_str("null"),
         }
     }
@@ -146,6 +172,35 @@ impl Display for Time {
     }
 }
 
+/// The four moments of an exchange as they stand in a transcript, each with its key, or each with null.
+#[derive(Clone, Copy)]
+struct Times(Option<Moments>);
+
+impl Display for Times {
+    ghost output = { λ moments. Some (moments_text moments.0) };
+
+    fn fmt<W: fmt::Write>(&self, f: &mut Formatter<W>) -> fmt::Result {
+        match self.0 {
+            Some(moments) => write!(
+                f,
+                "\"t1\":{},\"t2\":{},\"t3\":{},\"t4\":{}",
+                Time(Some(moments.t1)),
+                Time(Some(moments.t2)),
+                Time(Some(moments.t3)),
+                Time(Some(moments.t4))
+            ),
+            None => f.write_str("\"t1\":null,\"t2\":null,\"t3\":null,\"t4\":null"),
+        }
+    }
+}
+
+/// What two numbers make together; none where that has more than 128 bits.
+fn sum(one: i128, other: i128) -> Option<i128>
+    ensures { result ≡ sum one other }
+{
+    one.checked_add(other)
+}
+
 /// What one number has more than another; none where that has more than 128 bits.
 fn difference(one: i128, other: i128) -> Option<i128>
     ensures { result ≡ difference one other }
@@ -163,45 +218,44 @@ fn errors_against(report: &Report, results: Option<Results>) -> Option<Results>
     Some(Results { offset2, path2 })
 }
 
-/// Whether the results of a report aren't those by the readings, so that 706 stands.
-fn is_wrong(report: &Report, by_readings: Option<Results>) -> bool
-    ensures { result ≡ is_wrong report.now by_readings }
+/// Whether there are results by the readings, with which those of a report can be compared.
+fn are_known(by_readings: Option<Results>) -> bool
+    ensures { result ≡ are_known by_readings }
 {
-    match by_readings {
-        Some(results) => { !(report.offset2 == results.offset2 && report.path2 == results.path2) }
-        None => false,
-    }
+    by_readings.is_some()
 }
 
 /// How wrong the results of a report are.
 fn error_of(judged: &Judged, details: &Details) -> Error
-    ensures stands { result.stands ≡ is_wrong judged.now.report judged.now.judgement.by_readings }
+    ensures known { result.known ≡ are_known judged.now.judgement.by_readings }
     ensures by_messages { result.by_messages ≡ errors_against judged.now.report details.now.by_messages }
     ensures by_readings { result.by_readings ≡ errors_against judged.now.report judged.now.judgement.by_readings }
 {
     let report = &judged.report;
     let by_readings = judged.judgement.by_readings;
     Error {
-        stands: is_wrong(report, by_readings),
+        known: are_known(by_readings),
         by_messages: errors_against(report, details.by_messages),
         by_readings: errors_against(report, by_readings),
     }
 }
 
-/// Appends the two results that a report should have, and how wrong its own are.
+/// Appends the two brackets and the two results that a report should have, and how wrong its own are.
 fn push_owed(text: &mut String, judged: &Judged, details: &Details) -> Result<(), AllocError>
     ensures { OnOk result (string_bytes text.new ≡ string_bytes text.old ++ owed_text judged.now details.now) }
 {
     write!(
         text,
-        "{{\"by_messages\":{},\"by_readings\":{},\"error\":",
+        "{{\"brackets\":{},\"by_messages\":{},\"by_readings\":{},\"error\":",
+        Brackets(judged.judgement.by_readings),
         Pair(details.by_messages),
         Pair(judged.judgement.by_readings)
     )?;
     write!(text, "{}", error_of(judged, details))
 }
 
-/// Appends where a report stands, in which fields octets differ that it rests on, and its two results.
+/// Appends where a report stands, in which fields octets differ that it rests on, its two results, and the event that made the
+/// first message that tells otherwise.
 fn push_reported(text: &mut String, judged: &Judged, details: &Details) -> Result<(), AllocError>
     ensures { OnOk result (string_bytes text.new ≡ string_bytes text.old ++ reported_text judged.now details.now) }
 {
@@ -215,22 +269,25 @@ fn push_reported(text: &mut String, judged: &Judged, details: &Details) -> Resul
     )?;
     write!(
         text,
-        ",\"offset2\":\"{}\",\"path2\":\"{}\"",
-        judged.report.offset2, judged.report.path2
+        ",\"offset2\":\"{}\",\"otherwise\":{},\"path2\":\"{}\"",
+        judged.report.offset2,
+        EventNumber(details.otherwise),
+        judged.report.path2
     )
 }
 
-/// Appends the reasons against a report, its tags, and when it was.
+/// Appends the reasons against a report, its four moments, its tags, and when it was.
 fn push_reasons(text: &mut String, judged: &Judged, details: &Details) -> Result<(), AllocError>
     ensures { OnOk result (string_bytes text.new ≡ string_bytes text.old ++ reasons_text judged.now details.now) }
 {
     let report = &judged.report;
     write!(
         text,
-        ",\"reasons\":[{}],\"tags\":[{},{},{},{}],\"time\":{}}}\n",
+        ",\"reasons\":[{}],{},\"tags\":[{},{},{},{}],\"time\":{}}}\n",
         Codes(judged.judgement.reasons.as_slice()),
+        Times(details.moments),
         report.sync_tag,
-        FollowTag(report.follow_tag),
+        EventNumber(report.follow_tag),
         report.request_tag,
         report.response_tag,
         Time(details.time)

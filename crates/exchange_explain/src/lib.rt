@@ -9,7 +9,7 @@ mod found;
 mod json;
 mod judgements;
 
-pub use details::{Details, Octets};
+pub use details::{Details, Moments, Octets};
 pub use explain_input::FoundInput;
 pub use explaining::{Explained, explain};
 pub use judgements::write_judgements;

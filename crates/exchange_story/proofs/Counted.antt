@@ -189,8 +189,8 @@ of_reports_told (Err e) counts count noun old new noun_is is = tt
 -- how many are right by the messages, and how many by the readings
 pub right_told : {E : Type 0} (r : Result (Unit {0}) E) (counts : Counts) (by_messages : ℕ) (old first second third fourth : List ℕ)
     → counts.sound ≢ counts.reports
-    → first ≡ old ++ codes "right by the messages (the device): " → second ≡ first ++ of_reports_text by_messages counts
-    → third ≡ second ++ codes "right by the readings (device and network): "
+    → first ≡ old ++ codes "results equal to those by the messages that came to the slave: " → second ≡ first ++ of_reports_text by_messages counts
+    → third ≡ second ++ codes "results equal to those by the readings of the clocks: "
     → OnOk r (fourth ≡ third ++ of_reports_text counts.by_readings counts)
     → OnOk r (fourth ≡ old ++ right_text counts by_messages)
 right_told (Ok x) counts by_messages old first second third fourth some first_is second_is third_is fourth_is =

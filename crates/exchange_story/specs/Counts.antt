@@ -99,8 +99,8 @@ of_reports_text count counts =
 -- where a report isn't sound, how many have the results of what the slave was told, and how many those of the readings
 abbrev pub right_text : Counts → (by_messages : ℕ) → List ℕ
 right_text counts by_messages = if counts.sound == counts.reports then [] else
-    (codes "right by the messages (the device): " ++ of_reports_text by_messages counts
-    ++ codes "right by the readings (device and network): " ++ of_reports_text counts.by_readings counts)
+    (codes "results equal to those by the messages that came to the slave: " ++ of_reports_text by_messages counts
+    ++ codes "results equal to those by the readings of the clocks: " ++ of_reports_text counts.by_readings counts)
 
 -- the line that says that octets can't be left aside, since a field that is read differs in so many messages
 abbrev pub read_text : ℕ → List ℕ

@@ -2,10 +2,10 @@
 ghost use Rattle.std.specs.Prelude.{◌≡◌, ◌++◌, List, ℕ, OnOk, codes, true};
 ghost use Rattle.std.specs.String.{string_bytes};
 ghost use Rattle.story_words.specs.Lines.{are_lines};
-ghost use Rattle.exchange_story.specs.Report.{tells_otherwise, TellsReasons, TellsRefused, TellsWhich};
+ghost use Rattle.exchange_story.specs.Report.{is_as_told, tells_otherwise, TellsReasons, TellsRefused, TellsWhich};
 
 use crate::past::Past;
-use crate::report::{push_begin, push_reason, push_results, tells_otherwise};
+use crate::report::{is_as_told, push_begin, push_reason, push_results, tells_otherwise};
 use exchange_check::{Results, Why};
 use exchange_table::push_exchange;
 use finding_text::{Case, Found, push_otherwise};
@@ -39,14 +39,16 @@ impl Refused<'_> {
     /// Appends the reasons, each with what it met.
     fn push_reasons(&self, text: &mut String) -> Result<(), AllocError>
         ensures { OnOk result ((reasons : List ℕ)
-            × TellsReasons (codes "refused, ") self.now.case.reported.now.judgement.reasons reasons
+            × TellsReasons (is_as_told self.now.case.reported.now.report self.now.by_messages) (codes "refused, ")
+            self.now.case.reported.now.judgement.reasons reasons
             × (string_bytes text.new ≡ string_bytes text.old ++ reasons)) }
     {
         let reasons = self.case.reported.judgement.reasons.as_slice();
+        let equal = is_as_told(&self.case.reported.report, self.by_messages);
         let mut met = String::new(self.case.alloc);
         let mut lead = "refused, ";
         for why in reasons {
-            push_reason(text, lead, *why)?;
+            push_reason(text, lead, *why, equal)?;
             lead = "  and ";
             met.clear();
             self.push_met(&mut met, *why)?;

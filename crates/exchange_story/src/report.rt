@@ -1,14 +1,15 @@
 //! What a report is judged to be, for a person.
 ghost use Rattle.std.specs.Prelude.{◌≡◌, ◌++◌, int_lt, OnOk, Some, codes};
 ghost use Rattle.std.specs.String.{string_bytes};
-ghost use Rattle.exchange_story.specs.Report.{begin_text, difference_text, noun_of_units, reason_text};
-ghost use Rattle.exchange_story.specs.Report.{all_rows_text, are_same, as_reported_text, messages_row_text};
-ghost use Rattle.exchange_story.specs.Report.{row_text, rows_text, side_text, tells_otherwise};
+ghost use Rattle.exchange_story.specs.Report.{amount_text, as_told_text, begin_text, difference_text, is_as_told};
+ghost use Rattle.exchange_story.specs.Report.{all_rows_text, are_same, as_reported_text, messages_row_text, raw_text};
+ghost use Rattle.exchange_story.specs.Report.{reason_text, row_text, rows_text, side_text, tells_otherwise};
 ghost use Rattle.exchange_story.specs.Counts.{is_sound};
 
 use exchange_check::{Results, Why};
 use finding_text::Reported;
 use network_model::Report;
+use ptp_units::Nanoseconds;
 use std::alloc::AllocError;
 
 /// Whether no reason stands against a report.
@@ -24,33 +25,52 @@ pub(crate) fn push_begin(text: &mut String, reported: &Reported) -> Result<(), A
 {
     write!(
         text,
-        "event {}, line {}, slave {}: ",
+        "event {}, line {}: the report of {} is ",
         reported.event,
         reported.line,
         reported.node.text()
     )
 }
 
-/// Appends the line of a sound report.
-pub(crate) fn push_sound(text: &mut String, reported: &Reported) -> Result<(), AllocError>
-    ensures { OnOk result (string_bytes text.new ≡ string_bytes text.old ++ (begin_text reported.now ++ codes "sound\n")) }
+/// That the two results are equal to those by the messages, below the reason that they aren't those of the readings.
+fn as_told(equal: bool, why: Why) -> &'static str
+    ensures { result.now ≡ as_told_text equal why }
 {
-    push_begin(text, reported)?;
-    text.push_str("sound\n")
+    if equal && why.code() == 706 {
+        "    the results are equal to those by the messages that came to the slave\n"
+    } else {
+        ""
+    }
 }
 
-/// Appends the line of a reason, with what leads to it in front.
-pub(crate) fn push_reason(text: &mut String, lead: &str, why: Why) -> Result<(), AllocError>
-    ensures { OnOk result (string_bytes text.new ≡ string_bytes text.old ++ reason_text lead.now why) }
+/// Appends the line of a reason, with what leads to it in front; and where the results are equal to those by the messages
+/// that they are, below the reason that they aren't those of the readings.
+pub(crate) fn push_reason(
+    text: &mut String,
+    lead: &str,
+    why: Why,
+    equal: bool,
+) -> Result<(), AllocError>
+    ensures { OnOk result (string_bytes text.new ≡ string_bytes text.old ++ reason_text lead.now equal why) }
 {
-    write!(text, "{lead}{}: {why}\n", why.code())
+    write!(text, "{lead}{}: {why}\n{}", why.code(), as_told(equal, why))
 }
 
-/// The word for so many units.
-fn units_noun(units: u128) -> &'static str
-    ensures { result.now ≡ noun_of_units units }
+/// Whether two results are the same as two others.
+fn are_same(offset2: i128, path2: i128, results: &Results) -> bool
+    ensures { result ≡ are_same offset2 path2 results.now }
 {
-    if units == 1 { "unit" } else { "units" }
+    offset2 == results.offset2 && path2 == results.path2
+}
+
+/// Whether the results of a report are those by the messages.
+pub(crate) fn is_as_told(report: &Report, by_messages: Option<Results>) -> bool
+    ensures { result ≡ is_as_told report.now by_messages }
+{
+    match by_messages {
+        Some(told) => are_same(report.offset2, report.path2, &told),
+        None => false,
+    }
 }
 
 /// Whether a result is too much or too little, where it is wrong.
@@ -64,44 +84,63 @@ fn side(reported: i128, by_readings: i128) -> &'static str
     }
 }
 
-/// Appends by how many units a result is wrong, and which way; nothing where it is right.
+/// Appends how much a number of halves of 2^-16 ns is: exactly, but where it has more than 127 bits.
+fn push_amount(text: &mut String, size: u128) -> Result<(), AllocError>
+    ensures { OnOk result (string_bytes text.new ≡ string_bytes text.old ++ amount_text size) }
+{
+    match i128::try_from(size) {
+        Ok(size) => write!(text, "{} ns", Nanoseconds(size)),
+        Err(_) => text.push_str("2^110 ns or more"),
+    }
+}
+
+/// Appends by how much a result is wrong, and which way; nothing where it is right.
 fn push_difference(text: &mut String, reported: i128, by_readings: i128) -> Result<(), AllocError>
     ensures { OnOk result (string_bytes text.new ≡ string_bytes text.old ++ difference_text reported by_readings) }
 {
-    let units = reported.abs_diff(by_readings);
-    if units == 0 {
+    let size = reported.abs_diff(by_readings);
+    if size == 0 {
         return Ok(());
     }
-    write!(
-        text,
-        "  {units} {} of 2^-16 ns too {}",
-        units_noun(units),
-        side(reported, by_readings)
-    )
+    text.push_str("  ")?;
+    push_amount(text, size)?;
+    write!(text, " too {}", side(reported, by_readings))
 }
 
-/// Appends the row of a result, as it is reported and by the readings.
-fn push_row(
+/// Appends a result as it stands in the transcript under this key, and as it is wanted there where that is another number.
+fn push_raw(
     text: &mut String,
-    name: &str,
+    key: &str,
     reported: i128,
     by_readings: i128,
 ) -> Result<(), AllocError>
-    ensures { OnOk result (string_bytes text.new ≡ string_bytes text.old ++ row_text name.now reported by_readings) }
+    ensures { OnOk result (string_bytes text.new ≡ string_bytes text.old ++ raw_text key.now reported by_readings) }
+{
+    if reported == by_readings {
+        return write!(text, "  (\"{key}\" {reported})\n");
+    }
+    write!(text, "  (\"{key}\" {reported}, wanted {by_readings})\n")
+}
+
+/// Appends the row of a result, as it is reported and by the readings, with its key in the transcript.
+fn push_row(
+    text: &mut String,
+    name: &str,
+    key: &str,
+    reported: i128,
+    by_readings: i128,
+) -> Result<(), AllocError>
+    ensures { OnOk result (string_bytes text.new ≡ string_bytes text.old
+        ++ row_text name.now key.now reported by_readings) }
 {
     write!(
         text,
-        "  {name}  reported {reported}  by the readings {by_readings}"
+        "  {name}  reported {} ns  by the readings {} ns",
+        Nanoseconds(reported),
+        Nanoseconds(by_readings)
     )?;
     push_difference(text, reported, by_readings)?;
-    text.push_str("\n")
-}
-
-/// Whether two results are the same as two others.
-fn are_same(offset2: i128, path2: i128, results: &Results) -> bool
-    ensures { result ≡ are_same offset2 path2 results.now }
-{
-    offset2 == results.offset2 && path2 == results.path2
+    push_raw(text, key, reported, by_readings)
 }
 
 /// Whether the results by the messages aren't those by the readings.
@@ -123,8 +162,8 @@ fn push_rows(text: &mut String, reported: &Reported) -> Result<(), AllocError>
         return Ok(());
     };
     let report = &reported.report;
-    push_row(text, "offset2", report.offset2, results.offset2)?;
-    push_row(text, "path2  ", report.path2, results.path2)
+    push_row(text, "offset", "offset2", report.offset2, results.offset2)?;
+    push_row(text, "path  ", "path2", report.path2, results.path2)
 }
 
 /// That results are those that are reported.
@@ -141,7 +180,13 @@ fn push_messages_row(text: &mut String, report: &Report, told: Results) -> Resul
     let same = as_reported(are_same(report.offset2, report.path2, &told));
     write!(
         text,
-        "  by the messages  offset2 {}  path2 {}{same}\n",
+        "  by the messages  offset {} ns  path {} ns{same}",
+        Nanoseconds(told.offset2),
+        Nanoseconds(told.path2)
+    )?;
+    write!(
+        text,
+        "  (\"offset2\" {}, \"path2\" {})\n",
         told.offset2, told.path2
     )
 }

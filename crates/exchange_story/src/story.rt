@@ -9,7 +9,7 @@ ghost use Rattle.exchange_story.specs.Report.{TellsReport};
 use crate::completing::{Completions, push_unreported};
 use crate::past::Pasts;
 use crate::refused::Refused;
-use crate::report::{is_sound, push_sound};
+use crate::report::is_sound;
 use crate::tally::Tally;
 use exchange_check::{Checker, Evidence, KeptLine, TraceLine, TraceOut};
 use finding_text::{Case, Known, Reported, index_of};
@@ -155,8 +155,9 @@ impl Story {
         self.nodes.as_slice()
     }
 
-    /// Appends what the report of the last event is judged to be; where it is refused, what the reasons against it met, its
-    /// exchange, and where the messages tell other results than the readings, these and which message does.
+    /// Appends what is told of the report of the last event: nothing of a sound one; of one that is refused, what the reasons
+    /// against it met, its exchange, and where the messages tell other results than the readings, these and which message
+    /// does.
     pub fn push_report<'a>(
         &'a self,
         text: &mut String,
@@ -167,7 +168,7 @@ impl Story {
             × (string_bytes text.new ≡ string_bytes text.old ++ told)) }
     {
         if is_sound(reported) {
-            return push_sound(text, reported);
+            return Ok(());
         }
         let exchange = checker.exchange(&reported.report);
         let refused = Refused {

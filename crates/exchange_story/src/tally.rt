@@ -178,9 +178,9 @@ impl Tally {
         if self.sound == self.reports {
             return Ok(());
         }
-        text.push_str("right by the messages (the device): ")?;
+        text.push_str("results equal to those by the messages that came to the slave: ")?;
         self.push_of_reports(text, self.by_messages)?;
-        text.push_str("right by the readings (device and network): ")?;
+        text.push_str("results equal to those by the readings of the clocks: ")?;
         self.push_of_reports(text, self.by_readings)
     }
 

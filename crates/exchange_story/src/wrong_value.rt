@@ -11,7 +11,7 @@ use std::fmt::{Display, Formatter};
 /// A nanosecond in twice a result.
 const NANOSECOND: u128 = 131_072;
 
-/// In which way results are wrong against others.
+/// In which way results are equal to others, or close to them.
 #[derive(Clone, Copy, PartialEq, Eq)]
 enum Way {
     /// Both are whole nanoseconds, less than one away.
@@ -33,7 +33,7 @@ fn is_whole(one: i128, other: i128) -> bool {
 }
 
 impl Way {
-    /// In which way reported results are wrong against these, where it is one of these ways.
+    /// In which way reported results are equal to these or close to them, where it is one of these ways.
     fn of(reported: &Results, results: &Results) -> Option<Way> {
         if reported == results {
             return None;
@@ -59,21 +59,38 @@ impl Way {
     }
 }
 
-impl Display for Way {
+/// A way in which results are wrong, against those by the readings or by the messages.
+#[derive(Clone, Copy)]
+struct Against {
+    way: Way,
+    by: &'static str,
+}
+
+impl Display for Against {
     fn fmt<W: fmt::Write>(&self, f: &mut Formatter<W>) -> fmt::Result {
-        f.write_str(match self {
-            Way::Whole => "in whole nanoseconds: both errors are less than 1 ns",
-            Way::Exchanged => "with offset2 and path2 in each other's place",
-            Way::OffsetTurned => "with the sign of offset2 turned",
-            Way::PathTurned => "with the sign of path2 turned",
-            Way::BothTurned => "with both signs turned",
-        })
+        let by = self.by;
+        let turned = match self.way {
+            Way::Whole => {
+                return write!(
+                    f,
+                    "the results are whole nanoseconds, each less than 1 ns from that by the {by}"
+                );
+            }
+            Way::Exchanged => "offset2 and path2 in each other's place",
+            Way::OffsetTurned => "the sign of offset2 turned",
+            Way::PathTurned => "the sign of path2 turned",
+            Way::BothTurned => "both signs turned",
+        };
+        write!(
+            f,
+            "the results are equal to those by the {by}, with {turned}"
+        )
     }
 }
 
 impl Refused<'_> {
-    /// Appends in which known way the results are wrong: against those by the readings or else by the messages, or as those
-    /// of the report before or of another pair of halves. Nothing where they are those by the messages.
+    /// Appends in which known way the results are wrong: against those by the readings or else by the messages, or that they
+    /// are equal to those of the report before or of another pair of halves. Nothing where they are those by the messages.
     pub(crate) fn push_values(&self, text: &mut String) -> Result<(), AllocError> {
         let Some(by_readings) = self.case.reported.judgement.by_readings else {
             return Ok(());
@@ -83,13 +100,27 @@ impl Refused<'_> {
             return Ok(());
         }
         if let Some(way) = Way::of(&reported, &by_readings) {
-            return write!(text, "    these are the results by the readings, {way}\n");
+            return write!(
+                text,
+                "    {}\n",
+                Against {
+                    way,
+                    by: "readings"
+                }
+            );
         }
         if let Some(told) = &self.by_messages
             && tells_otherwise(Some(by_readings), self.by_messages)
             && let Some(way) = Way::of(&reported, told)
         {
-            return write!(text, "    these are the results by the messages, {way}\n");
+            return write!(
+                text,
+                "    {}\n",
+                Against {
+                    way,
+                    by: "messages"
+                }
+            );
         }
         match self.past {
             Some(past) => self.push_past(text, past, &reported),
@@ -97,7 +128,7 @@ impl Refused<'_> {
         }
     }
 
-    /// Appends that the results are those of the report before, or of another pair of halves.
+    /// Appends that the results are equal to those of the report before, or of another pair of halves.
     fn push_past(
         &self,
         text: &mut String,
@@ -109,14 +140,14 @@ impl Refused<'_> {
         {
             return write!(
                 text,
-                "    these are the results of the report before, {}, {whose}\n",
+                "    the results are equal to those of the report before, {}, {whose}\n",
                 self.case.known.place(before.event)
             );
         }
         match past.pair_giving(reported) {
             Some((sync, response)) => write!(
                 text,
-                "    these are the results by the readings of another pair: of the Sync of {} and of the Delay_Resp of {}\n",
+                "    the results are equal to those by the readings of another pair: of the Sync of {} and of the Delay_Resp of {}\n",
                 self.case.known.place(sync.heard),
                 self.case.known.place(response.heard)
             ),
@@ -125,7 +156,7 @@ impl Refused<'_> {
     }
 }
 
-/// Whether results are those that a report has, or those that it is to have by the readings.
+/// Whether results are equal to those that a report has, or to those that it is to have by the readings.
 fn whose(before: &PastReport, reported: &Results) -> Option<&'static str> {
     if before.by_readings == *reported {
         return Some("by the readings");

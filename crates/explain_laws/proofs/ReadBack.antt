@@ -1,5 +1,5 @@
 -- The JSON of a judged report, read again.
-use Rattle.std.proofs.Common.{◌≡◌, ◌∙◌, ℕ, ℤ, pos, negsuc, ◌-ℤ◌, ◌<◌, ◌^◌, ◌==◌, Bool, true, false, ◌&&◌, nat_lt, List, [], ◌∷◌, ◌++◌, codes, Option, Some, None, IfSome}
+use Rattle.std.proofs.Common.{◌≡◌, ◌∙◌, ℕ, ℤ, pos, negsuc, ◌+ℤ◌, ◌-ℤ◌, ◌<◌, ◌^◌, ◌==◌, Bool, true, false, ◌&&◌, nat_lt, List, [], ◌∷◌, ◌++◌, codes, Option, Some, None, IfSome}
 use Rattle.std.proofs.Common.{refl, ap, sym, arith, append_assoc}
 use Rattle.std.specs.Prelude.{if◌then◌else◌, option_map}
 use Rattle.std.specs.Fmt.{decimal, signed_decimal}
@@ -37,13 +37,15 @@ use Rattle.measured_json.specs.ReadBack.{IsOf128Bits, is_printed}
 use Rattle.measured_json.proofs.Figures.{all_of, escape_figures, printed_figures, figures_signed, figures_nanoseconds}
 use Rattle.measured_json.proofs.ReadBack.{tags_readable, ArePrinted, both, word, number_printed, ascii}
 use Rattle.exchange_explain.specs.declared.details.Details.{Details}
+use Rattle.exchange_explain.specs.declared.details.Moments.{Moments}
 use Rattle.exchange_explain.specs.declared.details.Octets.{Octets}
 use Rattle.exchange_explain.specs.declared.details.Octets.TheVariants.{Told, Other}
 use Rattle.exchange_explain.specs.Judged.{results_text, of_128_bits, difference, both_differences, errors_against, errors_text}
-use Rattle.exchange_explain.specs.Judged.{is_wrong, error_text, codes_text, follow_text, octets_text, time_text, owed_text}
-use Rattle.exchange_explain.specs.Judged.{reported_text}
-use Rattle.explain_laws.specs.ReadBack.{AreOf128Bits, IsWithinRange, results_data, errors_data, error_data, time_data}
-use Rattle.explain_laws.specs.ReadBack.{codes_data, octets_data, judged_data, EachJudgementIsJson}
+use Rattle.exchange_explain.specs.Judged.{are_known, both_brackets, brackets_text, error_text, codes_text, event_text}
+use Rattle.exchange_explain.specs.Judged.{moments_text, octets_text, time_text, owed_text, reported_text, sum}
+use Rattle.explain_laws.specs.ReadBack.{AreMoments, AreOf128Bits, IsWithinRange, results_data, errors_data, error_data, time_data}
+use Rattle.explain_laws.specs.ReadBack.{both_brackets_data, brackets_data, codes_data, event_data, octets_data, judged_data}
+use Rattle.explain_laws.specs.ReadBack.{EachJudgementIsJson}
 
 -- ---- the compact text of the value is read as the value
 
@@ -83,6 +85,15 @@ results_readable : (results : Option Results) → IsReadable (results_data resul
 results_readable None = record { same = refl; numbers = tt; shallow = omega arith }
 results_readable (Some results) = record { same = refl; numbers = (tt, (tt, tt)); shallow = omega arith }
 
+both_brackets_readable : (a2 b2 : Option ℤ) → IsReadable (both_brackets_data a2 b2)
+both_brackets_readable None b2 = record { same = refl; numbers = tt; shallow = omega arith }
+both_brackets_readable (Some a2) None = record { same = refl; numbers = tt; shallow = omega arith }
+both_brackets_readable (Some a2) (Some b2) = record { same = refl; numbers = (tt, (tt, tt)); shallow = omega arith }
+
+brackets_readable : (results : Option Results) → IsReadable (brackets_data results)
+brackets_readable None = record { same = refl; numbers = tt; shallow = omega arith }
+brackets_readable (Some results) = both_brackets_readable (sum results.path2 results.offset2) (difference results.path2 results.offset2)
+
 error_readable : (stands : Bool) (by_messages by_readings : Option Results)
     → IsReadable (error_data stands by_messages by_readings)
 error_readable false by_messages by_readings = record { same = refl; numbers = tt; shallow = omega arith }
@@ -103,15 +114,30 @@ time_readable : (time : Option ℕ) → IfSome time (λ time. time < bound) → 
 time_readable None h = record { same = refl; numbers = tt; shallow = omega arith }
 time_readable (Some time) h = moment_readable time h
 
+event_readable : (event : Option ℕ) → IfSome event (λ event. event < 2 ^ 64) → IsReadable (event_data event)
+event_readable None h = record { same = refl; numbers = tt; shallow = omega arith }
+event_readable (Some event) h = whole_readable event h
+
+-- one of four moments is one, where there are any
+one_of_moments : (one : Moments → ℕ) → ((moments : Moments) → AreMoments moments → one moments < bound) → (moments : Option Moments)
+    → IfSome moments AreMoments → IfSome (option_map one moments) (λ time. time < bound)
+one_of_moments one small None h = tt
+one_of_moments one small (Some moments) h = small moments h
+
+moment_readable_of : (one : Moments → ℕ) → ((moments : Moments) → AreMoments moments → one moments < bound) → (moments : Option Moments)
+    → IfSome moments AreMoments → IsReadable (time_data (option_map one moments))
+moment_readable_of one small moments h = time_readable (option_map one moments) (one_of_moments one small moments h)
+
 abbrev error_of : Judged → Details → (Bool × (Option Results × Option Results))
 error_of judged details = (
-  is_wrong judged.report judged.judgement.by_readings,
+  are_known judged.judgement.by_readings,
   (errors_against judged.report details.by_messages, errors_against judged.report judged.judgement.by_readings),
 )
 
 abbrev fields : Judged → Details → List Field
 fields judged details =
-    (codes "by_messages", Some (results_data details.by_messages))
+    (codes "brackets", Some (brackets_data judged.judgement.by_readings))
+    ∷ (codes "by_messages", Some (results_data details.by_messages))
     ∷ (codes "by_readings", Some (results_data judged.judgement.by_readings))
     ∷ (codes "error", Some (error_data (error_of judged details).0 (error_of judged details).1.0 (error_of judged details).1.1))
     ∷ (codes "event", Some (whole judged.event))
@@ -119,45 +145,20 @@ fields judged details =
     ∷ (codes "node", Some (string judged.node))
     ∷ (codes "octets", Some (octets_data details.octets))
     ∷ (codes "offset2", Some (difference_data judged.report.offset2))
+    ∷ (codes "otherwise", Some (event_data details.otherwise))
     ∷ (codes "path2", Some (difference_data judged.report.path2))
     ∷ (codes "reasons", Some (array (codes_data judged.judgement.reasons)))
+    ∷ (codes "t1", Some (time_data (option_map (λ (m : Moments). m.t1) details.moments)))
+    ∷ (codes "t2", Some (time_data (option_map (λ (m : Moments). m.t2) details.moments)))
+    ∷ (codes "t3", Some (time_data (option_map (λ (m : Moments). m.t3) details.moments)))
+    ∷ (codes "t4", Some (time_data (option_map (λ (m : Moments). m.t4) details.moments)))
     ∷ (codes "tags", Some (tags_data judged.report))
     ∷ (codes "time", Some (time_data details.time))
     ∷ []
 
 fields_readable : (judged : Judged) (details : Details) → IsWithinRange judged details
     → AreReadableFields (fields judged details)
-fields_readable judged details h = (
-  results_readable details.by_messages,
-  (
-    results_readable judged.judgement.by_readings,
-    (
-      error_readable _ _ _,
-      (
-        whole_readable judged.event h.event,
-        (
-          whole_readable judged.line h.line,
-          (
-            text_readable _,
-            (
-              octets_readable details.octets,
-              (
-                text_readable _,
-                (
-                  text_readable _,
-                  (
-                    codes_readable judged.judgement.reasons,
-                    (tags_readable judged.report h.tags, (time_readable details.time h.time, tt)),
-                  ),
-                ),
-              ),
-            ),
-          ),
-        ),
-      ),
-    ),
-  ),
-)
+fields_readable judged details h = (brackets_readable judged.judgement.by_readings, (results_readable details.by_messages, (results_readable judged.judgement.by_readings, (error_readable _ _ _, (whole_readable judged.event h.event, (whole_readable judged.line h.line, (text_readable _, (octets_readable details.octets, (text_readable _, (event_readable details.otherwise h.otherwise, (text_readable _, (codes_readable judged.judgement.reasons, (moment_readable_of (λ (m : Moments). m.t1) (λ m small. small.t1) details.moments h.moments, (moment_readable_of (λ (m : Moments). m.t2) (λ m small. small.t2) details.moments h.moments, (moment_readable_of (λ (m : Moments). m.t3) (λ m small. small.t3) details.moments h.moments, (moment_readable_of (λ (m : Moments). m.t4) (λ m small. small.t4) details.moments h.moments, (tags_readable judged.report h.tags, (time_readable details.time h.time, tt))))))))))))))))))
 
 read_back : (judged : Judged) (details : Details) → IsWithinRange judged details
     → read (compact_text (judged_data judged details)) ≡ Some (judged_data judged details)
@@ -278,11 +279,41 @@ error_is true by_messages by_readings m r =
     (λ i. error_pieces (errors_are by_messages m i) (errors_are by_readings r i))
     ∙ error_same (errors_text by_messages) (errors_text by_readings)
 
+-- ---- brackets
+
+abbrev brackets_pieces : (a b : List ℕ) → List ℕ
+brackets_pieces a b =
+    codes "{\"a\":" ++ ((34 ∷ (a ++ 34 ∷ [])) ++ (codes ",\"b\":" ++ ((34 ∷ (b ++ 34 ∷ [])) ++ codes "}")))
+
+brackets_same : (a b : List ℕ) → brackets_pieces a b ≡ codes "{\"a\":\"" ++ a ++ codes "\",\"b\":\"" ++ b ++ codes "\"}"
+brackets_same a b = simp append_assoc
+
+both_brackets_are : (a2 b2 : Option ℤ) → IfSome a2 IsOf128Bits → IfSome b2 IsOf128Bits
+    → compact_text (both_brackets_data a2 b2) ≡ both_brackets a2 b2
+unfolding escape_byte
+both_brackets_are None b2 h k = refl
+both_brackets_are (Some a2) None h k = refl
+both_brackets_are (Some a2) (Some b2) h k =
+    let a = escape_figures (nanoseconds_text a2) (figures_nanoseconds a2 h) in
+    let b = escape_figures (nanoseconds_text b2) (figures_nanoseconds b2 k) in
+    (λ i. brackets_pieces (a i) (b i)) ∙ brackets_same (nanoseconds_text a2) (nanoseconds_text b2)
+
+brackets_are : (results : Option Results) → compact_text (brackets_data results) ≡ brackets_text results
+unfolding escape_byte
+brackets_are None = refl
+brackets_are (Some results) =
+    both_brackets_are (sum results.path2 results.offset2) (difference results.path2 results.offset2)
+    (difference_fits (results.path2 +ℤ results.offset2)) (difference_fits (results.path2 -ℤ results.offset2))
+
 -- ---- tags and the time
 
-follow_is : (tag : Option ℕ) → compact_text (follow_data tag) ≡ follow_text tag
+follow_is : (tag : Option ℕ) → compact_text (follow_data tag) ≡ event_text tag
 follow_is None = refl
 follow_is (Some tag) = refl
+
+event_is : (event : Option ℕ) → compact_text (event_data event) ≡ event_text event
+event_is None = refl
+event_is (Some event) = refl
 
 abbrev time_pieces : (seconds nanos fraction : List ℕ) → List ℕ
 time_pieces seconds nanos fraction = 91 ∷ (seconds ++ (44 ∷ (nanos ++ (44 ∷ (fraction ++ 93 ∷ [])))))
@@ -296,6 +327,19 @@ time_is None = refl
 time_is (Some time) =
     time_same (decimal (stamp_of time).seconds) (decimal (stamp_of time).nanos) (decimal (fraction_of time))
 
+-- four moments, each behind its key
+abbrev times_front : (t1 t2 t3 t4 : List ℕ) → List ℕ
+times_front t1 t2 t3 t4 = codes "\"t1\":" ++ t1 ++ codes ",\"t2\":" ++ t2 ++ codes ",\"t3\":" ++ t3 ++ codes ",\"t4\":" ++ t4
+
+abbrev one_text : (Moments → ℕ) → Option Moments → List ℕ
+one_text one moments = time_text (option_map one moments)
+
+moments_are : (moments : Option Moments)
+    → times_front (one_text (λ (m : Moments). m.t1) moments) (one_text (λ (m : Moments). m.t2) moments)
+    (one_text (λ (m : Moments). m.t3) moments) (one_text (λ (m : Moments). m.t4) moments) ≡ moments_text moments
+moments_are None = refl
+moments_are (Some moments) = refl
+
 octets_are : (octets : Option Octets) → compact_text (octets_data octets) ≡ octets_text octets
 unfolding escape_byte
 octets_are None = refl
@@ -303,69 +347,79 @@ octets_are (Some Told) = refl
 octets_are (Some Other) = refl
 
 -- ---- the pieces of the text as a value's, by the texts of its members, and as they are written
-abbrev owed_pieces : (by_messages by_readings error rest : List ℕ) → List ℕ
-owed_pieces by_messages by_readings error rest =
-    codes "{\"by_messages\":" ++ (by_messages
+abbrev owed_pieces : (brackets by_messages by_readings error rest : List ℕ) → List ℕ
+owed_pieces brackets by_messages by_readings error rest =
+    codes "{\"brackets\":" ++ (brackets
+    ++ (codes ",\"by_messages\":" ++ (by_messages
     ++ (codes ",\"by_readings\":" ++ (by_readings
-    ++ (codes ",\"error\":" ++ (error ++ rest)))))
+    ++ (codes ",\"error\":" ++ (error ++ rest)))))))
 
-abbrev owed_front : (by_messages by_readings error : List ℕ) → List ℕ
-owed_front by_messages by_readings error =
-    codes "{\"by_messages\":" ++ by_messages ++ codes ",\"by_readings\":" ++ by_readings ++ codes ",\"error\":" ++ error
+abbrev owed_front : (brackets by_messages by_readings error : List ℕ) → List ℕ
+owed_front brackets by_messages by_readings error =
+    codes "{\"brackets\":" ++ brackets ++ codes ",\"by_messages\":" ++ by_messages ++ codes ",\"by_readings\":" ++ by_readings
+    ++ codes ",\"error\":" ++ error
 
-same_owed : (by_messages by_readings error rest : List ℕ)
-    → owed_pieces by_messages by_readings error rest ≡ owed_front by_messages by_readings error ++ rest
-same_owed by_messages by_readings error rest = simp append_assoc
+same_owed : (brackets by_messages by_readings error rest : List ℕ)
+    → owed_pieces brackets by_messages by_readings error rest ≡ owed_front brackets by_messages by_readings error ++ rest
+same_owed brackets by_messages by_readings error rest = simp append_assoc
 
-abbrev reported_pieces : (event line node octets offset2 path2 rest : List ℕ) → List ℕ
-reported_pieces event line node octets offset2 path2 rest =
+abbrev reported_pieces : (event line node octets offset2 otherwise path2 rest : List ℕ) → List ℕ
+reported_pieces event line node octets offset2 otherwise path2 rest =
     codes ",\"event\":" ++ (event
     ++ (codes ",\"line\":" ++ (line
     ++ (codes ",\"node\":" ++ ((34 ∷ (node ++ 34 ∷ []))
     ++ (codes ",\"octets\":" ++ (octets
     ++ (codes ",\"offset2\":" ++ ((34 ∷ (offset2 ++ 34 ∷ []))
-    ++ (codes ",\"path2\":" ++ ((34 ∷ (path2 ++ 34 ∷ [])) ++ rest)))))))))))
+    ++ (codes ",\"otherwise\":" ++ (otherwise
+    ++ (codes ",\"path2\":" ++ ((34 ∷ (path2 ++ 34 ∷ [])) ++ rest)))))))))))))
 
-abbrev reported_front : (event line node octets offset2 path2 : List ℕ) → List ℕ
-reported_front event line node octets offset2 path2 =
+abbrev reported_front : (event line node octets offset2 otherwise path2 : List ℕ) → List ℕ
+reported_front event line node octets offset2 otherwise path2 =
     codes ",\"event\":" ++ event
     ++ codes ",\"line\":" ++ line
     ++ codes ",\"node\":\"" ++ node
     ++ codes "\",\"octets\":" ++ octets
     ++ codes ",\"offset2\":\"" ++ offset2
-    ++ codes "\",\"path2\":\"" ++ path2 ++ codes "\""
+    ++ codes "\",\"otherwise\":" ++ otherwise
+    ++ codes ",\"path2\":\"" ++ path2 ++ codes "\""
 
-same_reported : (event line node octets offset2 path2 rest : List ℕ)
-    → reported_pieces event line node octets offset2 path2 rest ≡ reported_front event line node octets offset2 path2 ++ rest
-same_reported event line node octets offset2 path2 rest = simp append_assoc
+same_reported : (event line node octets offset2 otherwise path2 rest : List ℕ)
+    → reported_pieces event line node octets offset2 otherwise path2 rest
+    ≡ reported_front event line node octets offset2 otherwise path2 ++ rest
+same_reported event line node octets offset2 otherwise path2 rest = simp append_assoc
 
-abbrev reasons_pieces : (reasons sync follow request response time : List ℕ) → List ℕ
-reasons_pieces reasons sync follow request response time =
+abbrev reasons_pieces : (reasons t1 t2 t3 t4 sync follow request response time : List ℕ) → List ℕ
+reasons_pieces reasons t1 t2 t3 t4 sync follow request response time =
     codes ",\"reasons\":" ++ (reasons
+    ++ (codes ",\"t1\":" ++ (t1 ++ (codes ",\"t2\":" ++ (t2 ++ (codes ",\"t3\":" ++ (t3 ++ (codes ",\"t4\":" ++ (t4
     ++ (codes ",\"tags\":" ++ ((91 ∷ (sync ++ (44 ∷ (follow ++ (44 ∷ (request ++ (44 ∷ (response ++ 93 ∷ []))))))))
-    ++ (codes ",\"time\":" ++ (time ++ codes "}")))))
+    ++ (codes ",\"time\":" ++ (time ++ codes "}")))))))))))))
 
-abbrev reasons_front : (reasons sync follow request response time : List ℕ) → List ℕ
-reasons_front reasons sync follow request response time =
+abbrev reasons_front : (reasons times sync follow request response time : List ℕ) → List ℕ
+reasons_front reasons times sync follow request response time =
     codes ",\"reasons\":[" ++ reasons
-    ++ codes "],\"tags\":[" ++ sync
+    ++ codes "]," ++ times
+    ++ codes ",\"tags\":[" ++ sync
     ++ codes "," ++ follow
     ++ codes "," ++ request
     ++ codes "," ++ response
     ++ codes "],\"time\":" ++ time
 
-same_reasons : (reasons sync follow request response time : List ℕ)
-    → reasons_pieces (91 ∷ (reasons ++ 93 ∷ [])) sync follow request response time
-    ≡ reasons_front reasons sync follow request response time ++ codes "}"
-same_reasons reasons sync follow request response time = simp append_assoc
+same_reasons : (reasons t1 t2 t3 t4 sync follow request response time : List ℕ)
+    → reasons_pieces (91 ∷ (reasons ++ 93 ∷ [])) t1 t2 t3 t4 sync follow request response time
+    ≡ reasons_front reasons (times_front t1 t2 t3 t4) sync follow request response time ++ codes "}"
+same_reasons reasons t1 t2 t3 t4 sync follow request response time = simp append_assoc
 
-abbrev reasons_of : Judged → Details → List ℕ
-reasons_of judged details = reasons_front (codes_text judged.judgement.reasons) (decimal judged.report.sync_tag)
-    (follow_text judged.report.follow_tag) (decimal judged.report.request_tag) (decimal judged.report.response_tag)
+abbrev reasons_with : (times : List ℕ) → Judged → Details → List ℕ
+reasons_with times judged details = reasons_front (codes_text judged.judgement.reasons) times (decimal judged.report.sync_tag)
+    (event_text judged.report.follow_tag) (decimal judged.report.request_tag) (decimal judged.report.response_tag)
     (time_text details.time)
 
+abbrev reasons_of : Judged → Details → List ℕ
+reasons_of judged details = reasons_with (moments_text details.moments) judged details
+
 abbrev error_text_of : Judged → Details → List ℕ
-error_text_of judged details = error_text (is_wrong judged.report judged.judgement.by_readings)
+error_text_of judged details = error_text (are_known judged.judgement.by_readings)
     (errors_against judged.report details.by_messages) (errors_against judged.report judged.judgement.by_readings)
 
 abbrev line_of : Judged → Details → List ℕ
@@ -375,31 +429,41 @@ compact_is : (judged : Judged) (details : Details) → IsWithinRange judged deta
     → compact_text (judged_data judged details) ≡ line_of judged details
 unfolding escape_byte
 compact_is judged details h =
+    let brackets = brackets_are judged.judgement.by_readings in
     let by_messages = results_are details.by_messages h.by_messages in
     let by_readings = results_are judged.judgement.by_readings h.by_readings in
-    let error = error_is (is_wrong judged.report judged.judgement.by_readings) (errors_against judged.report details.by_messages)
+    let error = error_is (are_known judged.judgement.by_readings) (errors_against judged.report details.by_messages)
     (errors_against judged.report judged.judgement.by_readings) (errors_fit judged.report details.by_messages)
     (errors_fit judged.report judged.judgement.by_readings) in
     let node = escape_name judged.node (list_all-from_AllPass is_name_octet judged.node h.node.octets) in
     let offset2 = escape_figures (signed_decimal judged.report.offset2) (figures_signed judged.report.offset2 h.offset2) in
     let path2 = escape_figures (signed_decimal judged.report.path2) (figures_signed judged.report.path2 h.path2) in
     let reasons : List ℕ = reasons_of judged details ++ codes "}" in
-    (λ i. owed_pieces (by_messages i) (by_readings i) (error i)
-    (reported_pieces (decimal judged.event) (decimal judged.line) (node i) (octets_are details.octets i) (offset2 i) (path2 i)
-    (reasons_pieces (codes_are judged.judgement.reasons i) (decimal judged.report.sync_tag) (follow_is judged.report.follow_tag i)
+    (λ i. owed_pieces (brackets i) (by_messages i) (by_readings i) (error i)
+    (reported_pieces (decimal judged.event) (decimal judged.line) (node i) (octets_are details.octets i) (offset2 i)
+    (event_is details.otherwise i) (path2 i)
+    (reasons_pieces (codes_are judged.judgement.reasons i) (time_is (option_map (λ (m : Moments). m.t1) details.moments) i)
+    (time_is (option_map (λ (m : Moments). m.t2) details.moments) i) (time_is (option_map (λ (m : Moments). m.t3) details.moments) i)
+    (time_is (option_map (λ (m : Moments). m.t4) details.moments) i)
+    (decimal judged.report.sync_tag) (follow_is judged.report.follow_tag i)
     (decimal judged.report.request_tag) (decimal judged.report.response_tag) (time_is details.time i))))
-    ∙ ap (λ (r : List ℕ). owed_pieces (results_text details.by_messages) (results_text judged.judgement.by_readings)
-    (error_text_of judged details)
+    ∙ ap (λ (r : List ℕ). owed_pieces (brackets_text judged.judgement.by_readings) (results_text details.by_messages)
+    (results_text judged.judgement.by_readings) (error_text_of judged details)
     (reported_pieces (decimal judged.event) (decimal judged.line) judged.node (octets_text details.octets)
-    (signed_decimal judged.report.offset2)
+    (signed_decimal judged.report.offset2) (event_text details.otherwise)
     (signed_decimal judged.report.path2) r))
-    (same_reasons (codes_text judged.judgement.reasons) (decimal judged.report.sync_tag) (follow_text judged.report.follow_tag)
-    (decimal judged.report.request_tag) (decimal judged.report.response_tag) (time_text details.time))
-    ∙ ap (owed_pieces (results_text details.by_messages) (results_text judged.judgement.by_readings) (error_text_of judged details))
+    (same_reasons (codes_text judged.judgement.reasons) (one_text (λ (m : Moments). m.t1) details.moments)
+    (one_text (λ (m : Moments). m.t2) details.moments) (one_text (λ (m : Moments). m.t3) details.moments)
+    (one_text (λ (m : Moments). m.t4) details.moments) (decimal judged.report.sync_tag) (event_text judged.report.follow_tag)
+    (decimal judged.report.request_tag) (decimal judged.report.response_tag) (time_text details.time)
+    ∙ ap (λ (times : List ℕ). reasons_with times judged details ++ codes "}") (moments_are details.moments))
+    ∙ ap (owed_pieces (brackets_text judged.judgement.by_readings) (results_text details.by_messages)
+    (results_text judged.judgement.by_readings) (error_text_of judged details))
     (same_reported (decimal judged.event) (decimal judged.line) judged.node (octets_text details.octets)
-    (signed_decimal judged.report.offset2)
+    (signed_decimal judged.report.offset2) (event_text details.otherwise)
     (signed_decimal judged.report.path2) reasons)
-    ∙ same_owed (results_text details.by_messages) (results_text judged.judgement.by_readings) (error_text_of judged details)
+    ∙ same_owed (brackets_text judged.judgement.by_readings) (results_text details.by_messages)
+    (results_text judged.judgement.by_readings) (error_text_of judged details)
     (reported_text judged details ++ reasons)
 
 -- ---- in octets that are printed
@@ -438,8 +502,8 @@ codes_printed : (whys : List Why) → ArePrinted (codes_text whys)
 codes_printed [] = word [] refl
 codes_printed (why ∷ others) = both (number_printed (code_of why) (code_small why)) (more_printed others)
 
-follow_printed : (tag : Option ℕ) → IfSome tag IsTag → ArePrinted (follow_text tag)
-follow_printed None h = word (follow_text None) refl
+follow_printed : (tag : Option ℕ) → IfSome tag IsTag → ArePrinted (event_text tag)
+follow_printed None h = word (event_text None) refl
 follow_printed (Some tag) h = number_printed tag h
 
 time_printed : (time : Option ℕ) → IfSome time (λ time. time < bound) → ArePrinted (time_text time)
@@ -449,38 +513,63 @@ time_printed (Some time) h =
     (word (codes ",") refl)) (number_printed (stamp_of time).nanos (omega arith)))
     (word (codes ",") refl)) (number_printed (fraction_of time) (omega arith))) (word (codes "]") refl)
 
-owed_printed : (by_messages by_readings error : List ℕ) → ArePrinted by_messages → ArePrinted by_readings → ArePrinted error
-    → ArePrinted (owed_front by_messages by_readings error)
-owed_printed by_messages by_readings error m r e =
-    both (both (both (both (both (word (codes "{\"by_messages\":") refl) m) (word (codes ",\"by_readings\":") refl)) r) (word (codes ",\"error\":") refl)) e
+event_printed : (event : Option ℕ) → IfSome event (λ event. event < 2 ^ 64) → ArePrinted (event_text event)
+event_printed None h = word (event_text None) refl
+event_printed (Some event) h = number_printed event h
+
+moments_printed : (moments : Option Moments) → IfSome moments AreMoments → ArePrinted (moments_text moments)
+moments_printed None h = word (moments_text None) refl
+moments_printed (Some moments) h =
+    both (both (both (both (both (both (both (word (codes "\"t1\":") refl) (time_printed (Some moments.t1) h.t1))
+    (word (codes ",\"t2\":") refl)) (time_printed (Some moments.t2) h.t2))
+    (word (codes ",\"t3\":") refl)) (time_printed (Some moments.t3) h.t3))
+    (word (codes ",\"t4\":") refl)) (time_printed (Some moments.t4) h.t4)
+
+both_brackets_printed : (a2 b2 : Option ℤ) → IfSome a2 IsOf128Bits → IfSome b2 IsOf128Bits → ArePrinted (both_brackets a2 b2)
+both_brackets_printed None b2 h k = word (codes "null") refl
+both_brackets_printed (Some a2) None h k = word (codes "null") refl
+both_brackets_printed (Some a2) (Some b2) h k =
+    both (both (both (both (word (codes "{\"a\":\"") refl) (nanoseconds_printed a2 h))
+    (word (codes "\",\"b\":\"") refl)) (nanoseconds_printed b2 k)) (word (codes "\"}") refl)
+
+brackets_printed : (results : Option Results) → ArePrinted (brackets_text results)
+brackets_printed None = word (codes "null") refl
+brackets_printed (Some results) =
+    both_brackets_printed (sum results.path2 results.offset2) (difference results.path2 results.offset2)
+    (difference_fits (results.path2 +ℤ results.offset2)) (difference_fits (results.path2 -ℤ results.offset2))
+
+owed_printed : (brackets by_messages by_readings error : List ℕ) → ArePrinted brackets → ArePrinted by_messages → ArePrinted by_readings
+    → ArePrinted error → ArePrinted (owed_front brackets by_messages by_readings error)
+owed_printed brackets by_messages by_readings error b m r e =
+    both (both (both (both (both (both (both (word (codes "{\"brackets\":") refl) b) (word (codes ",\"by_messages\":") refl)) m) (word (codes ",\"by_readings\":") refl)) r) (word (codes ",\"error\":") refl)) e
 
 octets_printed : (octets : Option Octets) → ArePrinted (octets_text octets)
 octets_printed None = word (octets_text None) refl
 octets_printed (Some Told) = word (octets_text (Some Told)) refl
 octets_printed (Some Other) = word (octets_text (Some Other)) refl
 
-reported_printed : (event line node octets offset2 path2 : List ℕ)
-    → ArePrinted event → ArePrinted line → ArePrinted node → ArePrinted octets → ArePrinted offset2 → ArePrinted path2
-    → ArePrinted (reported_front event line node octets offset2 path2)
-reported_printed event line node octets offset2 path2 e l n t o p =
-    both (both (both (both (both (both (both (both (both (both (both (both (word (codes ",\"event\":") refl) e) (word (codes ",\"line\":") refl)) l) (word (codes ",\"node\":\"") refl)) n) (word (codes "\",\"octets\":") refl)) t) (word (codes ",\"offset2\":\"") refl)) o) (word (codes "\",\"path2\":\"") refl)) p) (word (codes "\"") refl)
+reported_printed : (event line node octets offset2 otherwise path2 : List ℕ)
+    → ArePrinted event → ArePrinted line → ArePrinted node → ArePrinted octets → ArePrinted offset2 → ArePrinted otherwise → ArePrinted path2
+    → ArePrinted (reported_front event line node octets offset2 otherwise path2)
+reported_printed event line node octets offset2 otherwise path2 e l n t o w p =
+    both (both (both (both (both (both (both (both (both (both (both (both (both (both (word (codes ",\"event\":") refl) e) (word (codes ",\"line\":") refl)) l) (word (codes ",\"node\":\"") refl)) n) (word (codes "\",\"octets\":") refl)) t) (word (codes ",\"offset2\":\"") refl)) o) (word (codes "\",\"otherwise\":") refl)) w) (word (codes ",\"path2\":\"") refl)) p) (word (codes "\"") refl)
 
-reasons_printed : (reasons sync follow request response time : List ℕ)
-    → ArePrinted reasons → ArePrinted sync → ArePrinted follow → ArePrinted request → ArePrinted response → ArePrinted time
-    → ArePrinted (reasons_front reasons sync follow request response time)
-reasons_printed reasons sync follow request response time c s f q r t =
-    both (both (both (both (both (both (both (both (both (both (both (word (codes ",\"reasons\":[") refl) c) (word (codes "],\"tags\":[") refl)) s) (word (codes ",") refl)) f) (word (codes ",") refl)) q) (word (codes ",") refl)) r) (word (codes "],\"time\":") refl)) t
+reasons_printed : (reasons times sync follow request response time : List ℕ)
+    → ArePrinted reasons → ArePrinted times → ArePrinted sync → ArePrinted follow → ArePrinted request → ArePrinted response → ArePrinted time
+    → ArePrinted (reasons_front reasons times sync follow request response time)
+reasons_printed reasons times sync follow request response time c m s f q r t =
+    both (both (both (both (both (both (both (both (both (both (both (both (both (word (codes ",\"reasons\":[") refl) c) (word (codes "],") refl)) m) (word (codes ",\"tags\":[") refl)) s) (word (codes ",") refl)) f) (word (codes ",") refl)) q) (word (codes ",") refl)) r) (word (codes "],\"time\":") refl)) t
 
 line_printed : (judged : Judged) (details : Details) → IsWithinRange judged details → ArePrinted (line_of judged details)
 line_printed judged details h =
-    both (owed_printed _ _ _ (results_printed details.by_messages h.by_messages)
+    both (owed_printed _ _ _ _ (brackets_printed judged.judgement.by_readings) (results_printed details.by_messages h.by_messages)
     (results_printed judged.judgement.by_readings h.by_readings)
-    (error_printed (is_wrong judged.report judged.judgement.by_readings) _ _ (errors_fit judged.report details.by_messages)
+    (error_printed (are_known judged.judgement.by_readings) _ _ (errors_fit judged.report details.by_messages)
     (errors_fit judged.report judged.judgement.by_readings)))
-    (both (reported_printed _ _ _ _ _ _ (number_printed judged.event h.event) (number_printed judged.line h.line)
+    (both (reported_printed _ _ _ _ _ _ _ (number_printed judged.event h.event) (number_printed judged.line h.line)
     (word _ (all_of is_name_octet is_printed name_printed judged.node (list_all-from_AllPass is_name_octet judged.node h.node.octets)))
-    (octets_printed details.octets) (signed_printed judged.report.offset2 h.offset2) (signed_printed judged.report.path2 h.path2))
-    (both (reasons_printed _ _ _ _ _ _ (codes_printed judged.judgement.reasons) (number_printed judged.report.sync_tag h.tags.sync)
+    (octets_printed details.octets) (signed_printed judged.report.offset2 h.offset2) (event_printed details.otherwise h.otherwise) (signed_printed judged.report.path2 h.path2))
+    (both (reasons_printed _ _ _ _ _ _ _ (codes_printed judged.judgement.reasons) (moments_printed details.moments h.moments) (number_printed judged.report.sync_tag h.tags.sync)
     (follow_printed judged.report.follow_tag h.tags.follow) (number_printed judged.report.request_tag h.tags.request)
     (number_printed judged.report.response_tag h.tags.response) (time_printed details.time h.time)) (word (codes "}") refl)))
 

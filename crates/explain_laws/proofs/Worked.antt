@@ -61,11 +61,13 @@ abbrev details : Details
 details = record {
   by_messages = Some (record { offset2 = negsuc 3145727999; path2 = negsuc 3145727999 });
   octets = Some Told;
+  otherwise = Some 6;
+  moments = Some (record { t1 = 65536000000000; t2 = 65536262144000; t3 = 131072065536003; t4 = 131072294928384 });
   time = Some 131072065536003;
 }
 
 text_is : judged_text judged details
-    ≡ codes "{\"by_messages\":{\"offset2\":\"-3145728000\",\"path2\":\"-3145728000\"},\"by_readings\":{\"offset2\":\"131072000\",\"path2\":\"131072000\"},\"error\":{\"by_messages\":{\"offset\":\"25000.00000762939453125\",\"path\":\"25000\"},\"by_readings\":{\"offset\":\"0.00000762939453125\",\"path\":\"0\"}},\"event\":13,\"line\":17,\"node\":\"S\",\"octets\":\"told\",\"offset2\":\"131072001\",\"path2\":\"131072000\",\"reasons\":[706,708],\"tags\":[2,6,8,11],\"time\":[2,1000,3]}\n"
+    ≡ codes "{\"brackets\":{\"a\":\"2000\",\"b\":\"0\"},\"by_messages\":{\"offset2\":\"-3145728000\",\"path2\":\"-3145728000\"},\"by_readings\":{\"offset2\":\"131072000\",\"path2\":\"131072000\"},\"error\":{\"by_messages\":{\"offset\":\"25000.00000762939453125\",\"path\":\"25000\"},\"by_readings\":{\"offset\":\"0.00000762939453125\",\"path\":\"0\"}},\"event\":13,\"line\":17,\"node\":\"S\",\"octets\":\"told\",\"offset2\":\"131072001\",\"otherwise\":6,\"path2\":\"131072000\",\"reasons\":[706,708],\"t1\":[1,0,0],\"t2\":[1,4000,0],\"t3\":[2,1000,3],\"t4\":[2,4500,16384],\"tags\":[2,6,8,11],\"time\":[2,1000,3]}\n"
 unfolding digits decimals
 text_is = refl
 
@@ -78,6 +80,8 @@ is_within = record {
   path2 = omega arith;
   by_readings = (omega arith, omega arith);
   by_messages = (omega arith, omega arith);
+  otherwise = omega arith;
+  moments = record { t1 = omega arith; t2 = omega arith; t3 = omega arith; t4 = omega arith };
   tags = record { sync = omega arith; follow = omega arith; request = omega arith; response = omega arith };
   time = omega arith;
 }

@@ -4,9 +4,9 @@ ghost use Rattle.explain_laws.specs.AsChecked.{ExplainsAsChecked, JudgementsHave
 ghost use Rattle.explain_laws.specs.ReadBack.{EachJudgementIsJson};
 ghost use Rattle.explain_laws.specs.Unread.{EachOtherTellsTheReadings};
 
-/// What `explain --json` writes of a report is one line of printed octets, which is read as an object of twelve members:
-/// `by_messages`, `by_readings`, `error`, `event`, `line`, `node`, `octets`, `offset2`, `path2`, `reasons`, `tags` and `time`,
-/// with the values of that judgement. This holds of all numbers of 64 bits, of results of 128 bits, of any name that a node may have,
+/// What `explain --json` writes of a report is one line of printed octets, which is read as an object of 18 members:
+/// `brackets`, `by_messages`, `by_readings`, `error`, `event`, `line`, `node`, `octets`, `offset2`, `otherwise`, `path2`,
+/// `reasons`, `t1`, `t2`, `t3`, `t4`, `tags` and `time`, with the values of that judgement. This holds of all numbers of 64 bits, of results of 128 bits, of any name that a node may have,
 /// and of each moment.
 pub fn judgements_are_json()
     ensures { EachJudgementIsJson }

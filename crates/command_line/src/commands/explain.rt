@@ -50,34 +50,37 @@ them, whoever wrote these; the lines tell which. Standard output says, as text f
                                   how many more there are. No report is judged after the first
   of input of another kind        which it is, and the command that makes of it what is wanted
   of a schedule                   which event its network refuses, and why
-  of each report of a transcript  each reason that stands against it, the journeys of its Sync and its
+  of each report that is refused  each reason that stands against it, the journeys of its Sync and its
                                   Delay_Req, and by how much its results differ from those of the readings;
                                   where the messages told the slave something else, the results by these,
-                                  and which message does
-  at the end                      how many reports there are, how many each reason stands against, how many
-                                  are right by the messages and how many by the readings, what is wrong
-                                  with octets, how many completions have no report, and the verdict of
-                                  'ptpx check'
+                                  and which message does. A sound one has no line but with --json
+  at the end                      how many reports there are, how many are sound, how many each reason
+                                  stands against, how many have the results by the messages and how many
+                                  those by the readings, what is wrong with octets, how many completions
+                                  have no report, and the verdict of 'ptpx check'
 What is said of a line goes out before the next is read. The line
-  event 13, line 17, slave S: refused, 706: the two results aren't those of the readings
+  event 13, line 17: the report of S is refused, 706: the two results aren't those of the readings
 is of the report with n 13, at line 17 of the input; lines count from 1. With --first, of all reports only
 the first that is refused is told.
 
 With --json standard output has a line for each report, before the next line is read, or with --first for
 that report alone, and nothing else:
-  {"by_messages":{"offset2":"131072000","path2":"131072000"},"by_readings":{"offset2":"131072000",
-  "path2":"131072000"},"error":{"by_messages":{"offset":"0.5","path":"0"},"by_readings":{"offset":"0.5",
-  "path":"0"}},"event":13,"line":17,"node":"S","octets":null,"offset2":"131137536","path2":"131072000",
-  "reasons":[706],"tags":[5,7,8,13],"time":[2,1000,0]}
+  {"brackets":{"a":"2000","b":"0"},"by_messages":{"offset2":"131072000","path2":"131072000"},
+  "by_readings":{"offset2":"131072000","path2":"131072000"},"error":{"by_messages":{"offset":"0.5",
+  "path":"0"},"by_readings":{"offset":"0.5","path":"0"}},"event":13,"line":17,"node":"S","octets":null,
+  "offset2":"131137536","otherwise":null,"path2":"131072000","reasons":[706],"t1":[1,0,0],
+  "t2":[1,4000,0],"t3":[2,1000,0],"t4":[2,4500,16384],"tags":[5,7,8,13],"time":[2,1000,0]}
 in one line. reasons are all that stand against the report, none where it is sound: 701 alone, or else 704
 alone, or else each that applies of 702, 703, 705, 707, 706 and 708, in this order. by_readings is what
 the results are by the readings, by_messages what they are by what the messages told the slave and its own
-readings; both are null where 701 or 704 stands, by_messages also where one of these messages can't be
-read. error is how many nanoseconds the results are too much against each of the two, null where 706
-doesn't stand. octets is "told" where 708 stands and a field differs that a slave or a master reads (behind
-a two-step transparent clock no finding), and "other" where only fields do that nobody here reads. offset2
-is twice offsetFromMaster and path2 twice meanPathDelay, in units of 2^-16 ns. time is what the slave read
-at the later of the Sync's arrival and the Delay_Req's departure.
+readings; both are null where 701 or 704 stands, as are error, brackets and all times, by_messages also
+where one of these messages can't be read. error is how many nanoseconds the results are too much against
+each of the two. a is t2 - t1 less the time in clocks, b is t4 - t3 less it, in nanoseconds, and t1 to t4
+are what the clocks read. octets is "told" where 708 stands and a field differs that a slave or a master
+reads (behind a two-step transparent clock no finding), and otherwise is then the event that made the first
+such message; "other" where only fields differ that nobody here reads. offset2 is twice offsetFromMaster
+and path2 twice meanPathDelay, in units of 2^-16 ns. time is what the slave read at the later of the Sync's
+arrival and the Delay_Req's departure.
 
 Reasons and faults are those that 'ptpx check --help' lists, and of a schedule those of 'ptpx replay --help'.
 The first fault goes as 'ptpx: fault 806 at line 3' to standard error.

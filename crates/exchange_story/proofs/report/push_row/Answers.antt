@@ -10,4 +10,5 @@ returns c =
     let other : FitsSigned w128 c.args.by_readings = search rules in
     let row = simp to_z-of_z at c.in_ok-write.ensures.bytes in
     let difference = simp to_z-of_z at c.in_ok-push_difference.ensures in
-    row_told c.push_str.result c.args.name.now c.args.reported c.args.by_readings _ _ _ _ row difference c.push_str.ensures.bytes
+    let raw = simp to_z-of_z at c.push_raw.ensures in
+    row_told c.push_raw.result c.args.name.now c.args.key.now c.args.reported c.args.by_readings _ _ _ _ row difference raw

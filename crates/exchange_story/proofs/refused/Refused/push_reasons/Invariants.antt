@@ -11,6 +11,6 @@ invariant-loop-why l = record {
   lead : shadow (Utf8 l.lead);
   told : List ℕ;
   text : string_bytes l.text ≡ string_bytes l.initial.text ++ told;
-  tells : (behind : List ℕ) → TellsReasons l.lead (drop l.why-index l.reasons) behind
-      → TellsReasons (codes "refused, ") l.reasons (told ++ behind);
+  tells : (behind : List ℕ) → TellsReasons l.equal l.lead (drop l.why-index l.reasons) behind
+      → TellsReasons l.equal (codes "refused, ") l.reasons (told ++ behind);
 }

@@ -5,8 +5,8 @@ use Rattle.exchange_story.proofs.story.Story.push_report.Goals as goal
 
 pub returns-then-is_sound : goal.returns-then-is_sound
 returns-then-is_sound c =
-    told_by c.push_sound.result c.args.reported.now None _ _
-    (sound_told c.push_sound.result c.args.reported.now None _ _ _ (sym c.is_sound.ensures ∙ c.if-is_sound.true) c.push_sound.ensures)
+    let (told, tells, is) = sound_told c.args.reported.now None c.args.reported.now.judgement.reasons _ (sym c.is_sound.ensures ∙ c.if-is_sound.true) in
+    (told, (None, tells), is)
 
 pub returns : goal.returns
 returns c =
