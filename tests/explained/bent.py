@@ -654,6 +654,10 @@ def behind_moments(text):
     return ''.join(itertools.takewhile(lambda line: line.startswith('  '), lines))
 
 
+# How many outcomes aren't those of a slave here: what a port makes of messages that are bent isn't computed here.
+OTHERS = re.compile('(?m)^other outcomes than a slave here has for the messages that came: .*\n  the first: .*\n')
+
+
 class Bent(unittest.TestCase):
     maxDiff = None
 
@@ -672,7 +676,7 @@ class Bent(unittest.TestCase):
                 self.assertEqual(text[:text.index('  t1  ')], above(exchange))
                 self.assertEqual(behind_moments(text), below(exchange))
         last = told[-1]
-        self.assertEqual(last[re.search('(?m)^[0-9]+ reports?: ', last).start():], end(bent))
+        self.assertEqual(OTHERS.sub('', last[re.search('(?m)^[0-9]+ reports?: ', last).start():]), end(bent))
 
     def test_names_each_field_and_by_how_much(self):
         self.assertGreaterEqual(len(WAYS), 30)

@@ -471,24 +471,47 @@ AFTER_TWO_TICKS = ONCE_MORE.replace('"n":14', '"n":16')
 
 # The ends of transcripts in which completions have no report. A half outlives one tick.
 NONE_JUDGED = 'there is no report, so nothing was judged\n'
+OTHERS = 'other outcomes than a slave here has for the messages that came: '
 UNREPORTED = [
     (TRANSCRIPT, [PASSED_OVER],
      NONE_JUDGED + '1 completion had no report, though both halves of one were there; the verdict says nothing of these\n'
+     + OTHERS + '1 of 3\n  the first: event 13, line 17: completed; a slave here: report\n'
      'verdict: accepted 0\n'),
     ([*TRANSCRIPT, ONCE_MORE], [PASSED_OVER],
      NONE_JUDGED + '2 completions had no report, though both halves of one were there; the verdict says nothing of these\n'
+     + OTHERS + '2 of 4\n  the first: event 13, line 17: completed; a slave here: report\n'
      'verdict: accepted 0\n'),
     ([*TRANSCRIPT, ONCE_MORE], [],
      '1 report: 1 sound\n'
      '1 completion had no report, though both halves of one were there; the verdict says nothing of these\n'
+     + OTHERS + '1 of 4\n  the first: event 14, line 18: completed; a slave here: report\n'
      'verdict: accepted 1\n'),
     ([*TRANSCRIPT, TICK, ONCE_MORE.replace('"n":14', '"n":15')], [],
      '1 report: 1 sound\n'
      '1 completion had no report, though both halves of one were there; the verdict says nothing of these\n'
+     + OTHERS + '1 of 4\n  the first: event 15, line 19: completed; a slave here: report\n'
      'verdict: accepted 1\n'),
     ([*TRANSCRIPT, TICK, TICK_AGAIN, AFTER_TWO_TICKS], [], '1 report: 1 sound\nverdict: accepted 1\n'),
     ([*TRANSCRIPT, '{"ev":"setmaster","master":"M","n":14,"node":"S","out":"done"}\n', ONCE_MORE.replace('"n":14', '"n":15')], [],
-     '1 report: 1 sound\nverdict: accepted 1\n'),
+     '1 report: 1 sound\n' + OTHERS + '1 of 4\n  the first: event 15, line 19: completed; a slave here: ignored 509\n'
+     'verdict: accepted 1\n'),
+]
+
+# What is changed in which lines, how many outcomes at slaves aren't those of a slave here then, of three messages that came, and the first.
+IGNORED = '"out":"completed"}', '"code":512,"out":"ignored"}'
+OUTCOMES = [
+    # The Follow_Up is ignored, and so the Delay_Resp completes no report.
+    ([*TRANSCRIPT[:10], TRANSCRIPT[10].replace(*IGNORED), *TRANSCRIPT[11:]], [PASSED_OVER],
+     '2 of 3\n  the first: event 7, line 11: ignored 512; a slave here: completed\n'),
+    # The Delay_Resp is passed over.
+    (TRANSCRIPT, [PASSED_OVER], '1 of 3\n  the first: event 13, line 17: completed; a slave here: report\n'),
+    # The Delay_Req has a number behind a gap, and the Delay_Resp has it, too.
+    (TRANSCRIPT, [('ccddee00010000017f', 'ccddee00010007017f'), ('0001000003000000000000020000119400', '0001000703000000000000020000119400')], ''),
+    # The Sync is of another domain.
+    (TRANSCRIPT, [('0012002c00', '0012002c07')], '3 of 3\n  the first: event 5, line 9: held; a slave here: ignored 503\n'),
+    # It isn't told when the Delay_Req left.
+    ([*TRANSCRIPT[:15], TRANSCRIPT[15].replace('"stamped"', '"tick"'), TRANSCRIPT[16]], [],
+     '1 of 3\n  the first: event 13, line 17: report; a slave here: ignored 510\n'),
 ]
 
 # The place of a line, what is replaced in it by what, and what is said of this message then, and of how many differ in which field:
@@ -645,6 +668,15 @@ no report was judged from line 4 on
                 ended = explain(changed(lines, *changes))
                 self.ends(ended.output, said)
                 self.assertEqual(ended.status, 0)
+
+    def test_counts_outcomes_that_a_slave_here_has_not(self):
+        for lines, changes, said in OUTCOMES:
+            with self.subTest(changes=changes, said=said):
+                output = explain(changed(lines, *changes)).output
+                if said:
+                    self.assertIn(f'\n{OTHERS}{said}verdict: ', output)
+                else:
+                    self.assertNotIn(OTHERS, output)
 
     def test_tells_of_input_of_other_kinds(self):
         for text, said in FOREIGN:

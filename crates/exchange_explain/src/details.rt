@@ -100,8 +100,8 @@ fn later_reading(checker: &Checker, request: u64, arrived: &ExchangeLine) -> Opt
 
 /// What the slave read at the last of the two event messages of a report of the line that the checker was fed last, which
 /// has this exchange. None where 701 or 704 stands.
-fn last_time(checker: &Checker, report: &Report, exchange: Option<Exchange>) -> Option<ScaledTime>
-    ensures { exchange ≡ last_exchange checker.now.network (reverse checker.now.lines) report.now
+fn last_time(checker: &Checker, report: &Report, exchange: &Option<Exchange>) -> Option<ScaledTime>
+    ensures { exchange.now ≡ last_exchange checker.now.network (reverse checker.now.lines) report.now
         → result ≡ last_time checker.now.network (reverse checker.now.lines) report.now }
 {
     match exchange {
@@ -123,11 +123,11 @@ fn moments_of(exchange: &Exchange) -> Moments
 }
 
 /// The same, where there is an exchange.
-fn moments_told(exchange: Option<Exchange>) -> Option<Moments>
-    ensures { result ≡ option_map moments_of exchange }
+fn moments_told(exchange: &Option<Exchange>) -> Option<Moments>
+    ensures { result ≡ option_map moments_of exchange.now }
 {
     match exchange {
-        Some(exchange) => Some(moments_of(&exchange)),
+        Some(exchange) => Some(moments_of(exchange)),
         None => None,
     }
 }
@@ -182,8 +182,8 @@ pub(crate) fn details_of(evidence: &Evidence, input: &Input, report: &Report) ->
                     by_messages: evidence.by_messages(checker, report),
                     octets: octets_of(evidence, checker, report, otherwise),
                     otherwise: made_by(otherwise),
-                    moments: moments_told(exchange),
-                    time: last_time(checker, report, exchange),
+                    moments: moments_told(&exchange),
+                    time: last_time(checker, report, &exchange),
                 }
             }
             None => NOTHING,

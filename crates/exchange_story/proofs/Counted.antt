@@ -11,10 +11,11 @@ use Rattle.trace_model.specs.declared.verdict.Why.{Why}
 use Rattle.trace_model.specs.declared.verdict.Why.TheVariants.{NoSuchLine, OtherNumber, OtherMaster, BrokenJourney}
 use Rattle.trace_model.specs.declared.verdict.Why.TheVariants.{WrongReading, WrongValue, TooBig, Bytes}
 use Rattle.trace_model.specs.Refusal.{code_of, words_of}
+use Rattle.story_words.specs.Lines.{are_lines}
 use Rattle.message_difference.specs.Differing.{TellsMessages, messages_text}
 use Rattle.exchange_story.specs.Counts.{Counts, against, counted, is_sound, is_octets_alone, stands, counts_of, counts_text, failing_lines, failing_text}
 use Rattle.exchange_story.specs.Counts.{has_octets, noun_text, aside_text, read_text}
-use Rattle.exchange_story.specs.Counts.{TellsCounts, told_reasons, is_by_readings, right_text, of_reports_text, completions_text, unreported_text}
+use Rattle.exchange_story.specs.Counts.{TellsCounts, told_reasons, is_by_readings, right_text, of_reports_text, completions_text, others_text, unreported_text}
 use Rattle.exchange_story.specs.declared.tally.Failing.{Failing}
 use Rattle.exchange_story.specs.declared.tally.Tally.{Tally}
 use Rattle.exchange_story.specs.Inner.Tally.{counts_in, failing_in}
@@ -244,14 +245,34 @@ unreported_told (Ok x) count noun old new some noun_is is =
     ∙ rw (ne_eqb count 0 some) (simp append_assoc)
 unreported_told (Err e) count noun old new some noun_is is = tt
 
+-- how many outcomes aren't those of a slave here, and lines behind it
+pub others_line_told : {E : Type 0} (r : Result (Unit {0}) E) (others came : ℕ) (old new : List ℕ) → others ≢ 0
+    → OnOk r (new ≡ old ++ (codes "other outcomes than a slave here has for the messages that came: " ++ (decimal others
+    ++ (codes " of " ++ (decimal came ++ codes "\n")))))
+    → OnOk r (new ≡ old ++ others_text others came)
+others_line_told (Ok x) others came old new some is = is ∙ rw (ne_eqb others 0 some) (simp append_assoc)
+others_line_told (Err e) others came old new some is = tt
+
+pub others_told : {E : Type 0} (r : Result (Unit {0}) E) (others came : ℕ) (old first new : List ℕ) → first ≡ old ++ others_text others came
+    → OnOk r ((line : List ℕ) × (are_lines (codes "  ") line ≡ true) × (new ≡ first ++ line))
+    → OnOk r ((others : ℕ) × (came : ℕ) × (line : List ℕ) × (are_lines (codes "  ") line ≡ true)
+    × (new ≡ old ++ (others_text others came ++ line)))
+others_told (Ok x) others came old first new first_is (line, below, is) =
+    (others, came, line, below, is ∙ ap (λ (t : List ℕ). t ++ line) first_is ∙ append_assoc old (others_text others came) line)
+others_told (Err e) others came old first new first_is told = tt
+
 -- all of it
-pub counts_told : {E : Type 0} (r : Result (Unit {0}) E) (counts : Counts) (by_messages differ unreported : ℕ) (old first second new messages : List ℕ)
+pub counts_told : {E : Type 0} (r : Result (Unit {0}) E) (counts : Counts) (by_messages differ unreported : ℕ)
+    (old first second third new messages : List ℕ)
     → first ≡ old ++ counts_text counts by_messages differ → TellsMessages (has_octets counts) messages → second ≡ first ++ messages
-    → OnOk r (new ≡ second ++ unreported_text unreported)
+    → third ≡ second ++ unreported_text unreported
+    → OnOk r ((others : ℕ) × (came : ℕ) × (line : List ℕ) × (are_lines (codes "  ") line ≡ true)
+    × (new ≡ third ++ (others_text others came ++ line)))
     → OnOk r ((told : List ℕ) × TellsCounts counts told × (new ≡ old ++ told))
-counts_told (Ok x) counts by_messages differ unreported old first second new messages first_is tells second_is is = (
-  counts_text counts by_messages differ ++ (messages ++ unreported_text unreported),
-  (by_messages, differ, unreported, messages, tells, refl),
-  is ∙ rw (second_is, first_is) (simp append_assoc),
-)
-counts_told (Err e) counts by_messages differ unreported old first second new messages first_is tells second_is is = tt
+counts_told (Ok x) counts by_messages differ unreported old first second third new messages first_is tells second_is third_is
+    (others, came, line, below, is) = (
+      counts_text counts by_messages differ ++ (messages ++ (unreported_text unreported ++ (others_text others came ++ line))),
+      (by_messages, differ, unreported, others, came, messages, line, tells, below, refl),
+      is ∙ rw (third_is, second_is, first_is) (simp append_assoc),
+    )
+counts_told (Err e) counts by_messages differ unreported old first second third new messages first_is tells second_is third_is told = tt

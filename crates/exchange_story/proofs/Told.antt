@@ -1,7 +1,7 @@
 -- What is told of a report, piece by piece.
 use Rattle.std.proofs.Common.{◌≡◌, ◌∙◌, ℕ, ◌+◌, ◌<◌, ◌≤◌, ℤ, Bool, true, false, Option, Some, List, [], ◌∷◌, ◌++◌, length, get_or, drop, Result, Ok, Err}
-use Rattle.std.proofs.Common.{refl, sym, ap, subst, append_assoc, append-nil, if◌then◌else◌}
-use Rattle.std.specs.Prelude.{codes, is_ok, OnOk}
+use Rattle.std.proofs.Common.{refl, sym, ap, subst, append_assoc, append-nil}
+use Rattle.std.specs.Prelude.{codes, OnOk}
 use Rattle.std.specs.Fmt.{signed_decimal}
 use Rattle.std.proofs.lemmas.List.{drop_more, drop_all}
 use Rattle.ptp_units.specs.Nanoseconds.{nanoseconds_text}

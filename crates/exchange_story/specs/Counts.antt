@@ -7,6 +7,7 @@ use Rattle.trace_model.specs.declared.verdict.Why.{Why}
 use Rattle.trace_model.specs.declared.verdict.Why.TheVariants.{NoSuchLine, OtherNumber, OtherMaster, BrokenJourney}
 use Rattle.trace_model.specs.declared.verdict.Why.TheVariants.{WrongReading, WrongValue, TooBig, Bytes}
 use Rattle.trace_model.specs.Refusal.{code_of, words_of}
+use Rattle.story_words.specs.Lines.{are_lines}
 use Rattle.message_difference.specs.Differing.{TellsMessages, messages_text}
 
 -- all reasons, in the order in which they are told
@@ -135,9 +136,19 @@ unreported_text count = if count == 0 then [] else
     (decimal count ++ codes " " ++ completions_text count
     ++ codes " had no report, though both halves of one were there; the verdict says nothing of these\n")
 
+-- the line that says how many outcomes of messages that came to slaves, of how many, aren't those of a slave here; none where
+-- none isn't
+abbrev pub others_text : (others came : ℕ) → List ℕ
+others_text others came = if others == 0 then [] else
+    (codes "other outcomes than a slave here has for the messages that came: " ++ decimal others ++ codes " of "
+    ++ decimal came ++ codes "\n")
+
 -- what is told of counts, with how many reports are said to have the results by the messages, in how many messages a field
--- that is read is said to differ, and how many completions are said to have had no report
+-- that is read is said to differ, how many completions are said to have had no report, and how many outcomes of how many
+-- messages are said not to be those of a slave here, behind which lines stand that begin with two blanks
 abbrev pub TellsCounts : Counts → List ℕ → Type 0
 TellsCounts counts text =
-    (by_messages : ℕ) × (differ : ℕ) × (unreported : ℕ) × (messages : List ℕ) × TellsMessages (has_octets counts) messages
-    × (text ≡ counts_text counts by_messages differ ++ (messages ++ unreported_text unreported))
+    (by_messages : ℕ) × (differ : ℕ) × (unreported : ℕ) × (others : ℕ) × (came : ℕ) × (messages : List ℕ) × (first : List ℕ)
+    × TellsMessages (has_octets counts) messages × (are_lines (codes "  ") first ≡ true)
+    × (text ≡ counts_text counts by_messages differ
+    ++ (messages ++ (unreported_text unreported ++ (others_text others came ++ first))))

@@ -2,6 +2,7 @@
 #![tactic(auto)]
 
 mod completing;
+mod others;
 mod past;
 mod refused;
 mod report;

@@ -7,6 +7,7 @@ ghost use Rattle.message_difference.specs.Differing.{TellsMessages};
 ghost use Rattle.exchange_story.specs.Report.{TellsReport};
 
 use crate::completing::{Completions, push_unreported};
+use crate::others::push_others;
 use crate::past::Pasts;
 use crate::refused::Refused;
 use crate::report::is_sound;
@@ -15,6 +16,7 @@ use exchange_check::{Checker, Evidence, KeptLine, TraceLine, TraceOut};
 use finding_text::{Case, Known, Reported, index_of};
 use message_difference::{Compared, Differing};
 use network_model::NodeSpec;
+use slave_answers::SlaveAnswers;
 use std::alloc::{AllocError, Global};
 use std::marker::Model;
 
@@ -28,6 +30,8 @@ pub struct Story {
     /// How many messages have other octets than are written.
     differing: Differing,
     completions: Completions,
+    /// What slaves are said to make of what came to them, beside what a port here makes of it.
+    answers: SlaveAnswers,
     pasts: Pasts,
     tally: Tally,
 }
@@ -68,6 +72,7 @@ impl Story {
             evidence: Evidence::new(alloc),
             differing: Differing::new(),
             completions: Completions::new(alloc),
+            answers: SlaveAnswers::new(alloc),
             pasts: Pasts::new(alloc),
             tally: Tally::new(),
         }
@@ -88,6 +93,7 @@ impl Story {
         if self.evidence.note(checker, &line).is_err() {
             return Err(AllocError);
         }
+        self.answers.take(checker, &self.evidence, &line)?;
         self.nodes = Vec::new(self.alloc);
         let Some(number) = checker.len().checked_sub(1) else {
             return Ok(());
@@ -193,14 +199,16 @@ impl Story {
     /// Appends what is told of all reports: how many there are, and how many fail which conditions. Where one isn't
     /// sound, that is how many are right by the messages, and how many by the readings, too; where octets stand against
     /// one, how many reports would be sound without that, or in how many messages a field differs that a slave or a
-    /// master reads, and how many messages have other octets; and how many completions had no report.
+    /// master reads, and how many messages have other octets; how many completions had no report; and how many outcomes at
+    /// slaves aren't those of a slave here for what came.
     pub fn push_tally(&self, text: &mut String) -> Result<(), AllocError>
         ensures { OnOk result ((told : List ℕ) × TellsCounts self.now told
             × (string_bytes text.new ≡ string_bytes text.old ++ told)) }
     {
         self.tally.push(text, self.differing.read())?;
         self.push_messages(text)?;
-        push_unreported(text, self.completions.unreported())
+        push_unreported(text, self.completions.unreported())?;
+        push_others(text, self.alloc, &self.answers)
     }
 
     /// Appends how many messages have other octets, where octets stand against a report.

@@ -134,6 +134,17 @@ error_of judged details = (
   (errors_against judged.report details.by_messages, errors_against judged.report judged.judgement.by_readings),
 )
 
+-- the members of a judgement from its moments on, and all of them
+abbrev behind : Judged → Details → List Field
+behind judged details =
+    (codes "t1", Some (time_data (option_map (λ (m : Moments). m.t1) details.moments)))
+    ∷ (codes "t2", Some (time_data (option_map (λ (m : Moments). m.t2) details.moments)))
+    ∷ (codes "t3", Some (time_data (option_map (λ (m : Moments). m.t3) details.moments)))
+    ∷ (codes "t4", Some (time_data (option_map (λ (m : Moments). m.t4) details.moments)))
+    ∷ (codes "tags", Some (tags_data judged.report))
+    ∷ (codes "time", Some (time_data details.time))
+    ∷ []
+
 abbrev fields : Judged → Details → List Field
 fields judged details =
     (codes "brackets", Some (brackets_data judged.judgement.by_readings))
@@ -148,17 +159,62 @@ fields judged details =
     ∷ (codes "otherwise", Some (event_data details.otherwise))
     ∷ (codes "path2", Some (difference_data judged.report.path2))
     ∷ (codes "reasons", Some (array (codes_data judged.judgement.reasons)))
-    ∷ (codes "t1", Some (time_data (option_map (λ (m : Moments). m.t1) details.moments)))
-    ∷ (codes "t2", Some (time_data (option_map (λ (m : Moments). m.t2) details.moments)))
-    ∷ (codes "t3", Some (time_data (option_map (λ (m : Moments). m.t3) details.moments)))
-    ∷ (codes "t4", Some (time_data (option_map (λ (m : Moments). m.t4) details.moments)))
-    ∷ (codes "tags", Some (tags_data judged.report))
-    ∷ (codes "time", Some (time_data details.time))
-    ∷ []
+    ∷ behind judged details
+
+behind_readable : (judged : Judged) (details : Details) → IsWithinRange judged details → AreReadableFields (behind judged details)
+behind_readable judged details h = (
+  moment_readable_of (λ (m : Moments). m.t1) (λ m small. small.t1) details.moments h.moments,
+  (
+    moment_readable_of (λ (m : Moments). m.t2) (λ m small. small.t2) details.moments h.moments,
+    (
+      moment_readable_of (λ (m : Moments). m.t3) (λ m small. small.t3) details.moments h.moments,
+      (
+        moment_readable_of (λ (m : Moments). m.t4) (λ m small. small.t4) details.moments h.moments,
+        (tags_readable judged.report h.tags, (time_readable details.time h.time, tt)),
+      ),
+    ),
+  ),
+)
 
 fields_readable : (judged : Judged) (details : Details) → IsWithinRange judged details
     → AreReadableFields (fields judged details)
-fields_readable judged details h = (brackets_readable judged.judgement.by_readings, (results_readable details.by_messages, (results_readable judged.judgement.by_readings, (error_readable _ _ _, (whole_readable judged.event h.event, (whole_readable judged.line h.line, (text_readable _, (octets_readable details.octets, (text_readable _, (event_readable details.otherwise h.otherwise, (text_readable _, (codes_readable judged.judgement.reasons, (moment_readable_of (λ (m : Moments). m.t1) (λ m small. small.t1) details.moments h.moments, (moment_readable_of (λ (m : Moments). m.t2) (λ m small. small.t2) details.moments h.moments, (moment_readable_of (λ (m : Moments). m.t3) (λ m small. small.t3) details.moments h.moments, (moment_readable_of (λ (m : Moments). m.t4) (λ m small. small.t4) details.moments h.moments, (tags_readable judged.report h.tags, (time_readable details.time h.time, tt))))))))))))))))))
+fields_readable judged details h = (
+  brackets_readable judged.judgement.by_readings,
+  (
+    results_readable details.by_messages,
+    (
+      results_readable judged.judgement.by_readings,
+      (
+        error_readable _ _ _,
+        (
+          whole_readable judged.event h.event,
+          (
+            whole_readable judged.line h.line,
+            (
+              text_readable _,
+              (
+                octets_readable details.octets,
+                (
+                  text_readable _,
+                  (
+                    event_readable details.otherwise h.otherwise,
+                    (
+                      text_readable _,
+                      (
+                        codes_readable judged.judgement.reasons,
+                        behind_readable judged details h,
+                      ),
+                    ),
+                  ),
+                ),
+              ),
+            ),
+          ),
+        ),
+      ),
+    ),
+  ),
+)
 
 read_back : (judged : Judged) (details : Details) → IsWithinRange judged details
     → read (compact_text (judged_data judged details)) ≡ Some (judged_data judged details)
@@ -405,10 +461,28 @@ reasons_front reasons times sync follow request response time =
     ++ codes "," ++ response
     ++ codes "],\"time\":" ++ time
 
+abbrev tags_behind : (sync follow request response time : List ℕ) → List ℕ
+tags_behind sync follow request response time =
+    codes ",\"tags\":" ++ ((91 ∷ (sync ++ (44 ∷ (follow ++ (44 ∷ (request ++ (44 ∷ (response ++ 93 ∷ []))))))))
+    ++ (codes ",\"time\":" ++ (time ++ codes "}")))
+
+same_times : (t1 t2 t3 t4 rest : List ℕ)
+    → codes "\"t1\":" ++ (t1 ++ (codes ",\"t2\":" ++ (t2 ++ (codes ",\"t3\":" ++ (t3 ++ (codes ",\"t4\":" ++ (t4 ++ rest)))))))
+    ≡ times_front t1 t2 t3 t4 ++ rest
+same_times t1 t2 t3 t4 rest = simp append_assoc
+
+same_tags : (reasons times sync follow request response time : List ℕ)
+    → codes ",\"reasons\":" ++ ((91 ∷ (reasons ++ 93 ∷ [])) ++ (44 ∷ (times ++ tags_behind sync follow request response time)))
+    ≡ reasons_front reasons times sync follow request response time ++ codes "}"
+same_tags reasons times sync follow request response time = simp append_assoc
+
 same_reasons : (reasons t1 t2 t3 t4 sync follow request response time : List ℕ)
     → reasons_pieces (91 ∷ (reasons ++ 93 ∷ [])) t1 t2 t3 t4 sync follow request response time
     ≡ reasons_front reasons (times_front t1 t2 t3 t4) sync follow request response time ++ codes "}"
-same_reasons reasons t1 t2 t3 t4 sync follow request response time = simp append_assoc
+same_reasons reasons t1 t2 t3 t4 sync follow request response time =
+    ap (λ (behind : List ℕ). codes ",\"reasons\":" ++ ((91 ∷ (reasons ++ 93 ∷ [])) ++ (44 ∷ behind)))
+    (same_times t1 t2 t3 t4 (tags_behind sync follow request response time))
+    ∙ same_tags reasons (times_front t1 t2 t3 t4) sync follow request response time
 
 abbrev reasons_with : (times : List ℕ) → Judged → Details → List ℕ
 reasons_with times judged details = reasons_front (codes_text judged.judgement.reasons) times (decimal judged.report.sync_tag)

@@ -1,0 +1,175 @@
+//! What all slaves of a transcript are said to make of what came to them.
+
+use crate::outcome::SlaveOutcome;
+use crate::played::Played;
+use exchange_check::{Checker, Evidence, TraceLine, TraceOut};
+use network_model::{Event, Heard, Name, NodeKind};
+use std::alloc::{AllocError, Global};
+use std::collections::BTreeMap;
+
+/// An outcome that isn't that of a port here.
+#[derive(Clone, Copy, Debug, PartialEq, Eq)]
+pub struct OtherOutcome {
+    /// The event, by its place among the events.
+    pub event: u64,
+    /// Its line, counted from 1.
+    pub line: u64,
+    /// What is said to have come of the message.
+    pub said: SlaveOutcome,
+    /// What a port here makes of it.
+    pub answered: SlaveOutcome,
+}
+
+/// What came to the slaves of a transcript, by the places of the slaves among the nodes, and how many outcomes are others than a
+/// port here has for it.
+#[derive(Drop)]
+pub struct SlaveAnswers {
+    by_slave: BTreeMap<u64, Played>,
+    /// How many messages came to slaves, at most 2^64 - 1.
+    came: u64,
+    others: u64,
+    first: Option<OtherOutcome>,
+}
+
+/// What a port makes of the message that came by an event; none where none came, or no reading is told.
+fn answer(played: &mut Played, octets: &[u8], line: &TraceLine, number: u64) -> Option<Heard> {
+    match line.event {
+        Event::Arrive { .. } => Some(played.arrive(octets, line.reading?, number)),
+        Event::Hear { .. } => Some(played.hear(octets, number)),
+        _ => None,
+    }
+}
+
+/// What else happens at a slave: what it was told, did and learned.
+fn happen(played: &mut Played, checker: &Checker, line: &TraceLine, number: u64) {
+    match (&line.event, &line.out) {
+        (Event::SetMaster { master, .. }, TraceOut::Done) => {
+            if let Some(node) = checker.nodes().get(master)
+                && let NodeKind::Master { config, .. } = node.kind
+            {
+                played.set_master(config.identity);
+            }
+        }
+        (Event::Tick { .. }, TraceOut::Done) => played.tick(),
+        (Event::Request { .. }, TraceOut::Made(octets)) => {
+            if let Some(at) = line.reading {
+                played.request(octets.as_slice(), at, number);
+            }
+        }
+        (Event::Stamped { .. }, TraceOut::Done) => played.stamped(),
+        _ => {}
+    }
+}
+
+/// The line of an event.
+fn line_of(checker: &Checker, number: u64) -> u64 {
+    (checker.nodes().len() as u64)
+        .saturating_add(number)
+        .saturating_add(1)
+}
+
+/// A slave's port before any event; none of another node.
+fn port_of(checker: &Checker, name: &Name) -> Option<Played> {
+    match checker.nodes().get(name)?.kind {
+        NodeKind::Slave { config, first } => Some(Played::new(config, first)),
+        _ => None,
+    }
+}
+
+impl SlaveAnswers {
+    /// Nothing came yet.
+    pub fn new(alloc: Global) -> SlaveAnswers {
+        SlaveAnswers {
+            by_slave: BTreeMap::new(alloc),
+            came: 0,
+            others: 0,
+            first: None,
+        }
+    }
+
+    /// Takes what was recorded of one more event, the last that this checker was fed and that was noted.
+    pub fn take(
+        &mut self,
+        checker: &Checker,
+        evidence: &Evidence,
+        line: &TraceLine,
+    ) -> Result<(), AllocError> {
+        let name = line.event.node();
+        let Some((slave, number)) = checker
+            .nodes()
+            .index_of(&name)
+            .zip(checker.len().checked_sub(1))
+        else {
+            return Ok(());
+        };
+        let slave = slave as u64;
+        if self.by_slave.get(&slave).is_none() {
+            match port_of(checker, &name) {
+                Some(played) => {
+                    self.by_slave.insert(slave, played)?;
+                }
+                None => return Ok(()),
+            }
+        }
+        match line.event.heard_copy() {
+            Some(copy) => self.hear(slave, evidence, checker, copy, line, number),
+            None => {
+                if let Some(played) = self.by_slave.get_mut(&slave) {
+                    happen(played, checker, line, number);
+                }
+            }
+        }
+        Ok(())
+    }
+
+    /// A message comes to a slave, with the octets of this copy.
+    fn hear(
+        &mut self,
+        slave: u64,
+        evidence: &Evidence,
+        checker: &Checker,
+        copy: u64,
+        line: &TraceLine,
+        number: u64,
+    ) {
+        let Some(octets) = evidence.octets_at(checker, copy) else {
+            return;
+        };
+        let Some(played) = self.by_slave.get_mut(&slave) else {
+            return;
+        };
+        let Some(heard) = answer(played, octets.as_slice(), line, number) else {
+            return;
+        };
+        self.came = self.came.saturating_add(1);
+        let said = SlaveOutcome::said(&line.out);
+        let answered = SlaveOutcome::answered(&heard);
+        if said == answered {
+            return;
+        }
+        self.others = self.others.saturating_add(1);
+        if self.first.is_none() {
+            self.first = Some(OtherOutcome {
+                event: number,
+                line: line_of(checker, number),
+                said,
+                answered,
+            });
+        }
+    }
+
+    /// How many messages came to slaves, with octets and where one has to be with a reading.
+    pub fn came(&self) -> u64 {
+        self.came
+    }
+
+    /// How many outcomes are others than a port here has for what came.
+    pub fn others(&self) -> u64 {
+        self.others
+    }
+
+    /// The first of these.
+    pub fn first(&self) -> Option<OtherOutcome> {
+        self.first
+    }
+}
