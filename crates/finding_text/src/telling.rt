@@ -31,22 +31,27 @@ impl Message {
     fn of(case: &Case<'_>, name: &'static str, number: u64) -> Option<Message> {
         let known = case.known;
         let octets = known.evidence.octets_at(known.checker, number)?;
-        let Ok((message, _)) = decode(octets.as_slice()) else {
-            return None;
-        };
-        let timestamp = match message.body {
-            Body::Sync { origin } | Body::DelayReq { origin } => origin,
-            Body::FollowUp { precise } => precise,
-            Body::DelayResp { receive, .. } => receive,
-        };
-        Some(Message {
-            name,
-            sequence: message.header.sequence.0,
-            place: known.place(number),
-            timestamp: ScaledTime::join(timestamp, 0).signed_units(),
-            correction: i128::from(message.header.correction.0),
-        })
+        match decode(octets.as_slice()) {
+            Ok((message, _)) => Some(Message {
+                name,
+                sequence: message.header.sequence.0,
+                place: known.place(number),
+                timestamp: timestamp_of(&message.body),
+                correction: i128::from(message.header.correction.0),
+            }),
+            Err(_) => None,
+        }
     }
+}
+
+/// The timestamp of a message, in units of 2^-16 ns.
+fn timestamp_of(body: &Body) -> i128 {
+    let timestamp = match *body {
+        Body::Sync { origin } | Body::DelayReq { origin } => origin,
+        Body::FollowUp { precise } => precise,
+        Body::DelayResp { receive, .. } => receive,
+    };
+    ScaledTime::join(timestamp, 0).signed_units()
 }
 
 /// A half of a report, by the messages.
