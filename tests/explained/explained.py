@@ -224,7 +224,7 @@ MET = [
      '1 report: 0 sound\n'),
     (16, '[5,7,8,13]', '[5,null,8,13]',
      refused(13, 17, 701) +
-     '    the 2nd of "tags" is null, but the Sync of event 5, line 9, an arrive at S, waits for a Follow_Up\n'
+     '    the 2nd of "tags" is null, but the Sync of event 5, line 9, an arrive at S, completed nothing by itself\n'
      '1 report: 0 sound\n'),
     (16, '[5,7,8,13]', '[5,7,8,7]',
      refused(13, 17, 701) +
@@ -338,7 +338,7 @@ MET = [
      '  and 706: '),
     (7, '[1,2500,0]', '[140738,488355827,65535]',
      refused(13, 17, 707) +
-     '    the Sync is to have 140737488355327.9999847412109375 ns in its correctionField, of clocks and of its departure; '
+     '    the Sync is to have 140737488355327.9999847412109375 ns in its correctionField, of clocks; '
      'it can say less than 140737488355327.9999847412109375 ns\n'
      '  and 706: '),
     (7, '07d00000', '07d10000',
@@ -475,25 +475,25 @@ OTHERS = 'other outcomes than a slave here has for the messages that came: '
 UNREPORTED = [
     (TRANSCRIPT, [PASSED_OVER],
      NONE_JUDGED + '1 completion had no report, though both halves of one were there; the verdict says nothing of these\n'
-     + OTHERS + '1 of 3\n  the first: event 13, line 17: completed; a slave here: report\n'
+     + OTHERS + '1 of 3; the verdict says nothing of these\n  the first: event 13, line 17: completed; a slave here: report\n'
      'verdict: accepted 0\n'),
     ([*TRANSCRIPT, ONCE_MORE], [PASSED_OVER],
      NONE_JUDGED + '2 completions had no report, though both halves of one were there; the verdict says nothing of these\n'
-     + OTHERS + '2 of 4\n  the first: event 13, line 17: completed; a slave here: report\n'
+     + OTHERS + '2 of 4; the verdict says nothing of these\n  the first: event 13, line 17: completed; a slave here: report\n'
      'verdict: accepted 0\n'),
     ([*TRANSCRIPT, ONCE_MORE], [],
      '1 report: 1 sound\n'
      '1 completion had no report, though both halves of one were there; the verdict says nothing of these\n'
-     + OTHERS + '1 of 4\n  the first: event 14, line 18: completed; a slave here: report\n'
+     + OTHERS + '1 of 4; the verdict says nothing of these\n  the first: event 14, line 18: completed; a slave here: report\n'
      'verdict: accepted 1\n'),
     ([*TRANSCRIPT, TICK, ONCE_MORE.replace('"n":14', '"n":15')], [],
      '1 report: 1 sound\n'
      '1 completion had no report, though both halves of one were there; the verdict says nothing of these\n'
-     + OTHERS + '1 of 4\n  the first: event 15, line 19: completed; a slave here: report\n'
+     + OTHERS + '1 of 4; the verdict says nothing of these\n  the first: event 15, line 19: completed; a slave here: report\n'
      'verdict: accepted 1\n'),
     ([*TRANSCRIPT, TICK, TICK_AGAIN, AFTER_TWO_TICKS], [], '1 report: 1 sound\nverdict: accepted 1\n'),
     ([*TRANSCRIPT, '{"ev":"setmaster","master":"M","n":14,"node":"S","out":"done"}\n', ONCE_MORE.replace('"n":14', '"n":15')], [],
-     '1 report: 1 sound\n' + OTHERS + '1 of 4\n  the first: event 15, line 19: completed; a slave here: ignored 509\n'
+     '1 report: 1 sound\n' + OTHERS + '1 of 4; the verdict says nothing of these\n  the first: event 15, line 19: completed; a slave here: ignored 509\n'
      'verdict: accepted 1\n'),
 ]
 
@@ -502,16 +502,16 @@ IGNORED = '"out":"completed"}', '"code":512,"out":"ignored"}'
 OUTCOMES = [
     # The Follow_Up is ignored, and so the Delay_Resp completes no report.
     ([*TRANSCRIPT[:10], TRANSCRIPT[10].replace(*IGNORED), *TRANSCRIPT[11:]], [PASSED_OVER],
-     '2 of 3\n  the first: event 7, line 11: ignored 512; a slave here: completed\n'),
+     '2 of 3; the verdict says nothing of these\n  the first: event 7, line 11: ignored 512; a slave here: completed\n'),
     # The Delay_Resp is passed over.
-    (TRANSCRIPT, [PASSED_OVER], '1 of 3\n  the first: event 13, line 17: completed; a slave here: report\n'),
+    (TRANSCRIPT, [PASSED_OVER], '1 of 3; the verdict says nothing of these\n  the first: event 13, line 17: completed; a slave here: report\n'),
     # The Delay_Req has a number behind a gap, and the Delay_Resp has it, too.
     (TRANSCRIPT, [('ccddee00010000017f', 'ccddee00010007017f'), ('0001000003000000000000020000119400', '0001000703000000000000020000119400')], ''),
     # The Sync is of another domain.
-    (TRANSCRIPT, [('0012002c00', '0012002c07')], '3 of 3\n  the first: event 5, line 9: held; a slave here: ignored 503\n'),
+    (TRANSCRIPT, [('0012002c00', '0012002c07')], '3 of 3; the verdict says nothing of these\n  the first: event 5, line 9: held; a slave here: ignored 503\n'),
     # It isn't told when the Delay_Req left.
     ([*TRANSCRIPT[:15], TRANSCRIPT[15].replace('"stamped"', '"tick"'), TRANSCRIPT[16]], [],
-     '1 of 3\n  the first: event 13, line 17: report; a slave here: ignored 510\n'),
+     '1 of 3; the verdict says nothing of these\n  the first: event 13, line 17: report; a slave here: ignored 510\n'),
 ]
 
 # The place of a line, what is replaced in it by what, and what is said of this message then, and of how many differ in which field:

@@ -248,14 +248,14 @@ unreported_told (Err e) count noun old new some noun_is is = tt
 -- how many outcomes aren't those of a slave here, and lines behind it
 pub others_line_told : {E : Type 0} (r : Result (Unit {0}) E) (others came : ℕ) (old new : List ℕ) → others ≢ 0
     → OnOk r (new ≡ old ++ (codes "other outcomes than a slave here has for the messages that came: " ++ (decimal others
-    ++ (codes " of " ++ (decimal came ++ codes "\n")))))
+    ++ (codes " of " ++ (decimal came ++ codes "; the verdict says nothing of these\n")))))
     → OnOk r (new ≡ old ++ others_text others came)
 others_line_told (Ok x) others came old new some is = is ∙ rw (ne_eqb others 0 some) (simp append_assoc)
 others_line_told (Err e) others came old new some is = tt
 
 pub others_told : {E : Type 0} (r : Result (Unit {0}) E) (others came : ℕ) (old first new : List ℕ) → first ≡ old ++ others_text others came
-    → OnOk r ((line : List ℕ) × (are_lines (codes "  ") line ≡ true) × (new ≡ first ++ line))
-    → OnOk r ((others : ℕ) × (came : ℕ) × (line : List ℕ) × (are_lines (codes "  ") line ≡ true)
+    → OnOk r ((line : List ℕ) × (are_lines (codes "  the first: ") line ≡ true) × (new ≡ first ++ line))
+    → OnOk r ((others : ℕ) × (came : ℕ) × (line : List ℕ) × (are_lines (codes "  the first: ") line ≡ true)
     × (new ≡ old ++ (others_text others came ++ line)))
 others_told (Ok x) others came old first new first_is (line, below, is) =
     (others, came, line, below, is ∙ ap (λ (t : List ℕ). t ++ line) first_is ∙ append_assoc old (others_text others came) line)
@@ -266,7 +266,7 @@ pub counts_told : {E : Type 0} (r : Result (Unit {0}) E) (counts : Counts) (by_m
     (old first second third new messages : List ℕ)
     → first ≡ old ++ counts_text counts by_messages differ → TellsMessages (has_octets counts) messages → second ≡ first ++ messages
     → third ≡ second ++ unreported_text unreported
-    → OnOk r ((others : ℕ) × (came : ℕ) × (line : List ℕ) × (are_lines (codes "  ") line ≡ true)
+    → OnOk r ((others : ℕ) × (came : ℕ) × (line : List ℕ) × (are_lines (codes "  the first: ") line ≡ true)
     × (new ≡ third ++ (others_text others came ++ line)))
     → OnOk r ((told : List ℕ) × TellsCounts counts told × (new ≡ old ++ told))
 counts_told (Ok x) counts by_messages differ unreported old first second third new messages first_is tells second_is third_is

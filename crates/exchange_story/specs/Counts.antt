@@ -141,14 +141,14 @@ unreported_text count = if count == 0 then [] else
 abbrev pub others_text : (others came : ℕ) → List ℕ
 others_text others came = if others == 0 then [] else
     (codes "other outcomes than a slave here has for the messages that came: " ++ decimal others ++ codes " of "
-    ++ decimal came ++ codes "\n")
+    ++ decimal came ++ codes "; the verdict says nothing of these\n")
 
 -- what is told of counts, with how many reports are said to have the results by the messages, in how many messages a field
 -- that is read is said to differ, how many completions are said to have had no report, and how many outcomes of how many
--- messages are said not to be those of a slave here, behind which lines stand that begin with two blanks
+-- messages are said not to be those of a slave here, behind which lines stand on the first of these
 abbrev pub TellsCounts : Counts → List ℕ → Type 0
 TellsCounts counts text =
     (by_messages : ℕ) × (differ : ℕ) × (unreported : ℕ) × (others : ℕ) × (came : ℕ) × (messages : List ℕ) × (first : List ℕ)
-    × TellsMessages (has_octets counts) messages × (are_lines (codes "  ") first ≡ true)
+    × TellsMessages (has_octets counts) messages × (are_lines (codes "  the first: ") first ≡ true)
     × (text ≡ counts_text counts by_messages differ
     ++ (messages ++ (unreported_text unreported ++ (others_text others came ++ first))))

@@ -17,7 +17,7 @@ fn push_count(text: &mut String, others: u64, came: u64) -> Result<(), AllocErro
     }
     write!(
         text,
-        "other outcomes than a slave here has for the messages that came: {others} of {came}\n"
+        "other outcomes than a slave here has for the messages that came: {others} of {came}; the verdict says nothing of these\n"
     )
 }
 
@@ -39,11 +39,11 @@ pub(crate) fn push_others(
     alloc: Global,
     answers: &SlaveAnswers,
 ) -> Result<(), AllocError>
-    ensures { OnOk result ((others : ℕ) × (came : ℕ) × (first : List ℕ) × (are_lines (codes "  ") first ≡ true)
+    ensures { OnOk result ((others : ℕ) × (came : ℕ) × (first : List ℕ) × (are_lines (codes "  the first: ") first ≡ true)
         × (string_bytes text.new ≡ string_bytes text.old ++ (others_text others came ++ first))) }
 {
     push_count(text, answers.others(), answers.came())?;
     let mut lines = String::new(alloc);
     push_first(&mut lines, answers.first())?;
-    push_lines(text, "  ", lines.as_str())
+    push_lines(text, "  the first: ", lines.as_str())
 }

@@ -1,5 +1,5 @@
 //! What a report is judged to be, for a person.
-ghost use Rattle.std.specs.Prelude.{◌≡◌, ◌++◌, int_lt, OnOk, Some, codes};
+ghost use Rattle.std.specs.Prelude.{◌≡◌, ◌++◌, int_lt, OnOk, Some};
 ghost use Rattle.std.specs.String.{string_bytes};
 ghost use Rattle.exchange_story.specs.Report.{amount_text, as_told_text, begin_text, difference_text, is_as_told};
 ghost use Rattle.exchange_story.specs.Report.{all_rows_text, are_same, as_reported_text, messages_row_text, raw_text};

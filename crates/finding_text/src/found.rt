@@ -32,9 +32,8 @@ impl<'a> Found<'a> {
         Some(Found { case, finding })
     }
 
-    /// The event that is wrong, which the sentence of each report names alike that meets it; of what is wrong with the report
-    /// itself, this.
-    pub fn cause(&self) -> Named {
+    /// The event that is wrong; of what is wrong with the report itself, the one that reports.
+    fn cause(&self) -> Named {
         self.case.known.named(match self.finding {
             Finding::CantReport
             | Finding::OfOtherLine
@@ -188,7 +187,7 @@ fn write_tag<W: fmt::Write>(
     match (lack, part) {
         (Lack::CompletedNothing(_), Part::Sync) => write!(
             f,
-            "the 2nd of \"tags\" is null, but the Sync of {named}, waits for a Follow_Up"
+            "the 2nd of \"tags\" is null, but the Sync of {named}, completed nothing by itself"
         ),
         (Lack::CompletedNothing(_), _) => write!(f, "the {name} of {named}, completed nothing"),
         _ if is_tagged(case, part, own) => write!(
@@ -387,14 +386,17 @@ fn write_too_long<W: fmt::Write>(f: &mut Formatter<W>, case: &Case<'_>, part: Pa
     };
     let name = words_of(part).name;
     let leg = if part == Part::Sync { sync } else { request };
-    let fraction = match leg.departed.event.is_one_step_sync() {
-        true => i128::from(leg.departed.reading.split().1),
-        false => 0,
+    let (fraction, of) = match leg.departed.event.is_one_step_sync() {
+        true => (
+            i128::from(leg.departed.reading.split().1),
+            "of clocks and of its departure",
+        ),
+        false => (0, "of clocks"),
     };
     let sum = Length(signed(leg.residence).saturating_add(fraction));
     write!(
         f,
-        "the {name} is to have {sum} in its correctionField, of clocks and of its departure"
+        "the {name} is to have {sum} in its correctionField, {of}"
     )?;
     write!(f, "; it can say less than {}", Length(TOO_BIG))
 }

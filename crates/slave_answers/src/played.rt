@@ -121,7 +121,8 @@ impl Played {
         }
     }
 
-    /// The number that the port drew for the Delay_Req that a Delay_Resp answers; none where the slave gave it that one itself.
+    /// The number that the port drew for the Delay_Req that a Delay_Resp answers; none where the slave gave that number to none of its
+    /// last ones.
     fn drawn_for(&self, octets: &[u8]) -> Option<Seq> {
         if octets.first()? % 16 != DELAY_RESP {
             return None;

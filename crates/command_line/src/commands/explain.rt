@@ -57,7 +57,8 @@ them, whoever wrote these; the lines tell which. Standard output says, as text f
   at the end                      how many reports there are, how many are sound, how many each reason
                                   stands against, how many have the results by the messages and how many
                                   those by the readings, what is wrong with octets, how many completions
-                                  have no report, and the verdict of 'ptpx check'
+                                  have no report, how many outcomes aren't those of a slave here for the
+                                  messages that came, and the verdict of 'ptpx check'
 What is said of a line goes out before the next is read. The line
   event 13, line 17: the report of S is refused, 706: the two results aren't those of the readings
 is of the report with n 13, at line 17 of the input; lines count from 1. With --first, of all reports only
