@@ -1,5 +1,5 @@
 -- A condition holds exactly where nothing is found that breaks it.
-use Rattle.std.proofs.Common.{◌≡◌, ◌∙◌, ℕ, Bool, true, false, ◌&&◌, Option, Some, None, refl}
+use Rattle.std.proofs.Common.{◌≡◌, ◌∙◌, ℕ, Bool, true, false, ◌&&◌, Option, Some, None, refl, ap}
 use Rattle.std.specs.Prelude.{is_none, nat_lt}
 use Rattle.std.specs.Option.{option_or, option_map_or}
 use Rattle.slave_port.specs.declared.heard.Report.{Report}
