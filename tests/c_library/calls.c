@@ -24,9 +24,9 @@ struct behind_an_octet {
 };
 
 /* Where a field lies, and where the next octet after it does. */
-#define LIES(type, field, from, to)              \
-    (offsetof(struct type, field) == (from)      \
-     && offsetof(struct type, field) + sizeof(((struct type *)NULL)->field) == (to))
+#define LIES(type, field, from, to)                   \
+    CHECK(offsetof(struct type, field) == (from)      \
+          && offsetof(struct type, field) + sizeof(((struct type *)NULL)->field) == (to))
 
 static void sizes(void)
 {
@@ -48,34 +48,74 @@ static void sizes(void)
 /* The table of docs/EMBEDDING.md. */
 static void places(void)
 {
-    CHECK(LIES(ptpx_time, high, 0, 8) && LIES(ptpx_time, low, 8, 16));
-    CHECK(LIES(ptpx_signed, high, 0, 8) && LIES(ptpx_signed, low, 8, 16));
-    CHECK(LIES(ptpx_timestamp, seconds, 0, 8) && LIES(ptpx_timestamp, nanos, 8, 12));
-    CHECK(LIES(ptpx_identity, clock, 0, 8) && LIES(ptpx_identity, port, 8, 10));
-    CHECK(LIES(ptpx_config, identity, 0, 10) && LIES(ptpx_config, domain, 10, 11) && LIES(ptpx_config, log, 11, 12));
-    CHECK(LIES(ptpx_stay, entered, 0, 16) && LIES(ptpx_stay, inside, 16, 17));
-    CHECK(LIES(ptpx_master, config, 0, 12) && LIES(ptpx_master, next, 12, 14) && LIES(ptpx_master, waiting, 14, 16));
-    CHECK(LIES(ptpx_master, waits, 16, 17) && LIES(ptpx_master, made, 17, 18));
-    CHECK(LIES(ptpx_slave, memory, 0, 8));
-    CHECK(LIES(ptpx_slave_memory, octets, 0, PTPX_SLAVE_SIZE));
-    CHECK(LIES(ptpx_wide_slave, memory, 0, 8));
-    CHECK(LIES(ptpx_wide_slave_memory, octets, 0, PTPX_WIDE_SLAVE_SIZE));
-    CHECK(LIES(ptpx_message, kind, 0, 1) && LIES(ptpx_message, domain, 1, 2) && LIES(ptpx_message, major_sdo, 2, 3));
-    CHECK(LIES(ptpx_message, minor_sdo, 3, 4) && LIES(ptpx_message, minor_version, 4, 5));
-    CHECK(LIES(ptpx_message, flags, 5, 7) && LIES(ptpx_message, correction, 8, 16));
-    CHECK(LIES(ptpx_message, specific, 16, 20) && LIES(ptpx_message, source, 20, 30));
-    CHECK(LIES(ptpx_message, sequence, 30, 32) && LIES(ptpx_message, log, 32, 33));
-    CHECK(LIES(ptpx_message, control, 33, 34) && LIES(ptpx_message, timestamp, 40, 56));
-    CHECK(LIES(ptpx_message, requesting, 56, 66) && LIES(ptpx_message, suffix_length, 66, 68));
-    CHECK(LIES(ptpx_heard, kind, 0, 2) && LIES(ptpx_heard, reason, 2, 4) && LIES(ptpx_heard, one_step, 4, 5));
-    CHECK(LIES(ptpx_heard, offset2, 8, 24) && LIES(ptpx_heard, path2, 24, 40) && LIES(ptpx_heard, sync_tag, 40, 48));
-    CHECK(LIES(ptpx_heard, follow_tag, 48, 56) && LIES(ptpx_heard, request_tag, 56, 64));
-    CHECK(LIES(ptpx_heard, response_tag, 64, 72));
-    CHECK(LIES(ptpx_exchange, t1, 0, 16) && LIES(ptpx_exchange, t2, 16, 32) && LIES(ptpx_exchange, t3, 32, 48));
-    CHECK(LIES(ptpx_exchange, t4, 48, 64) && LIES(ptpx_exchange, age, 64, 80));
-    CHECK(LIES(ptpx_exchange, sync_correction, 80, 88) && LIES(ptpx_exchange, follow_correction, 88, 96));
-    CHECK(LIES(ptpx_exchange, response_correction, 96, 104) && LIES(ptpx_exchange, sync_number, 104, 106));
-    CHECK(LIES(ptpx_exchange, request_number, 106, 108));
+    LIES(ptpx_time, high, 0, 8);
+    LIES(ptpx_time, low, 8, 16);
+    LIES(ptpx_signed, high, 0, 8);
+    LIES(ptpx_signed, low, 8, 16);
+    LIES(ptpx_timestamp, seconds, 0, 8);
+    LIES(ptpx_timestamp, nanos, 8, 12);
+    LIES(ptpx_identity, clock, 0, 8);
+    LIES(ptpx_identity, port, 8, 10);
+    LIES(ptpx_config, identity, 0, 10);
+    LIES(ptpx_config, domain, 10, 11);
+    LIES(ptpx_config, log, 11, 12);
+    LIES(ptpx_stay, entered, 0, 16);
+    LIES(ptpx_stay, inside, 16, 17);
+    LIES(ptpx_master, config, 0, 12);
+    LIES(ptpx_master, next, 12, 14);
+    LIES(ptpx_master, waiting, 14, 16);
+    LIES(ptpx_master, waits, 16, 17);
+    LIES(ptpx_master, made, 17, 18);
+    LIES(ptpx_slave, memory, 0, 8);
+    LIES(ptpx_slave_memory, octets, 0, PTPX_SLAVE_SIZE);
+    LIES(ptpx_wide_slave, memory, 0, 8);
+    LIES(ptpx_wide_slave_memory, octets, 0, PTPX_WIDE_SLAVE_SIZE);
+}
+
+static void places_in_messages(void)
+{
+    LIES(ptpx_message, kind, 0, 1);
+    LIES(ptpx_message, domain, 1, 2);
+    LIES(ptpx_message, major_sdo, 2, 3);
+    LIES(ptpx_message, minor_sdo, 3, 4);
+    LIES(ptpx_message, minor_version, 4, 5);
+    LIES(ptpx_message, flags, 5, 7);
+    LIES(ptpx_message, correction, 8, 16);
+    LIES(ptpx_message, specific, 16, 20);
+    LIES(ptpx_message, source, 20, 30);
+    LIES(ptpx_message, sequence, 30, 32);
+    LIES(ptpx_message, log, 32, 33);
+    LIES(ptpx_message, control, 33, 34);
+    LIES(ptpx_message, timestamp, 40, 56);
+    LIES(ptpx_message, requesting, 56, 66);
+    LIES(ptpx_message, suffix_length, 66, 68);
+}
+
+static void places_in_answers(void)
+{
+    LIES(ptpx_heard, kind, 0, 2);
+    LIES(ptpx_heard, reason, 2, 4);
+    LIES(ptpx_heard, one_step, 4, 5);
+    LIES(ptpx_heard, offset2, 8, 24);
+    LIES(ptpx_heard, path2, 24, 40);
+    LIES(ptpx_heard, sync_tag, 40, 48);
+    LIES(ptpx_heard, follow_tag, 48, 56);
+    LIES(ptpx_heard, request_tag, 56, 64);
+    LIES(ptpx_heard, response_tag, 64, 72);
+}
+
+static void places_in_exchanges(void)
+{
+    LIES(ptpx_exchange, t1, 0, 16);
+    LIES(ptpx_exchange, t2, 16, 32);
+    LIES(ptpx_exchange, t3, 32, 48);
+    LIES(ptpx_exchange, t4, 48, 64);
+    LIES(ptpx_exchange, age, 64, 80);
+    LIES(ptpx_exchange, sync_correction, 80, 88);
+    LIES(ptpx_exchange, follow_correction, 88, 96);
+    LIES(ptpx_exchange, response_correction, 96, 104);
+    LIES(ptpx_exchange, sync_number, 104, 106);
+    LIES(ptpx_exchange, request_number, 106, 108);
 }
 
 static void numbers(void)
@@ -240,8 +280,7 @@ static void times(void)
     CHECK(ptpx_time_split(no_moment, &timestamp, &fraction) == PTPX_NO_MOMENT && fraction == 65535);
     CHECK(ptpx_time_join(late, 0, &time) == PTPX_SECONDS && ptpx_time_join(long_second, 0, &time) == PTPX_NANOSECONDS);
     CHECK(time.high == 999999999 && ptpx_time_join(last, 0, NULL) == PTPX_NULL);
-    CHECK(ptpx_time_split(time, NULL, &fraction) == PTPX_NULL);
-    CHECK(ptpx_time_split(time, &timestamp, NULL) == PTPX_NULL);
+    CHECK(ptpx_time_split(time, NULL, &fraction) == PTPX_NULL && ptpx_time_split(time, &timestamp, NULL) == PTPX_NULL);
 }
 
 static void brackets(void)
@@ -259,8 +298,8 @@ static void brackets(void)
     CHECK(ptpx_delay_bracket(one, 0, no_moment, &b) == PTPX_NO_MOMENT);
     CHECK(ptpx_delay_bracket(long_second, 0, at(1, 0, 0), &b) == PTPX_NANOSECONDS && narrow(b) == -7);
     CHECK(ptpx_sync_bracket(at(1, 0, 0), one, 0, 0, NULL) == PTPX_NULL);
-    CHECK(ptpx_delay_bracket(one, 0, at(1, 0, 0), NULL) == PTPX_NULL && ptpx_offset2(a, b, NULL) == PTPX_NULL);
-    CHECK(ptpx_path2(a, b, NULL) == PTPX_NULL);
+    CHECK(ptpx_delay_bracket(one, 0, at(1, 0, 0), NULL) == PTPX_NULL);
+    CHECK(ptpx_offset2(a, b, NULL) == PTPX_NULL && ptpx_path2(a, b, NULL) == PTPX_NULL);
 }
 
 static void check_fields(const struct ptpx_message *m)
@@ -393,8 +432,7 @@ static void masters(void)
     CHECK(ptpx_decode(octets, 44, &message) == PTPX_DONE && message.kind == PTPX_FOLLOW_UP);
     CHECK(message.timestamp.seconds == 6 && message.timestamp.nanos == 7 && message.correction == 8);
     CHECK(ptpx_master_sync_left(&master, 65535, at(6, 7, 8), octets) == PTPX_NOT_WAITING);
-    CHECK(ptpx_master_init(NULL, &config_of_master, 0) == PTPX_NULL);
-    CHECK(ptpx_master_init(&master, NULL, 0) == PTPX_NULL);
+    CHECK(ptpx_master_init(NULL, &config_of_master, 0) == PTPX_NULL && ptpx_master_init(&master, NULL, 0) == PTPX_NULL);
     CHECK(ptpx_master_next_sync(NULL, octets, &number) == PTPX_NULL);
     CHECK(ptpx_master_next_sync(&master, NULL, &number) == PTPX_NULL);
     CHECK(ptpx_master_next_sync(&master, octets, NULL) == PTPX_NULL);
@@ -588,13 +626,31 @@ static void follow_ups_of_lives(void)
 
 int main(void)
 {
-    static void (*const tests[])(void) = {
-        sizes, places, versions, texts, numbers, results, moments, timespecs, timespecs_of_results, times, brackets,
-        codec, refused_octets, refused_fields, clocks, masters, unmade_masters, answers_of_masters, refused_watches,
-        watches, lives, follow_ups_of_lives,
-    };
-    for (size_t i = 0; i < sizeof tests / sizeof tests[0]; i++)
-        tests[i]();
+    sizes();
+    places();
+    places_in_messages();
+    places_in_answers();
+    places_in_exchanges();
+    versions();
+    texts();
+    numbers();
+    results();
+    moments();
+    timespecs();
+    timespecs_of_results();
+    times();
+    brackets();
+    codec();
+    refused_octets();
+    refused_fields();
+    clocks();
+    masters();
+    unmade_masters();
+    answers_of_masters();
+    refused_watches();
+    watches();
+    lives();
+    follow_ups_of_lives();
     printf("calls: %lu checks\n", checks_made);
     return 0;
 }

@@ -352,12 +352,18 @@ static void refused_slaves(void)
 
 int main(void)
 {
-    static void (*const tests[])(void) = {
-        reports, departures, one_step_reports, last_exchange, last_exchange_stays, reasons_of_syncs,
-        reasons_of_responses, ticks, fullness, refused_memory, refused_pointers, refused_slaves,
-    };
-    for (size_t i = 0; i < sizeof tests / sizeof tests[0]; i++)
-        tests[i]();
+    reports();
+    departures();
+    one_step_reports();
+    last_exchange();
+    last_exchange_stays();
+    reasons_of_syncs();
+    reasons_of_responses();
+    ticks();
+    fullness();
+    refused_memory();
+    refused_pointers();
+    refused_slaves();
     printf("each call of a %s: %lu checks\n", KIND, checks_made);
     return 0;
 }

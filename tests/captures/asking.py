@@ -11,12 +11,12 @@ import typing
 
 import program
 import reading
-from program import EXAMPLES
+from program import EXAMPLES, ask
 
 EXAMPLE = EXAMPLES / 'slave.pcap'
 
-# With --reader the program isn't asked.
-READER_ALONE = '--reader' in sys.argv[1:]
+# With --reader the program isn't asked, and with --pcap for captures of that kind alone.
+READER_ALONE, PCAP_ALONE = (word in sys.argv[1:] for word in ('--reader', '--pcap'))
 
 # How many cases are tried at once.
 AT_ONCE = 4
@@ -34,38 +34,9 @@ class Case(typing.NamedTuple):
     is_timed: bool = True
 
 
-def fail(text, octets=None):
-    """Ends with what is wrong, and keeps the capture."""
-    if octets is not None:
-        with tempfile.NamedTemporaryFile(prefix='capture-', delete=False) as file:
-            file.write(octets)
-        text += f'; the capture is {file.name}'
-    program.fail(text)
-
-
-def ask(name, octets, *arguments):
-    """How the program ends over a capture."""
-    try:
-        return program.ask(octets, *arguments)
-    except subprocess.TimeoutExpired:
-        fail(f'{name}: {arguments}: no end within a minute', octets)
-
-
-def difference(written, owed):
-    """Where two texts differ first."""
-    pairs = enumerate(itertools.zip_longest(written.split(b'\n'), owed.split(b'\n')), 1)
-    place, pair = next((place, pair) for place, pair in pairs if pair[0] != pair[1])
-    one, other = ('nothing' if line is None else repr(line[:200]) for line in pair)
-    return f'line {place} is {one}, and {other} is owed'
-
-
-def compare(name, octets, ended, owed):
-    """Ends where the program, which ended over a capture, ended in another way than is owed."""
-    if ended.status != owed.status:
-        fail(f'{name}: status {ended.status}, and {owed.status} is owed', octets)
-    for what, one, other in zip(('standard output', 'standard error'), ended[1:], owed[1:]):
-        if one != other:
-            fail(f'{name}: {what}, {difference(one, other)}', octets)
+def is_asked(case):
+    """Whether the program is asked for a case."""
+    return not READER_ALONE and not (PCAP_ALONE and case.octets[:4] == reading.SECTION_TYPE)
 
 
 def misread(case, answer):
@@ -76,10 +47,11 @@ def misread(case, answer):
         yield f'the reader counts {dict(answer.counts)}, and {dict(case.counts)} were put in'
 
 
-def misanswered(name, case, answer):
+def misanswered(case, answer):
     """What is wrong with the program's answer, in words."""
     options = ([] if case.is_timed else ['--octets']) + ([] if case.interface is None else ['--interface', case.interface.encode()])
-    ended, owed = ask(name, case.octets, 'extract', *options), answer.text(case.is_timed)
+    ended = ask(case.octets, 'extract', *options)
+    owed = answer.text(case.is_timed)
     if ended.output != owed:
         yield difference(ended.output, owed)
     if ended.status != (3 if answer.fault else 0):
@@ -89,32 +61,58 @@ def misanswered(name, case, answer):
         yield f'standard error has {ended.errors[:300]!r}, and the fault is {answer.fault}'
 
 
-def see(name, case):
-    """Ends where an answer to a case is wrong, the reader's or the program's. Else answers what was seen."""
+def difference(written, owed):
+    """Where two texts differ first."""
+    pairs = enumerate(itertools.zip_longest(written.split(b'\n'), owed.split(b'\n')), 1)
+    place, (one, other) = next((place, pair) for place, pair in pairs if pair[0] != pair[1])
+    said = ['nothing' if line is None else repr(line[:200]) for line in (one, other)]
+    return f'line {place} is {said[0]}, and {said[1]} is owed'
+
+
+def answers(case):
+    """What is wrong with the answers to a case, in words, and what was seen."""
     answer = reading.read(case.octets, None if case.interface is None else case.interface.encode())
     wrong = list(misread(case, answer))
-    if not READER_ALONE and not wrong:
-        wrong = list(misanswered(name, case, answer))
-    if wrong:
-        fail(f'{name}: {"; ".join(wrong)}', case.octets)
-    return collections.Counter([*answer.counts.elements(), f'fault {answer.fault[0]}' if answer.fault else 'no fault'])
+    if is_asked(case) and not wrong:
+        wrong = list(misanswered(case, answer))
+    seen = collections.Counter(answer.counts)
+    seen[f'fault {answer.fault[0]}' if answer.fault else 'no fault'] += 1
+    return wrong, seen
 
 
-def try_one(see_one, case):
-    return see_one(*case)
+def fail(text, octets=None):
+    """Ends with what is wrong, and keeps the capture."""
+    if octets is not None:
+        with tempfile.NamedTemporaryFile(prefix='capture-', delete=False) as file:
+            file.write(octets)
+        text += f'; the capture is {file.name}'
+    program.fail(text)
+
+
+def try_one(see, make, number):
+    return see(*make(number))
 
 
 def try_kinds(kinds, what, wanted):
-    """Tries all cases of each kind, which has what sees a case, and what makes all of them; and says what they were. Ends where one of these things
-    was never seen."""
+    """Tries all cases of each kind, which has what sees a case, what makes one of its number, and how many there are; and says what they were. Ends where
+    one of these things was never seen."""
     seen = collections.Counter()
     with concurrent.futures.ProcessPoolExecutor(AT_ONCE) as pool:
-        for kind, (see_one, make) in kinds.items():
-            count = 0
-            for one in pool.map(functools.partial(try_one, see_one), make(), chunksize=10):
+        for kind, (see_one, make, count) in kinds.items():
+            for one in pool.map(functools.partial(try_one, see_one, make), range(count()), chunksize=10):
                 seen += one
-                count += 1
-            print(f'captures: {count} {kind}, {what}')
+            print(f'captures: {count()} {kind}, {what}')
     missed = [name for name in wanted if name not in seen]
     if missed:
         fail(f'nothing {what} had {", ".join(missed)}')
+
+
+def see(name, case):
+    """Ends where the answers to a case are wrong. Else answers what was seen."""
+    try:
+        wrong, seen = answers(case)
+    except subprocess.TimeoutExpired:
+        wrong, seen = ['no end within a minute'], None
+    if wrong:
+        fail(f'{name}: {"; ".join(wrong)}', case.octets)
+    return seen

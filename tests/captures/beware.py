@@ -1,8 +1,12 @@
 """Bends a capture as setups in the field do, and sees that `ptpx measure` says what speaks against its numbers: the lines `beware` that are owed,
 and the statistics. All is computed apart, reports by tests/hostile/measured.py and the numbers by worth.py; only
-of a good capture they are those of the reports that went out. A good capture has no line `beware`."""
+of a good capture they are those of the reports that went out. A good capture has no line `beware`.
+
+Further captures, good ones, may be named as arguments; with -v it says what it found."""
 import json
+import pathlib
 import re
+import sys
 import typing
 from fractions import Fraction
 
@@ -74,18 +78,24 @@ def sequence(packet):
 
 
 # ---- what setups do
-def timed(packets, time_of):
-    """All packets at other times, each by its own."""
-    return [it._replace(time=time_of(it)) for it in packets]
+def shifted(packets, by):
+    return [it._replace(time=it.time + by) for it in packets]
 
 
-def shifted(by):
-    return lambda packets: timed(packets, lambda it: it.time + by)
-
-
-def drifting(parts):
+def drifting(packets, parts):
     """A clock that is quicker by so many parts of a thousand million."""
-    return lambda packets: timed(packets, lambda it: it.time + (it.time - packets[0].time) * parts // 10**9)
+    first = packets[0].time
+    return [it._replace(time=it.time + (it.time - first) * parts // 10**9) for it in packets]
+
+
+def mirrored(packets, later):
+    """Each packet is there twice, as a mirror of both directions writes it."""
+    return [copy for it in packets for copy in (it, it._replace(time=it.time + later))]
+
+
+def cut(packets, most):
+    """A snap length."""
+    return [it._replace(snap=most) for it in packets]
 
 
 def at_master(packets):
@@ -113,6 +123,12 @@ def of_another(packets, kinds, place, octet):
     return [with_message(it, message(it)[:place] + bytes([octet]) + message(it)[place + 1:]) if kind(it) in kinds else it for it in packets]
 
 
+def another_master(packets):
+    """Half way another master takes over, to which the slave turns."""
+    half = len(packets) // 2
+    return packets[:half] + of_another(packets[half:], (SYNC, FOLLOW_UP, RESPONSE), 27, 0x99)
+
+
 def another_slave(packets):
     """Another slave sends requests too."""
     others = [it._replace(time=it.time + 1000) for it in of_another(packets, (REQUEST,), 27, 0x77) if kind(it) == REQUEST]
@@ -134,39 +150,46 @@ def another_domain(packets):
     return sorted([*packets, *others], key=lambda it: it.time)
 
 
-def half_way(change):
-    """What changes the second half of the packets."""
-    return lambda packets: packets[:len(packets) // 2] + change(packets[len(packets) // 2:])
+def without_master(packets):
+    """Half way the master falls silent; the slave goes on asking."""
+    half = len(packets) // 2
+    return packets[:half] + [it for it in packets[half:] if kind(it) == REQUEST]
+
+
+def without_slave(packets):
+    """Half way the slave falls silent."""
+    half = len(packets) // 2
+    return packets[:half] + [it for it in packets[half:] if kind(it) not in (REQUEST, RESPONSE, FOLLOW_UP)]
+
+
+def set_back(packets):
+    """The clock that stamps is set back by 2 s half way."""
+    half = len(packets) // 2
+    return packets[:half] + [it._replace(time=it.time - 2 * 10**9) for it in packets[half:]]
 
 
 BENT = {
-    'in UTC': (shifted(-37 * 10**9), [r'all offsets are next to -37 s: .*editcap -t 37 ']),
-    'ahead by 5 s': (shifted(5 * 10**9), [r'all offsets are next to 5 s: .*editcap -t -5 ']),
-    'of a free clock': (drifting(20_000), [r'the offset runs away by (19|20)\.\d{3} ppm']),
-    'of a slow clock': (drifting(-5_000), [r'the offset runs away by -(4|5)\.\d{3} ppm']),
-    # each packet is there twice, as a mirror of both directions writes it
-    'mirrored': (lambda packets: [copy for it in packets for copy in (it, it._replace(time=it.time + 4500))], [
-        r'messages with a number that came before: 218, from 4500 to 4500 ns after the first;']),
-    'with a snap length': (lambda packets: [it._replace(snap=90) for it in packets], [r'datagrams that are cut short \(205\): 51;']),
+    'in UTC': (lambda it: shifted(it, -37 * 10**9), [r'all offsets are next to -37 s: .*editcap -t 37 ']),
+    'ahead by 5 s': (lambda it: shifted(it, 5 * 10**9), [r'all offsets are next to 5 s: .*editcap -t -5 ']),
+    'of a free clock': (lambda it: drifting(it, 20_000), [r'the offset runs away by (19|20)\.\d{3} ppm']),
+    'of a slow clock': (lambda it: drifting(it, -5_000), [r'the offset runs away by -(4|5)\.\d{3} ppm']),
+    'mirrored': (lambda it: mirrored(it, 4500), [r'messages with a number that came before: 218, from 4500 to 4500 ns after the first;']),
+    'with a snap length': (lambda it: cut(it, 90), [r'datagrams that are cut short \(205\): 51;']),
     'at the master': (at_master, [r'all 51 requests arrive at the time at which they leave']),
-    'with requests that are stamped late': (lambda packets: timed(packets, lambda it: it.time + 10**6 * (kind(it) == REQUEST)), [
-        r'51 of 51 path delays are below 0, the least -', r'times that are before that of the packet before: 51;']),
+    'with requests that are stamped late': (lambda it: [one._replace(time=one.time + 10**6) if kind(one) == REQUEST else one for one in it],
+                            [r'51 of 51 path delays are below 0, the least -', r'times that are before that of the packet before: 51;']),
     'in steps of 0.1 ms': (lambda it: coarse(it, 10**5), [r'45 of 51 path delays are 0 exactly']),
-    'with another master': (half_way(lambda it: of_another(it, (SYNC, FOLLOW_UP, RESPONSE), 27, 0x99)), [
-        r'the Syncs of the master end \d+\.\d s before the recording does, and those of 020000fffe112299/1 begin at '
-        r'packet \d+; --master 020000fffe112299/1 measures by them',
-        r'messages of other masters of the domain: \d+ of 020000fffe112299/1; --master picks one']),
+    'with another master': (another_master, [r'the Syncs of the master end \d+\.\d s before the recording does, and those of 020000fffe112299/1 begin at '
+                                             r'packet \d+; --master 020000fffe112299/1 measures by them',
+                                             r'messages of other masters of the domain: \d+ of 020000fffe112299/1; --master picks one']),
     'with ten other masters': (many_masters, [r'messages of other masters of the domain: 2 of 020000fffe112290/1, 1 of 020000fffe112291/1, .*, '
                                               r'1 of 020000fffe112297/1, 2 of further ones; --master picks one']),
     'with another slave': (another_slave, [r'Delay_Reqs of other slaves of the domain: 51 of 020000fffeaabb77/1; --slave picks one']),
     'with other domains': (another_domain, [r'messages of other domains: 116 of domain 3, 116 of domain 7; --domain picks one']),
-    'without a master in the end': (half_way(lambda packets: [it for it in packets if kind(it) == REQUEST]), [
-        r'the Syncs of the master end \d+\.\d s before the recording does: it went away']),
-    'without a slave in the end': (
-        half_way(lambda packets: [it for it in packets if kind(it) not in (REQUEST, RESPONSE, FOLLOW_UP)]), [
-        r'no report is of the last \d+\.\d s: the slave went away']),
-    'set back': (half_way(shifted(-2 * 10**9)), [
-        r'the offset runs away by -', r'messages with a number that came before: 1;', r'times that are before that of the packet before: 1;']),
+    'without a master in the end': (without_master, [r'the Syncs of the master end \d+\.\d s before the recording does: it went away']),
+    'without a slave in the end': (without_slave, [r'no report is of the last \d+\.\d s: the slave went away']),
+    'set back': (set_back, [r'the offset runs away by -', r'messages with a number that came before: 1;',
+                            r'times that are before that of the packet before: 1;']),
 }
 
 
@@ -225,6 +248,7 @@ def try_bent(name, packets, owed):
     found = doubts(expected.told)
     if len(found) != len(owed) or not all(map(re.match, owed, found)):
         fail(f'{name}: {owed} are owed, and not {found}')
+    print(f'{name}: {"; ".join(found)}' if '-v' in sys.argv else f'{name}: {len(found)}')
 
 
 def main():
@@ -234,6 +258,8 @@ def main():
         fail('a capture that is read and written is another one')
     try_bent('as it is', packets, [])
     reports = try_good(EXAMPLE.name, octets)
+    for name in [it for it in sys.argv[1:] if not it.startswith('-')]:
+        reports += try_good(name, pathlib.Path(name).read_bytes())
     for name, (bend, owed) in BENT.items():
         try_bent(name, bend(packets), owed)
     print(f'captures: {reports} reports of good captures have nothing to beware of, and {len(BENT)} bent captures have what is owed')

@@ -7,10 +7,11 @@ and where they are there against tshark, on what editcap and mergecap make, too.
 - 10,000 captures are bent and broken by a seed, and so are the headers of 40,000 packets.
 - A capture that comes bit by bit is answered packet by packet, and one of 200 MiB in little memory.
 
-Compared are the lines, the status, and of a fault its number, its octet and the count of packets on standard error. With `--reader` the program isn't
-asked: that holds reading.py to the hand's, the maker's and tshark's answers."""
+Compared are the lines, the status, and of a fault its number, its octet and the count of packets on standard error. With `--pcap` the program is asked for
+captures of that kind alone, and with `--reader` for none: that holds reading.py to the hand's, the maker's and tshark's answers."""
 import collections
 import concurrent.futures
+import functools
 import resource
 
 import cases
@@ -20,7 +21,7 @@ import making
 import pausing
 import reading
 import tables
-from asking import AT_ONCE, EXAMPLE, READER_ALONE, Case, fail, see, try_kinds
+from asking import AT_ONCE, EXAMPLE, PCAP_ALONE, READER_ALONE, Case, fail, is_asked, see, try_kinds
 from cases import SMALL
 from making import SECOND
 from unwrapping import unwrapped
@@ -100,12 +101,12 @@ def see_in_little_memory(name, case):
     return seen
 
 
-def of_kind(kind, make):
-    """What sees a case of a kind, and what makes all of them, each with its name."""
-    return see_in_little_memory, lambda: ((f'{kind}, number {number}', case) for number, case in enumerate(make()))
+def named(kind, number):
+    """The name of a case, and the case."""
+    return f'{kind}, number {number}', cases.KINDS[kind][0](number)
 
 
-KINDS = {kind: of_kind(kind, make) for kind, make in cases.KINDS.items()}
+KINDS = {kind: (see_in_little_memory, functools.partial(named, kind), count) for kind, (_, count) in cases.KINDS.items()}
 
 
 def compare_with_tshark(name, octets):
@@ -143,12 +144,14 @@ def try_others(pool):
 
 
 def try_pipes():
-    for capture in SMALL:
+    small = [it for it in SMALL if is_asked(Case(bytes(it.octets)))]
+    for capture in small:
         pausing.try_pauses(capture, ['extract'], reading.read(bytes(capture.octets)).text(), lambda packets, lines: lines)
         pausing.try_octet_by_octet(capture)
-    for is_pcapng in False, True:
+    kinds = [False] if PCAP_ALONE else [False, True]
+    for is_pcapng in kinds:
         pausing.try_large(is_pcapng, LARGE)
-    print(f'captures: {len(SMALL)} bit by bit, and two of 200 MiB')
+    print(f'captures: {len(small)} bit by bit, and {len(kinds)} of 200 MiB')
 
 
 def main():

@@ -1,4 +1,4 @@
-"""Captures of all kinds, each with its name."""
+"""Cases by kind and number, which a process makes that is given these alone."""
 import functools
 import random
 
@@ -67,34 +67,46 @@ def cut(capture, size):
     return Case(bytes(capture.octets[:size]), capture.lines()[:lines], fault=fault)
 
 
-def cuts(captures, cut_one):
-    """Each of these captures with each number of its octets."""
-    return [cut_one(capture, size) for capture in captures for size in range(len(capture.octets) + 1)]
+@functools.cache
+def cuts():
+    """Each small capture with each number of its octets."""
+    return [cut(capture, size) for capture in SMALL for size in range(len(capture.octets) + 1)]
 
 
-# Of each kind the cases of `extract`.
+@functools.cache
+def lengths():
+    """Each small capture with other values for each of its lengths."""
+    return [Case(octets) for capture in SMALL for octets in bending.all_lengths(capture)]
+
+
+# Of each kind how a case of `extract` is made of its number, and how many there are.
 KINDS = {
-    'made': lambda: map(case_made, range(600)),
-    'cut': lambda: cuts(SMALL, cut),
-    'with another length': lambda: (Case(octets) for capture in SMALL for octets in bending.all_lengths(capture)),
-    'bent': lambda: (Case(bending.bent(number)) for number in range(10_000)),
-    f'of {BENT} bent packets each': lambda: (Case(bending.bent_packets(number, BENT)) for number in range(100)),
+    'made': (case_made, lambda: 600),
+    'cut': (lambda number: cuts()[number], lambda: len(cuts())),
+    'with another length': (lambda number: lengths()[number], lambda: len(lengths())),
+    'bent': (lambda number: Case(bending.bent(number)), lambda: 10_000),
+    f'of {BENT} bent packets each': (lambda number: Case(bending.bent_packets(number, BENT)), lambda: 100),
 }
 
 
-def of_every_form(count):
-    """So many captures of all forms."""
-    return ((f'made, number {number}', bytes(made.capture(number).octets)) for number in range(count))
+def of_every_form(number):
+    """The name and the octets of a capture of some form."""
+    return f'made, number {number}', bytes(made.capture(number).octets)
 
 
-def bent(count):
-    return ((f'bent, number {number}', bending.bent(number)) for number in range(count))
+def bent(number):
+    return f'bent, number {number}', bending.bent(number)
 
 
-def cut_exchanges():
+@functools.cache
+def cuts_of_exchanges():
     """Small captures of exchanges, and of every block, with each number of their octets."""
     small = [exchanging.pcap(exchanging.talk(count=1)), exchanging.pcapng(['eth0', 'eth1'], exchanging.junk(0, 1), exchanging.talk(1, count=1)), SMALL[0], SMALL[2]]
-    return ((f'cut, number {number}', octets) for number, octets in enumerate(cuts(small, lambda capture, size: bytes(capture.octets[:size]))))
+    return [bytes(capture.octets[:size]) for capture in small for size in range(len(capture.octets) + 1)]
+
+
+def cut_exchanges(number):
+    return f'cut, number {number}', cuts_of_exchanges()[number]
 
 
 @functools.cache

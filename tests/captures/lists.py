@@ -7,15 +7,16 @@ of `ptpx extract` over the same capture.
 - Captures of every form are those of captures.py, also cut at each octet, bent and broken.
 - A writer that fails is told, and of a capture that has a fault, the fault."""
 import collections
+import functools
 import random
 
 import cases
 import exchanging
 import making
 import reading
-from asking import EXAMPLE, ask, compare, fail, try_kinds
+from asking import EXAMPLE, difference, fail, try_kinds
 from listing import Listing
-from program import ask_to_full_device
+from program import ask, ask_to_full_device
 
 # Names of interfaces: none, plain ones, ones that a shell has to be given in quotes, and ones that are cut in a row.
 INTERFACES = [None, 'eth0', 'eth1', 'br-lan.7', 'if0', 'Local Area Connection', r'\Device\NPF_{0}', "it's", '"', '\t\n', 'ä', '-', 'n' * 64, 'm' * 65, 'é' * 40]
@@ -79,8 +80,11 @@ def see(name, octets, interface=None):
     """Ends where an answer is wrong. Else answers what was seen."""
     text, seen = owed(octets, interface)
     of_interface = [] if interface is None else ['--interface', interface]
-    said, extracted = (ask(name, octets, 'extract', *form, *of_interface) for form in (['--list'], []))
-    compare(f'{name}, --list', octets, said, extracted._replace(output=text))
+    said, extracted = (ask(octets, 'extract', *form, *of_interface) for form in (['--list'], []))
+    if said.output != text:
+        fail(f'{name}: {difference(said.output, text)}', octets)
+    if (said.status, said.errors) != (extracted.status, extracted.errors):
+        fail(f'{name}: status {said.status}, standard error {said.errors[:300]!r}, and without --list {extracted.status}, {extracted.errors[:300]!r}', octets)
     return collections.Counter(seen)
 
 
@@ -94,28 +98,38 @@ def see_interfaces(name, octets):
     return seen
 
 
+@functools.cache
 def made_by_hand():
-    return [('many interfaces', many_interfaces()), *(it[:2] for it in cases.made_by_hand())]
+    return [('many interfaces', many_interfaces()), *((name, octets) for name, octets, _ in cases.made_by_hand())]
 
 
+@functools.cache
 def with_interfaces():
     """Those that describe interfaces, but for that of very many."""
-    return [it for it in made_by_hand()[1:] if cases.is_pcapng(it[1])]
+    return [(name, octets) for name, octets in made_by_hand()[1:] if cases.is_pcapng(octets)]
 
 
-def of_messages(count):
-    return ((f'of messages, number {number}', messages(number)) for number in range(count))
+def of_exchanges(number):
+    return made_by_hand()[number]
 
 
-# Of each kind what sees a case, and what makes all of them.
+def of_exchanges_with_interfaces(number):
+    return with_interfaces()[number]
+
+
+def of_messages(number):
+    return f'of messages, number {number}', messages(number)
+
+
+# Of each kind what sees a case, what makes one of its number, and how many there are.
 KINDS = {
-    'of exchanges': (see, made_by_hand),
-    'of exchanges at one interface': (see_interfaces, with_interfaces),
-    'of messages by a seed': (see, lambda: of_messages(200)),
-    'of messages at one interface': (see_interfaces, lambda: of_messages(40)),
-    'cut': (see, cases.cut_exchanges),
-    'of every form': (see, lambda: cases.of_every_form(100)),
-    'bent': (see, lambda: cases.bent(200)),
+    'of exchanges': (see, of_exchanges, lambda: len(made_by_hand())),
+    'of exchanges at one interface': (see_interfaces, of_exchanges_with_interfaces, lambda: len(with_interfaces())),
+    'of messages by a seed': (see, of_messages, lambda: 200),
+    'of messages at one interface': (see_interfaces, of_messages, lambda: 40),
+    'cut': (see, cases.cut_exchanges, lambda: len(cases.cuts_of_exchanges())),
+    'of every form': (see, cases.of_every_form, lambda: 100),
+    'bent': (see, cases.bent, lambda: 200),
 }
 
 

@@ -9,6 +9,7 @@ the same.
 - A writer and a reader that fail are told at the packet, or at a line before all packets.
 - Ctrl-C in a pipe that keeps it from the program ends a capture as it comes, and what came is told."""
 import collections
+import functools
 import json
 import os
 import random
@@ -27,9 +28,9 @@ import measured
 import pausing
 import reading
 import texts
-from asking import EXAMPLE, ask, compare, fail, try_kinds
+from asking import EXAMPLE, PCAP_ALONE, difference, fail, try_kinds
 from choosing import Wanted
-from program import PROGRAM, TOP, Ended, ask_to_full_device
+from program import PROGRAM, TOP, Ended, ask, ask_to_full_device
 
 HEAD = b'time,offset_ns,path_ns,by,line\n'
 WHOLE = b'ptpx: all times are of whole microseconds\n'
@@ -63,7 +64,7 @@ def reports(choice, is_csv):
         return head
     domain, slave, master = choice.told.watched()
     form = ['--csv'] if is_csv else []
-    said = ask('lines', ''.join(it.line() for it in heard).encode(), 'measure', *form, *Wanted(domain, master, slave).arguments())
+    said = ask(''.join(it.line() for it in heard).encode(), 'measure', *form, *Wanted(domain, master, slave).arguments())
     if said.status or not said.output.startswith(head):
         fail(f'measure of {len(heard)} lines: status {said.status}, {said.errors[:300]!r}')
     numbers = [it.number for it in heard]
@@ -79,7 +80,7 @@ def told(case, answer, choice):
     """What is owed on standard error: whom it is of, the fault, what `extract` tells of the packets, and what is told of the interfaces."""
     fault = fault_text(answer.fault) if answer.fault else b''
     at_once, sentences = (texts.told(those).encode() for those in (choice.at_once(), choice.sentences()))
-    extracted = ask('extract', case.octets, 'extract', *case.wanted.interface_arguments()).errors
+    extracted = ask(case.octets, 'extract', *case.wanted.interface_arguments()).errors
     if not extracted.startswith(fault):
         fail(f'extract tells {extracted[:300]!r}', case.octets)
     return at_once + fault + extracted[len(fault):].removesuffix(WHOLE) + sentences
@@ -118,7 +119,16 @@ def see(name, octets, wanted=Wanted(), forms=(True,)):
     for is_csv in forms:
         answer, seen = owed(case, is_csv)
         arguments = ['measure', *(['--csv'] if is_csv else []), *wanted.arguments()]
-        compare(f'{name}: {arguments}', octets, ask(name, octets, *arguments), answer)
+        try:
+            said = ask(octets, *arguments)
+        except subprocess.TimeoutExpired:
+            fail(f'{name}: no end within a minute', octets)
+        named = f'{name}: {arguments}'
+        if said.status != answer.status:
+            fail(f'{named}: status {said.status}, and {answer.status} is owed', octets)
+        for what, one, other in [('standard output', said.output, answer.output), ('standard error', said.errors, answer.errors)]:
+            if one != other:
+                fail(f'{named}: {what}, {difference(one, other)}', octets)
         counts.update(seen)
     return counts
 
@@ -126,27 +136,34 @@ def see(name, octets, wanted=Wanted(), forms=(True,)):
 BOTH = True, False
 
 
+def of_exchanges(number):
+    return *cases.made_by_hand()[number], BOTH
+
+
+@functools.cache
 def at_one_interface():
     """The captures that are made by hand, each with what its interfaces are called, and with a name that none has."""
-    return ((f'{name} at {one!r}', octets, wanted._replace(interface=one), BOTH)
-            for name, octets, wanted in cases.made_by_hand() if cases.is_pcapng(octets) for one in cases.interfaces(octets))
+    return [(f'{name} at {one!r}', octets, wanted._replace(interface=one), BOTH)
+            for name, octets, wanted in cases.made_by_hand() if cases.is_pcapng(octets) for one in cases.interfaces(octets)]
 
 
-def taped():
-    for number in range(300):
-        capture, wanted = exchanging.taped(number)
-        yield f'taped, number {number}', bytes(capture.octets), wanted, [number % 2 == 0]
+def of_exchanges_at_one(number):
+    return at_one_interface()[number]
 
 
-def bent_exchanges():
-    """Captures of exchanges of which numbers, or single octets, were changed."""
-    for number in range(500):
-        rng = random.Random(f'bent exchanges {number}')
-        capture = rng.choice([exchanging.pcap(exchanging.talk()), exchanging.pcapng(['eth0', None], exchanging.talk(0), exchanging.talk(1, **exchanging.OTHER))])
-        octets = bytes(capture.octets)
-        for _ in range(rng.choice([1, 1, 2])):
-            octets = rng.choice([bending.set_number, inputs.change_octets])(rng, octets)
-        yield f'bent exchanges, number {number}', octets
+def taped(number):
+    capture, wanted = exchanging.taped(number)
+    return f'taped, number {number}', bytes(capture.octets), wanted, [number % 2 == 0]
+
+
+def of_bent_exchanges(number):
+    """A capture of exchanges of which numbers, or single octets, were changed."""
+    rng = random.Random(f'bent exchanges {number}')
+    capture = rng.choice([exchanging.pcap(exchanging.talk()), exchanging.pcapng(['eth0', None], exchanging.talk(0), exchanging.talk(1, **exchanging.OTHER))])
+    octets = bytes(capture.octets)
+    for _ in range(rng.choice([1, 1, 2])):
+        octets = rng.choice([bending.set_number, inputs.change_octets])(rng, octets)
+    return f'bent exchanges, number {number}', octets
 
 
 # Inputs that begin with no magic: of no octet, of fewer than four, with an LF among these, and with octets that are nearly a magic.
@@ -155,32 +172,41 @@ LINES = [b'', b'\n', b'\n\n', b'\n\n\n\n', b'1\n', b'12\n', b'123\n', b'1 \n\n1 
          b'\n1 00\n1 00\n', b'1.000000000 00\n2 00\nx\n']
 
 
-def of_lines():
-    """Inputs of lines: those, messages, and the example behind octets that are nearly a magic."""
+@functools.cache
+def inputs_of_lines():
     magics = reading.MAGICS
     near = [magic[:place] + bytes([magic[place] ^ 1 << bit]) + magic[place + 1:] for magic in magics for place in range(4) for bit in range(8)]
+    rest = {magic: EXAMPLE.read_bytes()[4:400] for magic in near if magic not in magics}
     messages = ''.join(reading.line(time, octets) for _, time, octets in exchanging.talk()).encode()
-    behind = [magic + EXAMPLE.read_bytes()[4:400] for magic in dict.fromkeys(near) if magic not in magics]
-    for number, octets in enumerate([*LINES, messages, messages[:-1], *behind]):
-        yield f'no capture, {octets[:40]!r}', octets, Wanted(interface=b'eth0') if number % 4 == 0 else Wanted(), BOTH
+    return [*LINES, messages, messages[:-1], *(magic + octets for magic, octets in rest.items())]
 
 
+def of_lines(number):
+    octets = inputs_of_lines()[number]
+    return f'no capture, {octets[:40]!r}', octets, Wanted(interface=b'eth0') if number % 4 == 0 else Wanted(), BOTH
+
+
+@functools.cache
 def edited():
     """What other programs make of the example, where they are there."""
-    return ((*it, Wanted(), BOTH) for it in judges.edited(EXAMPLE)) if judges.are_there('editcap', 'mergecap') else ()
+    return list(judges.edited(EXAMPLE)) if judges.are_there('editcap', 'mergecap') else []
 
 
-# Of each kind what sees a case, and what makes all of them.
+def of_other_programs(number):
+    return *edited()[number], Wanted(), BOTH
+
+
+# Of each kind what sees a case, what makes one of its number, and how many there are.
 KINDS = {
-    'of exchanges': (see, lambda: ((*it, BOTH) for it in cases.made_by_hand())),
-    'of exchanges at one interface': (see, at_one_interface),
-    'of exchanges by a seed': (see, taped),
-    'cut': (see, cases.cut_exchanges),
-    'of every form': (see, lambda: cases.of_every_form(200)),
-    'bent': (see, lambda: cases.bent(400)),
-    'of exchanges, bent': (see, bent_exchanges),
-    'that are none, but lines': (see, of_lines),
-    'by editcap and mergecap': (see, edited),
+    'of exchanges': (see, of_exchanges, lambda: len(cases.made_by_hand())),
+    'of exchanges at one interface': (see, of_exchanges_at_one, lambda: len(at_one_interface())),
+    'of exchanges by a seed': (see, taped, lambda: 300),
+    'cut': (see, cases.cut_exchanges, lambda: len(cases.cuts_of_exchanges())),
+    'of every form': (see, cases.of_every_form, lambda: 200),
+    'bent': (see, cases.bent, lambda: 400),
+    'of exchanges, bent': (see, of_bent_exchanges, lambda: 500),
+    'that are none, but lines': (see, of_lines, lambda: len(inputs_of_lines())),
+    'by editcap and mergecap': (see, of_other_programs, lambda: len(edited())),
 }
 
 
@@ -211,7 +237,7 @@ def try_devices():
 
 def try_pipes():
     captures = [exchanging.pcap(exchanging.talk()), exchanging.pcapng(['eth0', 'eth1'], exchanging.syncs(0), exchanging.talk(1))]
-    for capture in captures:
+    for capture in captures[:1] if PCAP_ALONE else captures:
         try_pauses(capture)
     print('captures: measured bit by bit')
 

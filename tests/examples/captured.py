@@ -18,10 +18,10 @@ class Folder:
     def __init__(self, name):
         self.path, self.environment = pathlib.Path(name), {**os.environ, 'PTPX': str(PROGRAM)}
 
-    def run(self, script, *words):
-        """What a script writes to standard output and to standard error."""
+    def run(self, script, *words, status=0):
+        """What a script writes to standard output and to standard error, where that is its status."""
         ended = subprocess.run([EXAMPLES / script, *words], cwd=self.path, env=self.environment, capture_output=True, text=True, timeout=120)
-        if ended.returncode:
+        if ended.returncode != status:
             fail(f'{script} {" ".join(words)}: status {ended.returncode}, {ended.stderr}')
         return ended.stdout, ended.stderr
 
@@ -57,8 +57,19 @@ def try_capture(folder, capture, octets, interface):
     return len(by_lines)
 
 
+def try_refused(folder):
+    """Tries what can't be made a transcript: a capture with the results of its lines, and one that is cut off."""
+    octets = (EXAMPLES / 'slave.pcap').read_bytes()
+    (folder.path / 'cut.pcap').write_bytes(octets[:-1])
+    for capture, words in (EXAMPLES / 'slave.pcap', 'has another time than its result; '), ('cut.pcap', 'cut.pcap: ptpx extract ended with status 3\n'):
+        _, told = folder.run('transcribe', str(capture), str(EXAMPLES / 'slave.measurement.jsonl'), status=1)
+        if words not in told:
+            fail(f'{capture}: transcribe says {told}')
+
+
 def try_captures():
     with tempfile.TemporaryDirectory() as name:
         folder = Folder(name)
         counts = [try_capture(folder, *it) for it in captures()]
+        try_refused(folder)
     return f'{len(counts)} captures with {sum(counts)} reports as of their lines'
