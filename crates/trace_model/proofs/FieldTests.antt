@@ -1,31 +1,33 @@
 -- Octets are a message exactly where they have each of its fields.
-use Rattle.std.proofs.Common.{◌≡◌, ℕ, zero, suc, ◌+◌, ◌*◌, ◌/◌, ◌%◌, ◌^◌, ◌<◌, ◌≤◌, Bool, true, false, ◌&&◌, not, List, [], ◌∷◌}
+use Rattle.std.proofs.Common.{◌≡◌, ℕ, zero, suc, ◌+◌, ◌-◌, ◌*◌, ◌/◌, ◌%◌, ◌^◌, ◌<◌, ◌≤◌, Bool, true, false, ◌&&◌, not, List}
+use Rattle.std.proofs.Common.{[], ◌∷◌}
 use Rattle.std.proofs.Common.{if◌then◌else◌, length, drop, take, get_or, Decides, refl, sym, ap, ◌∙◌, arith, ◌==◌}
 use Rattle.std.specs.Prelude.{filter, nat_lt, slice_index, slice_range}
 use Rattle.std.specs.Int.{w8, w64, cast_signed}
 use Rattle.std.specs.List.{list_all}
 use Rattle.std.proofs.lemmas.Bool.{and_parts}
 use Rattle.std.proofs.lemmas.Bool.Decides.{Decides-eqb, Decides-int_eq, Decides-ltb, Decides-and, Decides-like}
-use Rattle.std.proofs.lemmas.List.{drop_more}
+use Rattle.std.proofs.lemmas.List.{drop_more, length-drop}
 use Rattle.std.proofs.lemmas.Slice.Eq.{bytes_eq-Decides}
 use Rattle.ptp_units.specs.Moment.{Stamp}
 use Rattle.event_codec.specs.declared.message.Body.{Body}
 use Rattle.event_codec.specs.Layout.{number, number_of, type_of, fields_length, stamp_in}
 use Rattle.event_codec.specs.Packet.{Contents, Packet, IsIdentityAt, IsRequesting}
+use Rattle.event_codec.specs.Refusal.{message_length}
 use Rattle.event_codec.proofs.Fields.{number_of_below, fields_length_above}
 use Rattle.event_codec.proofs.Lengths.{all_octets}
 use Rattle.trace_model.specs.declared.field.Field.{Field}
 use Rattle.trace_model.specs.declared.field.Field.TheVariants as fields
 use Rattle.trace_model.specs.Octets.{is_packet}
-use Rattle.trace_model.specs.Field.{all_fields, is_length, two_step_bit, are_other_flags, is_stamp_at, has_field}
+use Rattle.trace_model.specs.Field.{all_fields, is_whole, two_step_bit, are_other_flags, is_stamp_at, has_field}
 use Rattle.trace_model.specs.Field.{differing, is_read, tells_same, EachFieldIsTested}
 use Rattle.trace_model.proofs.Packets.{Decides-at_most, identity_decided, requesting_decided, is_packet-Decides}
 
 -- what each test of a field says
 
-pub record IsLength (body : Body) (b : List ℕ) : Type 0 where
-  pub field_is : number b 2 2 ≡ length b
-  pub room : fields_length (type_of body) ≤ length b
+pub record IsWholeFor (body : Body) (b : List ℕ) : Type 0 where
+  pub room : fields_length (type_of body) ≤ number b 2 2
+  pub there : number b 2 2 ≤ length b
 
 pub record AreOtherFlags (flags b : List ℕ) : Type 0 where
   pub high : slice_index flags 0 / 4 ≡ slice_index b 6 / 4
@@ -41,7 +43,8 @@ HasField m b fields.MajorSdoId = m.header.major_sdo ≡ slice_index b 0 / 16
 HasField m b fields.MessageType = number_of (type_of m.body) ≡ slice_index b 0 % 16
 HasField m b fields.MinorVersion = m.header.minor_version ≡ slice_index b 1 / 16
 HasField m b fields.Version = slice_index b 1 % 16 ≡ 2
-HasField m b fields.MessageLength = IsLength m.body b
+HasField m b fields.MessageLength = number b 2 2 ≡ message_length m
+HasField m b fields.Whole = IsWholeFor m.body b
 HasField m b fields.DomainNumber = m.header.domain ≡ slice_index b 4
 HasField m b fields.MinorSdoId = m.header.minor_sdo ≡ slice_index b 5
 HasField m b fields.TwoStepFlag = two_step_bit (slice_index m.header.flags 0) ≡ two_step_bit (slice_index b 6)
@@ -57,11 +60,11 @@ HasField m b fields.Nanoseconds = number b 40 4 < 10 ^ 9
 HasField m b fields.RequestingPort = IsRequesting m.body b
 HasField m b fields.Suffix = m.suffix ≡ drop (fields_length (type_of m.body)) b
 
-length_decided : (body : Body) (b : List ℕ) → Decides (is_length body b) (IsLength body b)
-length_decided body b = Decides-like (is_length body b)
-    (λ p. record { field_is = p.0; room = p.1 }) (λ p. (p.field_is, p.room))
-    (Decides-and (number b 2 2 == length b) (not (nat_lt (length b) (fields_length (type_of body))))
-    (Decides-eqb _ _) (Decides-at_most _ _))
+whole_decided : (body : Body) (b : List ℕ) → Decides (is_whole body b) (IsWholeFor body b)
+whole_decided body b = Decides-like (is_whole body b)
+    (λ p. record { room = p.0; there = p.1 }) (λ p. (p.room, p.there))
+    (Decides-and (not (nat_lt (number b 2 2) (fields_length (type_of body)))) (not (nat_lt (length b) (number b 2 2)))
+    (Decides-at_most _ _) (Decides-at_most _ _))
 
 flags_decided : (flags b : List ℕ) → Decides (are_other_flags flags b) (AreOtherFlags flags b)
 flags_decided flags b = Decides-like (are_other_flags flags b)
@@ -77,7 +80,7 @@ stamp_decided stamp b = Decides-like (is_stamp_at stamp b)
     (Decides-and (stamp.seconds == number b 34 6) (stamp.nanos == number b 40 4) (Decides-eqb _ _) (Decides-eqb _ _))
 
 pub field_decided : (m : Contents) (b : List ℕ) (field : Field) → Decides (has_field m b field) (HasField m b field)
-field_decided m b fields.MessageLength = length_decided m.body b
+field_decided m b fields.Whole = whole_decided m.body b
 field_decided m b fields.OtherFlags = flags_decided m.header.flags b
 field_decided m b fields.Correction = Decides-int_eq _ _
 field_decided m b fields.TypeSpecific = bytes_eq-Decides _ _
@@ -116,7 +119,7 @@ two_items (x ∷ []) e = absurd (omega arith)
 two_items (x ∷ y ∷ []) e = refl
 two_items (x ∷ y ∷ z ∷ xs) e = absurd (omega arith)
 
-octets_6_and_7 : (b : List ℕ) → 8 ≤ length b → slice_range b 6 8 ≡ slice_index b 6 ∷ slice_index b 7 ∷ []
+pub octets_6_and_7 : (b : List ℕ) → 8 ≤ length b → slice_range b 6 8 ≡ slice_index b 6 ∷ slice_index b 7 ∷ []
 octets_6_and_7 b room =
     let one : drop 6 b ≡ get_or b 6 0 ∷ drop 7 b = drop_more b 6 0 (omega arith) in
     let other : drop 7 b ≡ get_or b 7 0 ∷ drop 8 b = drop_more b 7 0 (omega arith) in
@@ -147,16 +150,16 @@ packet_told : (m : Contents) (b : List ℕ) → list_all (λ octet. nat_lt octet
     → length m.header.flags ≡ 2 → ((field : Field) → HasField m b field) → Packet m b
 packet_told m b octets two has = record {
   octets = all_octets b octets;
-  least = (has fields.MessageLength).room;
+  least = least;
   header = record {
     major_sdo_and_type = first_octet (slice_index b 0) m.header.major_sdo (number_of (type_of m.body))
         (number_of_below (type_of m.body)) (has fields.MajorSdoId) (has fields.MessageType);
     minor_version_and_version = second_octet (slice_index b 1) m.header.minor_version
         (has fields.MinorVersion) (has fields.Version);
-    message_length = (has fields.MessageLength).field_is;
+    message_length = all;
     domain = has fields.DomainNumber;
     minor_sdo = has fields.MinorSdoId;
-    flags = flags_same m.header.flags b two (room_for_flags (has fields.MessageLength).room)
+    flags = flags_same m.header.flags b two (room_for_flags least)
         (has fields.TwoStepFlag) (has fields.OtherFlags);
     correction = has fields.Correction;
     specific = has fields.TypeSpecific;
@@ -174,13 +177,22 @@ packet_told m b octets two has = record {
   suffix = has fields.Suffix;
 }
   where
+    least : fields_length (type_of m.body) ≤ length b
+    least = omega (arith, (has fields.Whole).room, (has fields.Whole).there)
+
+    behind : length m.suffix ≡ length b - fields_length (type_of m.body)
+    behind = ap length (has fields.Suffix) ∙ length-drop (fields_length (type_of m.body)) b
+
+    all : number b 2 2 ≡ length b
+    all = omega (arith, has fields.MessageLength, behind, least)
+
     room_for_flags : fields_length (type_of m.body) ≤ length b → 8 ≤ length b
     room_for_flags room = omega (arith, fields_length_above (type_of m.body))
 
 high_half : (x sdo kind : ℕ) → kind < 16 → x ≡ 16 * sdo + kind → sdo ≡ x / 16
 high_half x sdo kind small is = omega arith
 
-low_half : (x sdo kind : ℕ) → kind < 16 → x ≡ 16 * sdo + kind → kind ≡ x % 16
+pub low_half : (x sdo kind : ℕ) → kind < 16 → x ≡ 16 * sdo + kind → kind ≡ x % 16
 low_half x sdo kind small is = omega arith
 
 flags_at : (m : Contents) (b : List ℕ) → Packet m b → (slice_index m.header.flags 0 ≡ slice_index b 6)
@@ -200,7 +212,14 @@ has_told m b packet fields.MinorVersion = high_half (slice_index b 1) m.header.m
     packet.header.minor_version_and_version
 has_told m b packet fields.Version = sym (low_half (slice_index b 1) m.header.minor_version 2 (omega arith)
     packet.header.minor_version_and_version)
-has_told m b packet fields.MessageLength = record { field_is = packet.header.message_length; room = packet.least }
+has_told m b packet fields.MessageLength =
+    let behind : length m.suffix ≡ length b - fields_length (type_of m.body) =
+    ap length packet.suffix ∙ length-drop (fields_length (type_of m.body)) b in
+    omega (arith, packet.header.message_length, behind, packet.least)
+has_told m b packet fields.Whole = record {
+  room = omega (arith, packet.header.message_length, packet.least);
+  there = omega (arith, packet.header.message_length);
+}
 has_told m b packet fields.DomainNumber = packet.header.domain
 has_told m b packet fields.MinorSdoId = packet.header.minor_sdo
 has_told m b packet fields.TwoStepFlag = ap two_step_bit (flags_at m b packet).0
@@ -229,22 +248,23 @@ place fields.MessageType = 1
 place fields.MinorVersion = 2
 place fields.Version = 3
 place fields.MessageLength = 4
-place fields.DomainNumber = 5
-place fields.MinorSdoId = 6
-place fields.TwoStepFlag = 7
-place fields.OtherFlags = 8
-place fields.Correction = 9
-place fields.TypeSpecific = 10
-place fields.SourcePort = 11
-place fields.SequenceId = 12
-place fields.Control = 13
-place fields.LogInterval = 14
-place fields.Timestamp = 15
-place fields.Nanoseconds = 16
-place fields.RequestingPort = 17
-place fields.Suffix = 18
+place fields.Whole = 5
+place fields.DomainNumber = 6
+place fields.MinorSdoId = 7
+place fields.TwoStepFlag = 8
+place fields.OtherFlags = 9
+place fields.Correction = 10
+place fields.TypeSpecific = 11
+place fields.SourcePort = 12
+place fields.SequenceId = 13
+place fields.Control = 14
+place fields.LogInterval = 15
+place fields.Timestamp = 16
+place fields.Nanoseconds = 17
+place fields.RequestingPort = 18
+place fields.Suffix = 19
 
-place_within : (field : Field) → place field < 19
+place_within : (field : Field) → place field < 20
 place_within fields.MajorSdoId = omega arith
 place_within _ = omega arith
 

@@ -175,7 +175,7 @@ left_ok clock left journeys known each entered =
     ∙ ap (option_and_then (λ (c : ℕ). option_map (with_stay left entered) (known c)))
     (entered_ok clock left entered (entered_copy (event_of entered)))
 
-way_made_ok : (network : Network) (event : Event) (by : ℕ) (e : LinePlace) (journeys : ℕ → ℕ → Result LineJourney Stop)
+pub way_made_ok : (network : Network) (event : Event) (by : ℕ) (e : LinePlace) (journeys : ℕ → ℕ → Result LineJourney Stop)
     (known : ℕ → Option LineJourney)
     → ((by number : ℕ) → result_ok (journeys by number) ≡ known number)
     → result_ok (way_made network event by e journeys) ≡ line_journey_made network event e known
@@ -191,7 +191,7 @@ way_made_ok network (Leave node transit at) by e journeys known each =
     ∙ line_found_ok network e.earlier (line_number e) transit ∙ below_all network e.earlier transit)
 way_made_ok network _ by e journeys known each = refl
 
-way_ok : (network : Network) (lines : Lines) (by number : ℕ)
+pub way_ok : (network : Network) (lines : Lines) (by number : ℕ)
     → result_ok (way_of network lines by number) ≡ line_journey_of network lines number
 way_ok network [] by number = refl
 way_ok network (line ∷ lines) by number =

@@ -1,21 +1,26 @@
 -- Octets that tell the same as a message are used and answered as it is.
-use Rattle.std.proofs.Common.{◌≡◌, ◌∙◌, ℕ, pos, Bool, true, false, not, List, [], ◌∷◌, refl, sym, ap, arith, ◌==◌}
-use Rattle.std.proofs.Common.{if◌then◌else◌}
+use Rattle.std.proofs.Common.{◌≡◌, ◌∙◌, ℕ, ◌+◌, ◌-◌, ◌%◌, ◌≤◌, pos, Bool, true, false, not, List, [], ◌∷◌, refl, sym, ap, subst, arith, ◌==◌}
+use Rattle.std.proofs.Common.{if◌then◌else◌, Ok, length, take, drop, take-take, length-take-le}
+use Rattle.std.specs.Prelude.{slice_index}
 use Rattle.ptp_units.specs.Moment.{Stamp}
 use Rattle.event_codec.specs.declared.message.Body.{Body}
 use Rattle.event_codec.specs.declared.message.Body.TheVariants.{Sync, DelayReq, FollowUp, DelayResp}
 use Rattle.event_codec.specs.declared.message.Header.{Header}
 use Rattle.event_codec.specs.declared.port.PortConfig.{PortConfig}
 use Rattle.event_codec.specs.declared.port.PortIdentity.{PortIdentity}
-use Rattle.event_codec.specs.Layout.{number_of, type_of, stamp_in}
-use Rattle.event_codec.specs.Packet.{Contents, Packet, IsIdentityAt, IsRequesting}
+use Rattle.event_codec.specs.Layout.{number_of, type_of, fields_length, stamp_in}
+use Rattle.event_codec.specs.Packet.{Contents, IsHeader, IsIdentityAt, IsTimestampAt, IsRequesting}
+use Rattle.event_codec.specs.Reading.{IsReading}
+use Rattle.event_codec.specs.Refusal.{message_length}
+use Rattle.event_codec.proofs.Agreement.{IsHeader-agrees, IsTimestampAt-agrees, IsRequesting-agrees, after}
+use Rattle.event_codec.proofs.Fields.{number_of_below, fields_length_above}
 use Rattle.master_port.specs.Written.{answer_to, answer_to_request}
 use Rattle.pairing.specs.Marked.{entry}
 use Rattle.slave_port.specs.Usable.{Criteria, is_two_step, sync_reason, used_unless, sync_use}
 use Rattle.slave_port.specs.Usable.{event_use, general_use}
 use Rattle.trace_model.specs.declared.field.Field.TheVariants as fields
-use Rattle.trace_model.specs.Field.{is_sync_body, is_stamp_read, tells_same, EachTellsAlike}
-use Rattle.trace_model.proofs.FieldTests.{IsStampAt, reads_told, has_told}
+use Rattle.trace_model.specs.Field.{two_step_bit, is_sync_body, is_stamp_read, tells_same, EachTellsAlike}
+use Rattle.trace_model.proofs.FieldTests.{IsStampAt, reads_told, low_half, octets_6_and_7}
 
 -- what is read of a header, but for twoStepFlag
 abbrev read_of : Header → Header
@@ -124,17 +129,51 @@ answer_alike h g (FollowUp o) _ are config t4 = absurd (omega arith)
 answer_alike h g (DelayResp o r) (DelayResp p q) are config t4 = refl
 answer_alike h g (DelayResp o r) _ are config t4 = absurd (omega arith)
 
-are_alike : (m other : Contents) (b : List ℕ) → tells_same m b ≡ true → Packet other b
+-- the fields of a message in octets that begin with it
+record Begins (other : Contents) (b : List ℕ) : Type 0 where
+  room : 44 ≤ length b
+  header : IsHeader other.header (number_of (type_of other.body)) (message_length other) b
+  timestamp : IsTimestampAt (stamp_in other.body) b 34
+  requesting : IsRequesting other.body b
+
+begins : (other : Contents) (b : List ℕ) → IsReading b (Ok other) → Begins other b
+begins other b (there, packet) =
+    let n : ℕ = message_length other in
+    let least : 44 ≤ fields_length (type_of other.body) = fields_length_above (type_of other.body) in
+    let whole : take n b ≡ take n (take n b) = sym (take-take n n b (omega arith)) in
+    let header : take 34 b ≡ take 34 (take n b) = sym (take-take 34 n b (omega (arith, least))) in
+    let fields : take (16 + (fields_length (type_of other.body) - 16)) b
+    ≡ take (16 + (fields_length (type_of other.body) - 16)) (take n b) =
+    sym (take-take (16 + (fields_length (type_of other.body) - 16)) n b (omega (arith, least))) in
+    record {
+      room = omega (arith, least, there);
+      header = subst (λ (size : ℕ). IsHeader other.header (number_of (type_of other.body)) size b)
+          (length-take-le n b there) (IsHeader-agrees other.header (number_of (type_of other.body)) (length (take n b)) b (take n b) header packet.header);
+      timestamp = IsTimestampAt-agrees n 0 0 b (take n b) whole (stamp_in other.body) 34 (omega (arith, least)) packet.timestamp;
+      requesting = IsRequesting-agrees other.body b (take n b)
+          (after 16 (fields_length (type_of other.body) - 16) b (take n b) fields) packet.requesting;
+    }
+
+two_step_told : (other : Contents) (b : List ℕ) → Begins other b
+    → two_step_bit (slice_index other.header.flags 0) ≡ two_step_bit (slice_index b 6)
+two_step_told other b begin =
+    ap (λ (flags : List ℕ). two_step_bit (slice_index flags 0))
+    (begin.header.flags ∙ octets_6_and_7 b (omega (arith, begin.room)))
+
+are_alike : (m other : Contents) (b : List ℕ) → tells_same m b ≡ true → Begins other b
     → AreAlike m.header other.header m.body other.body
-are_alike m other b tells packet =
+are_alike m other b tells begin =
     let domain : other.header.domain ≡ m.header.domain =
-    has_told other b packet fields.DomainNumber ∙ sym (reads_told m b tells fields.DomainNumber refl) in
+    begin.header.domain ∙ sym (reads_told m b tells fields.DomainNumber refl) in
     let correction : other.header.correction.0 ≡ m.header.correction.0 =
-    has_told other b packet fields.Correction ∙ sym (reads_told m b tells fields.Correction refl) in
+    begin.header.correction ∙ sym (reads_told m b tells fields.Correction refl) in
     let source : other.header.source ≡ m.header.source = one_identity m.header.source other.header.source b 20
-    (reads_told m b tells fields.SourcePort refl) (has_told other b packet fields.SourcePort) in
+    (reads_told m b tells fields.SourcePort refl) begin.header.source in
     let sequence : other.header.sequence.0 ≡ m.header.sequence.0 =
-    has_told other b packet fields.SequenceId ∙ sym (reads_told m b tells fields.SequenceId refl) in
+    begin.header.sequence ∙ sym (reads_told m b tells fields.SequenceId refl) in
+    let kind : number_of (type_of other.body) ≡ slice_index b 0 % 16 =
+    low_half (slice_index b 0) other.header.major_sdo (number_of (type_of other.body))
+    (number_of_below (type_of other.body)) begin.header.major_sdo_and_type in
     record {
       read = λ k. record {
         major_sdo = 0;
@@ -149,18 +188,18 @@ are_alike m other b tells packet =
         control = 0;
         log = pos 0;
       };
-      kind = has_told other b packet fields.MessageType ∙ sym (reads_told m b tells fields.MessageType refl);
+      kind = kind ∙ sym (reads_told m b tells fields.MessageType refl);
       two_step = λ sync. ap (λ (bit : ℕ). bit == 1)
-          (has_told other b packet fields.TwoStepFlag ∙ sym (reads_told m b tells fields.TwoStepFlag sync));
-      stamp = λ read. one_stamp (stamp_in m.body) (stamp_in other.body) b
-          (reads_told m b tells fields.Timestamp read) (has_told other b packet fields.Timestamp);
+          (two_step_told other b begin ∙ sym (reads_told m b tells fields.TwoStepFlag sync));
+      stamp = λ read. one_stamp (stamp_in m.body) (stamp_in other.body) b (reads_told m b tells fields.Timestamp read)
+          (record { seconds = begin.timestamp.seconds; nanoseconds = begin.timestamp.nanoseconds });
       requesting = same_requesting m.body other.body b
-          (reads_told m b tells fields.RequestingPort refl) (has_told other b packet fields.RequestingPort);
+          (reads_told m b tells fields.RequestingPort refl) begin.requesting;
     }
 
 pub each_tells_alike : EachTellsAlike
-each_tells_alike m other b tells packet =
-    let are = are_alike m other b tells packet in
+each_tells_alike m other b tells reading =
+    let are = are_alike m other b tells (begins other b reading) in
     record {
       event = event_alike m.header other.header m.body other.body are;
       general = general_alike m.header other.header m.body other.body are;

@@ -35,7 +35,7 @@ use Rattle.trace_model.specs.Octets.{drawing_port, message_sent, sent, sent_afte
 use Rattle.trace_model.specs.Field.{is_stamp_read, tells_same}
 use Rattle.trace_model.specs.Sound.{fraction_sent}
 use Rattle.trace_model.specs.ByMessages.{sync_type, Said, said_in, said_out, said_at, tells_message, tells_right}
-use Rattle.trace_model.proofs.FieldTests.{IsLength, IsStampAt, reads_told}
+use Rattle.trace_model.proofs.FieldTests.{IsWholeFor, IsStampAt, reads_told}
 
 -- something is said that is the message's, as far as it is read
 pub record Says (m : Contents) (there : Option Said) : Type 0 where
@@ -46,18 +46,16 @@ pub record Says (m : Contents) (there : Option Said) : Type 0 where
 
 says_in : (m : Contents) (b : List ℕ) → tells_same m b ≡ true → Says m (said_in (number_of (type_of m.body)) b)
 says_in m b tells =
-    let room : IsLength m.body b = reads_told m b tells fields.MessageLength refl in
+    let room : IsWholeFor m.body b = reads_told m b tells fields.Whole refl in
     let kind : number_of (type_of m.body) ≡ slice_index b 0 % 16 = reads_told m b tells fields.MessageType refl in
     let least : 44 ≤ fields_length (type_of m.body) = fields_length_above (type_of m.body) in
-    let header : 34 ≤ length b = omega (arith, room.room) in
-    let long : fields_length (type_of m.body) ≤ number b 2 2 = omega (arith, room.room, room.field_is) in
-    let within : number b 2 2 ≤ length b = omega (arith, room.field_is) in
+    let header : 34 ≤ length b = omega (arith, least, room.room, room.there) in
     let whole : IsWhole b (type_of m.body) = record {
       header = header;
       version = reads_told m b tells fields.Version refl;
       numbered = sym kind;
-      long = long;
-      whole = within;
+      long = room.room;
+      whole = room.there;
     } in
     let small : number b 40 4 < 10 ^ 9 = reads_told m b tells fields.Nanoseconds refl in
     let unrefused : decode_refusal b ≡ None = decode_refusal-whole b (type_of m.body) whole

@@ -1,6 +1,6 @@
 -- The worked exchange with other octets for its Follow_Up: which fields they have otherwise, and what the two results
 -- are by the messages.
-use Rattle.std.proofs.Common.{◌≡◌, ℕ, pos, negsuc, refl, List, [], ◌∷◌, reverse, true, false, Some, None}
+use Rattle.std.proofs.Common.{◌≡◌, ℕ, pos, negsuc, refl, List, [], ◌∷◌, ◌++◌, reverse, true, false, Some, None}
 use Rattle.event_codec.specs.Packet.{Contents}
 use Rattle.event_codec.specs.Refusal.{decode_refusal}
 use Rattle.master_port.specs.Written.{follow_up}
@@ -40,6 +40,16 @@ version_differs = refl
 nobody_reads_it : tells_same written old_version ≡ true
 nobody_reads_it = refl
 
+-- two octets of padding behind messageLength
+abbrev padded : List ℕ
+padded = old_version ++ 0 ∷ 0 ∷ []
+
+padding_differs : differing written padded ≡ fields.MinorVersion ∷ fields.Suffix ∷ []
+padding_differs = refl
+
+nobody_reads_padding : tells_same written padded ≡ true
+nobody_reads_padding = refl
+
 -- a timestamp that is 50,000 ns later
 abbrev later : List ℕ
 later = follow_up_with 18 1 195 80
@@ -52,7 +62,7 @@ slave_reads_it = refl
 
 -- two octets alone, which are 0: those that are not there count as 0
 all_differ : differing written (0 ∷ 0 ∷ []) ≡ fields.MessageType ∷ fields.MinorVersion ∷ fields.Version
-    ∷ fields.MessageLength ∷ fields.TypeSpecific ∷ fields.SourcePort ∷ fields.Control ∷ fields.Timestamp ∷ []
+    ∷ fields.MessageLength ∷ fields.Whole ∷ fields.TypeSpecific ∷ fields.SourcePort ∷ fields.Control ∷ fields.Timestamp ∷ []
 all_differ = refl
 
 -- by the messages the results are those by the readings, where minorVersionPTP alone is other

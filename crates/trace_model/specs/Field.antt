@@ -1,7 +1,7 @@
 -- The fields of a message (IEEE 1588-2019, 13.3 and 13.6 to 13.8): which of them octets have otherwise, and which of
 -- them a slave or a master reads.
 use Rattle.std.specs.Prelude.{◌≡◌, ◌↔◌, ℕ, ◌/◌, ◌%◌, ◌^◌, Bool, true, false, ◌&&◌, not, List, [], ◌∷◌, length}
-use Rattle.std.specs.Prelude.{filter, drop, nat_lt, ◌==◌, slice_index, slice_range, IsTrue}
+use Rattle.std.specs.Prelude.{filter, drop, nat_lt, ◌==◌, slice_index, slice_range, IsTrue, Ok}
 use Rattle.std.specs.Int.{w8, w64, cast_signed}
 use Rattle.std.specs.List.{list_all}
 use Rattle.std.specs.Ordering.{int_eq}
@@ -11,7 +11,9 @@ use Rattle.event_codec.specs.declared.message.Body.{Body}
 use Rattle.event_codec.specs.declared.message.Body.TheVariants as bodies
 use Rattle.event_codec.specs.declared.port.PortConfig.{PortConfig}
 use Rattle.event_codec.specs.Layout.{number, number_of, type_of, fields_length, stamp_in}
-use Rattle.event_codec.specs.Packet.{Contents, Packet}
+use Rattle.event_codec.specs.Packet.{Contents}
+use Rattle.event_codec.specs.Reading.{IsReading}
+use Rattle.event_codec.specs.Refusal.{message_length}
 use Rattle.master_port.specs.Written.{answer_to}
 use Rattle.slave_port.specs.Usable.{Criteria, is_two_step, event_use, general_use}
 use Rattle.trace_model.specs.declared.field.Field.{Field}
@@ -21,14 +23,14 @@ use Rattle.trace_model.specs.Octets.{is_identity_at, is_requesting, is_packet}
 -- all fields, in the order of their octets
 abbrev pub all_fields : List Field
 all_fields =
-    fields.MajorSdoId ∷ fields.MessageType ∷ fields.MinorVersion ∷ fields.Version ∷ fields.MessageLength ∷
+    fields.MajorSdoId ∷ fields.MessageType ∷ fields.MinorVersion ∷ fields.Version ∷ fields.MessageLength ∷ fields.Whole ∷
     fields.DomainNumber ∷ fields.MinorSdoId ∷ fields.TwoStepFlag ∷ fields.OtherFlags ∷ fields.Correction ∷
     fields.TypeSpecific ∷ fields.SourcePort ∷ fields.SequenceId ∷ fields.Control ∷ fields.LogInterval ∷
     fields.Timestamp ∷ fields.Nanoseconds ∷ fields.RequestingPort ∷ fields.Suffix ∷ []
 
--- whether messageLength is the number of octets, and these have room for all fields
-abbrev pub is_length : Body → List ℕ → Bool
-is_length body b = number b 2 2 == length b && not (nat_lt (length b) (fields_length (type_of body)))
+-- whether messageLength has room for all fields, and there are as many octets; what follows them is padding
+abbrev pub is_whole : Body → List ℕ → Bool
+is_whole body b = not (nat_lt (number b 2 2) (fields_length (type_of body))) && not (nat_lt (length b) (number b 2 2))
 
 -- twoStepFlag, the second bit of an octet
 abbrev pub two_step_bit : ℕ → ℕ
@@ -50,7 +52,8 @@ has_field m b fields.MajorSdoId = m.header.major_sdo == slice_index b 0 / 16
 has_field m b fields.MessageType = number_of (type_of m.body) == slice_index b 0 % 16
 has_field m b fields.MinorVersion = m.header.minor_version == slice_index b 1 / 16
 has_field m b fields.Version = slice_index b 1 % 16 == 2
-has_field m b fields.MessageLength = is_length m.body b
+has_field m b fields.MessageLength = number b 2 2 == message_length m
+has_field m b fields.Whole = is_whole m.body b
 has_field m b fields.DomainNumber = m.header.domain == slice_index b 4
 has_field m b fields.MinorSdoId = m.header.minor_sdo == slice_index b 5
 has_field m b fields.TwoStepFlag = two_step_bit (slice_index m.header.flags 0) == two_step_bit (slice_index b 6)
@@ -91,13 +94,15 @@ is_stamp_read two_step (bodies.FollowUp precise) = true
 is_stamp_read two_step (bodies.DelayResp receive requesting) = true
 
 -- Whether a slave or a master reads this field of this message, so that other octets there can turn what it does. Who
--- can't decode octets reads none of them: nobody can where type, version, length or nanoseconds are wrong.
+-- can't decode octets reads none of them: nobody can where type or version are wrong, octets are lacking, or there are
+-- too many nanoseconds.
 abbrev pub is_read : Contents → Field → Bool
 is_read m fields.MajorSdoId = false
 is_read m fields.MessageType = true
 is_read m fields.MinorVersion = false
 is_read m fields.Version = true
-is_read m fields.MessageLength = true
+is_read m fields.MessageLength = false
+is_read m fields.Whole = true
 is_read m fields.DomainNumber = true
 is_read m fields.MinorSdoId = false
 is_read m fields.TwoStepFlag = is_sync_body m.body
@@ -127,7 +132,7 @@ pub record ReadsAlike (m other : Contents) : Type 0 where
   pub answer : (config : PortConfig) (t4 : ℕ)
       → answer_to config other.body other.header t4 ≡ answer_to config m.body m.header t4
 
--- Octets that tell the same as a message are read alike, so what differs is read by nobody.
+-- Octets that tell the same as a message are read alike, whatever padding they have, so what differs is read by nobody.
 -- `laws::unread_fields_change_nothing` promises it.
 abbrev pub EachTellsAlike : Type 0
-EachTellsAlike = (m other : Contents) (b : List ℕ) → tells_same m b ≡ true → Packet other b → ReadsAlike m other
+EachTellsAlike = (m other : Contents) (b : List ℕ) → tells_same m b ≡ true → IsReading b (Ok other) → ReadsAlike m other

@@ -1,13 +1,14 @@
 //! The fields of messages, and which of them octets have otherwise (IEEE 1588-2019, 13.3 and 13.6 to 13.8).
 
 ghost use Rattle.std.specs.Prelude.{◌≡◌, ◌++◌, [], ◌∷◌, ◌<◌, length, slice_index, slice_range};
-ghost use Rattle.std.specs.Prelude.{◌≤◌, not, drop, filter};
+ghost use Rattle.std.specs.Prelude.{◌≤◌, not, drop, filter, ◌==◌};
 ghost use Rattle.std.specs.List.{list_all};
 ghost use Rattle.event_codec.specs.Layout.{number, number_of, type_of, fields_length};
 ghost use Rattle.event_codec.specs.Packet.{contents};
+ghost use Rattle.event_codec.specs.Refusal.{message_length};
 ghost use Rattle.slave_port.specs.Usable.{is_two_step};
 ghost use Rattle.trace_model.specs.Octets.{is_identity_at, is_requesting};
-ghost use Rattle.trace_model.specs.Field.{all_fields, is_length, two_step_bit, are_other_flags, is_stamp_at};
+ghost use Rattle.trace_model.specs.Field.{all_fields, is_whole, two_step_bit, are_other_flags, is_stamp_at};
 ghost use Rattle.trace_model.specs.Field.{has_field, differing, is_stamp_read, is_sync_body, is_read, tells_same};
 
 use event_codec::{Body, Header, Message, PortIdentity, TWO_STEP};
@@ -26,8 +27,10 @@ pub enum Field {
     MinorVersion,
     /// versionPTP, the low half of octet 1, which is 2.
     Version,
-    /// messageLength, which is the number of octets, as many as the fields take or more.
+    /// messageLength.
     MessageLength,
+    /// That messageLength has room for all fields, and that there are as many octets.
+    Whole,
     /// domainNumber.
     DomainNumber,
     /// minorSdoId.
@@ -128,11 +131,23 @@ fn fields_length(body: &Body) -> usize
     }
 }
 
-/// Whether messageLength is the number of octets, and these have room for all fields.
-fn is_length(body: &Body, octets: &[u8]) -> bool
-    ensures { result ≡ is_length body.now octets.now }
+/// Whether messageLength is that of the message.
+fn is_length(message: &Message<'_>, octets: &[u8]) -> bool
+    ensures { result ≡ (number octets.now 2 2 == message_length (contents message.now)) }
 {
-    usize::from(u16_at(octets, 2)) == octets.len() && octets.len() >= fields_length(body)
+    let fields = fields_length(&message.body);
+    match usize::from(u16_at(octets, 2)).checked_sub(fields) {
+        Some(rest) => rest == message.suffix.len(),
+        None => false,
+    }
+}
+
+/// Whether messageLength has room for all fields, and there are as many octets.
+fn is_whole(body: &Body, octets: &[u8]) -> bool
+    ensures { result ≡ is_whole body.now octets.now }
+{
+    let message_length = usize::from(u16_at(octets, 2));
+    message_length >= fields_length(body) && octets.len() >= message_length
 }
 
 /// Whether an octet has the twoStepFlag.
@@ -199,12 +214,13 @@ fn is_stamp_read(header: &Header, body: &Body) -> bool
 
 impl Field {
     /// All fields, in the order of their octets.
-    pub const ALL: [Field; 19] = [
+    pub const ALL: [Field; 20] = [
         Field::MajorSdoId,
         Field::MessageType,
         Field::MinorVersion,
         Field::Version,
         Field::MessageLength,
+        Field::Whole,
         Field::DomainNumber,
         Field::MinorSdoId,
         Field::TwoStepFlag,
@@ -221,6 +237,44 @@ impl Field {
         Field::Suffix,
     ];
 
+    /// Its name, whatever the message (IEEE 1588-2019, 13.3 and 13.6 to 13.8); of a test of a field, that of the field.
+    pub fn name(self) -> &'static str {
+        match self {
+            Field::MajorSdoId => "majorSdoId",
+            Field::MessageType => "messageType",
+            Field::MinorVersion => "minorVersionPTP",
+            Field::Version => "versionPTP",
+            Field::MessageLength | Field::Whole => "messageLength",
+            Field::DomainNumber => "domainNumber",
+            Field::MinorSdoId => "minorSdoId",
+            Field::TwoStepFlag => "twoStepFlag",
+            Field::OtherFlags => "flagField",
+            Field::Correction => "correctionField",
+            Field::TypeSpecific => "messageTypeSpecific",
+            Field::SourcePort => "sourcePortIdentity",
+            Field::SequenceId => "sequenceId",
+            Field::Control => "controlField",
+            Field::LogInterval => "logMessageInterval",
+            Field::Timestamp | Field::Nanoseconds => "the timestamp",
+            Field::RequestingPort => "requestingPortIdentity",
+            Field::Suffix => "the suffix",
+        }
+    }
+
+    /// Its name in a message with this body, where the timestamp has one of its own.
+    pub fn name_in(self, body: &Body) -> &'static str {
+        match (self, body) {
+            (Field::Timestamp | Field::Nanoseconds, Body::Sync { .. } | Body::DelayReq { .. }) => {
+                "originTimestamp"
+            }
+            (Field::Timestamp | Field::Nanoseconds, Body::FollowUp { .. }) => {
+                "preciseOriginTimestamp"
+            }
+            (Field::Timestamp | Field::Nanoseconds, Body::DelayResp { .. }) => "receiveTimestamp",
+            _ => self.name(),
+        }
+    }
+
     /// Whether octets have this field as the message has it. Octets that aren't there count as 0.
     pub fn is_in(self, message: &Message<'_>, octets: &[u8]) -> bool
         ensures { result ≡ has_field (contents message.now) octets.now self }
@@ -232,7 +286,8 @@ impl Field {
             Field::MessageType => type_number(body) == octet(octets, 0) % 16,
             Field::MinorVersion => header.minor_version.value() == octet(octets, 1) / 16,
             Field::Version => octet(octets, 1) % 16 == 2,
-            Field::MessageLength => is_length(body, octets),
+            Field::MessageLength => is_length(message, octets),
+            Field::Whole => is_whole(body, octets),
             Field::DomainNumber => header.domain == octet(octets, 4),
             Field::MinorSdoId => header.minor_sdo == octet(octets, 5),
             Field::TwoStepFlag => two_step_bit(header.flags[0]) == two_step_bit(octet(octets, 6)),
@@ -258,7 +313,7 @@ impl Field {
         match self {
             Field::MessageType
             | Field::Version
-            | Field::MessageLength
+            | Field::Whole
             | Field::DomainNumber
             | Field::Correction
             | Field::SourcePort
@@ -269,6 +324,7 @@ impl Field {
             Field::Timestamp => is_stamp_read(&message.header, &message.body),
             Field::MajorSdoId
             | Field::MinorVersion
+            | Field::MessageLength
             | Field::MinorSdoId
             | Field::OtherFlags
             | Field::TypeSpecific
@@ -283,7 +339,7 @@ impl Field {
 #[derive(Debug, Drop)]
 pub struct Fields {
     /// The fields, and what doesn't count behind them.
-    fields: [Field; 19],
+    fields: [Field; 20],
     count: usize,
 }
 
@@ -295,7 +351,7 @@ impl Model for Fields {
 
     ghost view = { λ f. take f.count f.fields };
 
-    ghost invariant = { λ f. f.count ≤ 19 };
+    ghost invariant = { λ f. f.count ≤ 20 };
 }
 
 impl Fields {
@@ -311,7 +367,7 @@ impl Fields {
 
     /// One more field.
     fn push(&mut self, field: Field)
-        requires { length self.old < 19 }
+        requires { length self.old < 20 }
         ensures { self.new ≡ self.old ++ field ∷ [] }
     {
         self.fields[self.count] = field;
@@ -328,7 +384,7 @@ impl Fields {
 
 /// Those of these fields that octets have otherwise.
 fn otherwise(fields: &[Field], message: &Message<'_>, octets: &[u8]) -> Fields
-    requires { length fields.now ≤ 19 }
+    requires { length fields.now ≤ 20 }
     ensures { result ≡ filter (λ field. not (has_field (contents message.now) octets.now field)) fields.now }
 {
     let mut differing = Fields::none();
