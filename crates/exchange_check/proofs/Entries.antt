@@ -1,7 +1,7 @@
 -- Tables with one more entry, and what is noted of one more line.
 use Rattle.std.proofs.Common.{◌≡◌, ◌∙◌, ℕ, ◌-◌, Bool, true, false, cond, List, ◌∷◌, length, Option, Some, None}
 use Rattle.std.proofs.Common.{Ok, Err, Result, refl, sym, ap, arith}
-use Rattle.std.specs.Prelude.{option_map, option_and_then, OnOk}
+use Rattle.std.specs.Prelude.{option_map, OnOk}
 use Rattle.std.specs.BTreeMap.{get}
 use Rattle.std.specs.Ordering.{nat_cmp}
 use Rattle.std.proofs.lemmas.Bool.{eq-eqb}
@@ -9,7 +9,6 @@ use Rattle.std.proofs.lemmas.Option.{none-some, same_Some}
 use Rattle.arrayvec.specs.declared.array_vec.ArrayVec.{ArrayVec}
 use Rattle.network_model.specs.Network.{Network}
 use Rattle.network_model.specs.Run.{site_of}
-use Rattle.trace_model.specs.declared.finding.Finding.{Finding}
 use Rattle.trace_model.specs.declared.finding.Finding.TheVariants as findings
 use Rattle.trace_model.specs.declared.line.TraceLine.{TraceLine}
 use Rattle.trace_model.specs.Line.{Lines, counts}
@@ -24,19 +23,16 @@ use Rattle.exchange_check.specs.declared.kept_line.WrongReading.{WrongReading}
 use Rattle.exchange_check.specs.declared.refusal.CheckFault.{CheckFault}
 use Rattle.exchange_check.specs.Evidence.{Table, noted, told_by, octets_told, stops_in, wrong_octets}
 use Rattle.exchange_check.specs.Evidence.{wrong_octets_at, wrong_reading, wrong_reading_at, uncounted_at, second_leaves}
-use Rattle.exchange_check.specs.Evidence.{journey_readings, journey_octets, stop_made, first_readings_at, first_octets_at}
-use Rattle.exchange_check.specs.Evidence.{made_otherwise, first_otherwise_at, stops_at}
+use Rattle.exchange_check.specs.Evidence.{made_otherwise, first_otherwise_at, stop_made, stops_at}
 use Rattle.exchange_check.specs.Inner.Machine.{IsKept, machine, facts_of, sites_of, firsts_of}
-use Rattle.exchange_check.specs.Inner.Noting.{mapped, with_entry, octets_entry, reading_entry, seconds_with, first_reading_by}
-use Rattle.exchange_check.specs.Inner.Noting.{first_octets_by, first_otherwise_by, stop_entry, slim, NotesLine}
+use Rattle.exchange_check.specs.Inner.Noting.{mapped, with_entry, octets_entry, reading_entry, seconds_with}
+use Rattle.exchange_check.specs.Inner.Noting.{first_otherwise_by, stop_entry, slim, NotesLine}
 use Rattle.exchange_check.proofs.Noted.{site_at}
 use Rattle.exchange_check.proofs.Told.{fact_of, journey_from}
 use Rattle.exchange_check.proofs.Inside.{facts-kept, sites-kept, firsts-kept}
-use Rattle.exchange_check.proofs.NotedTables.{table, table-more, no-entry, of-journeys, uncounted-more, entry-mapped}
+use Rattle.exchange_check.proofs.NotedTables.{table, table-more, no-entry, uncounted-more, entry-mapped}
 use Rattle.exchange_check.proofs.SecondLeaves.{seconds-more, seconds-unchanged}
 use Rattle.exchange_check.proofs.WrongReadings.{reading-entry}
-use Rattle.exchange_check.proofs.FirstReadings.{first-reading}
-use Rattle.exchange_check.proofs.FirstOctets.{first-octets}
 use Rattle.exchange_check.proofs.FirstOtherwise.{first-otherwise}
 use Rattle.exchange_check.proofs.WayStops.{stop-entry}
 
@@ -119,30 +115,6 @@ module _ (network : Network) (line : TraceLine) (earlier : Lines) where
           ∙ (λ i. seconds_with (firsts-kept network fed kept h i) (same i) (before i).seconds)
           ∙ sym (seconds-more network line earlier counted)
 
-      first_readings : get nat_cmp new.first_readings
-          ≡ first_readings_at network fed
-      first_readings = notes.first_readings
-          ∙ (λ i. with_entry (same i).line (first_reading_by (facts-kept network fed kept h i) (readings i)
-          (before i).first_readings (same i)) (before i).first_readings)
-          ∙ (λ i. with_entry n (first-reading network line earlier counted i) (of-journeys network (journey_readings network) earlier i))
-          ∙ sym (of-journeys network (journey_readings network) fed
-          ∙ table-more network (λ (x : LinePlace). option_and_then (journey_readings network) (journey_from network x))
-          line earlier true counted)
-
-      abbrev raw : Table ℕ
-      raw = get nat_cmp old.first_octets
-
-      first_octets : mapped findings.OtherOctets (get nat_cmp new.first_octets) ≡ first_octets_at network fed
-      first_octets = (λ i. mapped findings.OtherOctets (notes.first_octets i))
-          ∙ entry-mapped findings.OtherOctets fact.line (first_octets_by (facts_of kept) raw fact) raw
-          ∙ (λ i. with_entry (same i).line (option_map findings.OtherOctets
-          (first_octets_by (facts-kept network fed kept h i) raw (same i))) (before i).first_octets)
-          ∙ (λ i. with_entry n (first-octets network line earlier raw (λ copy k. (before k).first_octets copy) i)
-          (of-journeys network (journey_octets network) earlier i))
-          ∙ sym (of-journeys network (journey_octets network) fed
-          ∙ table-more network (λ (x : LinePlace). option_and_then (journey_octets network) (journey_from network x))
-          line earlier true counted)
-
       abbrev otherwise_raw : Table ℕ
       otherwise_raw = get nat_cmp old.first_otherwise
 
@@ -171,8 +143,6 @@ module _ (network : Network) (line : TraceLine) (earlier : Lines) where
         readings = readings i;
         uncounted = uncounted i;
         seconds = seconds i;
-        first_readings = first_readings i;
-        first_octets = first_octets i;
         first_otherwise = first_otherwise i;
         stops = stops_now i;
       }
@@ -199,12 +169,6 @@ module _ (network : Network) (line : TraceLine) (earlier : Lines) where
         readings = ((λ k. (before k).readings) ∙ same_table (wrong_reading network)) i;
         uncounted = uncounted_now i;
         seconds = ((λ k. (before k).seconds) ∙ sym (seconds-unchanged network line earlier passes)) i;
-        first_readings = ((λ k. (before k).first_readings) ∙ of-journeys network (journey_readings network) earlier
-            ∙ same_table (λ (x : LinePlace). option_and_then (journey_readings network) (journey_from network x))
-            ∙ sym (of-journeys network (journey_readings network) fed)) i;
-        first_octets = ((λ k. (before k).first_octets) ∙ of-journeys network (journey_octets network) earlier
-            ∙ same_table (λ (x : LinePlace). option_and_then (journey_octets network) (journey_from network x))
-            ∙ sym (of-journeys network (journey_octets network) fed)) i;
         first_otherwise = ((λ k. (before k).first_otherwise)
             ∙ same_table (λ (x : LinePlace). made_otherwise network x (journey_from network x))) i;
         stops = ((λ k. (before k).stops) ∙ same_table (stop_made network)) i;
@@ -215,26 +179,20 @@ module _ (network : Network) (line : TraceLine) (earlier : Lines) where
 
 -- what is noted of a line that counts, a table after the other
 module _ (network : Network) (kept : Kept) (site_kept : Site) (fact : Fact) (line : TraceLine)
-    (s0 s1 s2 s3 s4 s5 s6 s7 : Exceptions)
+    (s0 s1 s2 s3 s4 s5 : Exceptions)
     (o1 : s1 ≡ record s0 { octets = s1.octets }) (o2 : s2 ≡ record s1 { readings = s2.readings })
-    (o3 : s3 ≡ record s2 { seconds = s3.seconds }) (o4 : s4 ≡ record s3 { first_readings = s4.first_readings })
-    (o5 : s5 ≡ record s4 { first_octets = s5.first_octets }) (o6 : s6 ≡ record s5 { first_otherwise = s6.first_otherwise })
-    (o7 : s7 ≡ record s6 { stops = s7.stops })
+    (o3 : s3 ≡ record s2 { seconds = s3.seconds }) (o4 : s4 ≡ record s3 { first_otherwise = s4.first_otherwise })
+    (o5 : s5 ≡ record s4 { stops = s5.stops })
     (p1 : octets_told s1 ≡ with_entry fact.line (octets_entry fact line.out) (octets_told s0))
     (p2 : get nat_cmp s2.readings
     ≡ with_entry fact.line (reading_entry site_kept fact line.reading) (get nat_cmp s1.readings))
     (p3 : get nat_cmp s3.seconds ≡ seconds_with (firsts_of kept) fact (get nat_cmp s2.seconds))
-    (p4 : get nat_cmp s4.first_readings
-    ≡ with_entry fact.line (first_reading_by (facts_of kept) (get nat_cmp s3.readings) (get nat_cmp s3.first_readings) fact)
-    (get nat_cmp s3.first_readings))
-    (p5 : get nat_cmp s5.first_octets
-    ≡ with_entry fact.line (first_octets_by (facts_of kept) (get nat_cmp s4.first_octets) fact) (get nat_cmp s4.first_octets))
-    (p6 : get nat_cmp s6.first_otherwise
-    ≡ with_entry fact.line (first_otherwise_by network (facts_of kept) (get nat_cmp s5.first_otherwise) fact line.out)
-    (get nat_cmp s5.first_otherwise))
-    (p7 : stops_in (get nat_cmp s7.stops)
-    ≡ with_entry fact.line (stop_entry (facts_of kept) (stops_in (get nat_cmp s6.stops)) fact)
-    (stops_in (get nat_cmp s6.stops))) where
+    (p4 : get nat_cmp s4.first_otherwise
+    ≡ with_entry fact.line (first_otherwise_by network (facts_of kept) (get nat_cmp s3.first_otherwise) fact line.out)
+    (get nat_cmp s3.first_otherwise))
+    (p5 : stops_in (get nat_cmp s5.stops)
+    ≡ with_entry fact.line (stop_entry (facts_of kept) (stops_in (get nat_cmp s4.stops)) fact)
+    (stops_in (get nat_cmp s4.stops))) where
   abbrev readings_of : Exceptions → Table WrongReading
   readings_of x = get nat_cmp x.readings
 
@@ -244,49 +202,28 @@ module _ (network : Network) (kept : Kept) (site_kept : Site) (fact : Fact) (lin
   abbrev seconds_of : Exceptions → Table ℕ
   seconds_of x = get nat_cmp x.seconds
 
-  abbrev firsts_in : Exceptions → Table Finding
-  firsts_in x = get nat_cmp x.first_readings
-
-  abbrev octets_in_firsts : Exceptions → Table ℕ
-  octets_in_firsts x = get nat_cmp x.first_octets
-
   abbrev otherwise_in : Exceptions → Table ℕ
   otherwise_in x = get nat_cmp x.first_otherwise
 
   abbrev stops_of : Exceptions → Table Stop
   stops_of x = stops_in (get nat_cmp x.stops)
 
-  readings_stay : readings_of s7 ≡ readings_of s3
-  readings_stay = ap readings_of o7 ∙ ap readings_of o6 ∙ ap readings_of o5 ∙ ap readings_of o4
+  otherwise_stay : otherwise_in s3 ≡ otherwise_in s0
+  otherwise_stay = ap otherwise_in o3 ∙ ap otherwise_in o2 ∙ ap otherwise_in o1
 
-  firsts_stay : firsts_in s3 ≡ firsts_in s0
-  firsts_stay = ap firsts_in o3 ∙ ap firsts_in o2 ∙ ap firsts_in o1
+  stops_stay : stops_of s4 ≡ stops_of s0
+  stops_stay = ap stops_of o4 ∙ ap stops_of o3 ∙ ap stops_of o2 ∙ ap stops_of o1
 
-  octets_stay : octets_in_firsts s4 ≡ octets_in_firsts s0
-  octets_stay = ap octets_in_firsts o4 ∙ ap octets_in_firsts o3 ∙ ap octets_in_firsts o2 ∙ ap octets_in_firsts o1
-
-  otherwise_stay : otherwise_in s5 ≡ otherwise_in s0
-  otherwise_stay = ap otherwise_in o5 ∙ ap otherwise_in o4 ∙ ap otherwise_in o3 ∙ ap otherwise_in o2 ∙ ap otherwise_in o1
-
-  stops_stay : stops_of s6 ≡ stops_of s0
-  stops_stay = ap stops_of o6 ∙ ap stops_of o5 ∙ ap stops_of o4 ∙ ap stops_of o3 ∙ ap stops_of o2 ∙ ap stops_of o1
-
-  pub notes-line : NotesLine network kept site_kept fact line s0 s7
+  pub notes-line : NotesLine network kept site_kept fact line s0 s5
   notes-line = record {
-    octets = ap octets_told o7 ∙ ap octets_told o6 ∙ ap octets_told o5 ∙ ap octets_told o4 ∙ ap octets_told o3 ∙ ap octets_told o2 ∙ p1;
-    readings = readings_stay ∙ ap readings_of o3 ∙ p2
+    octets = ap octets_told o5 ∙ ap octets_told o4 ∙ ap octets_told o3 ∙ ap octets_told o2 ∙ p1;
+    readings = ap readings_of o5 ∙ ap readings_of o4 ∙ ap readings_of o3 ∙ p2
         ∙ (λ i. with_entry fact.line (reading_entry site_kept fact line.reading) (ap readings_of o1 i));
-    uncounted = ap uncounted_of o7 ∙ ap uncounted_of o6 ∙ ap uncounted_of o5 ∙ ap uncounted_of o4 ∙ ap uncounted_of o3
-        ∙ ap uncounted_of o2 ∙ ap uncounted_of o1;
-    seconds = ap seconds_of o7 ∙ ap seconds_of o6 ∙ ap seconds_of o5 ∙ ap seconds_of o4 ∙ p3
+    uncounted = ap uncounted_of o5 ∙ ap uncounted_of o4 ∙ ap uncounted_of o3 ∙ ap uncounted_of o2 ∙ ap uncounted_of o1;
+    seconds = ap seconds_of o5 ∙ ap seconds_of o4 ∙ p3
         ∙ (λ i. seconds_with (firsts_of kept) fact ((ap seconds_of o2 ∙ ap seconds_of o1) i));
-    first_readings = ap firsts_in o7 ∙ ap firsts_in o6 ∙ ap firsts_in o5 ∙ p4
-        ∙ (λ i. with_entry fact.line (first_reading_by (facts_of kept) (sym readings_stay i) (firsts_stay i) fact)
-        (firsts_stay i));
-    first_octets = ap octets_in_firsts o7 ∙ ap octets_in_firsts o6 ∙ p5
-        ∙ (λ i. with_entry fact.line (first_octets_by (facts_of kept) (octets_stay i) fact) (octets_stay i));
-    first_otherwise = ap otherwise_in o7 ∙ p6
+    first_otherwise = ap otherwise_in o5 ∙ p4
         ∙ (λ i. with_entry fact.line
         (first_otherwise_by network (facts_of kept) (otherwise_stay i) fact line.out) (otherwise_stay i));
-    stops = p7 ∙ (λ i. with_entry fact.line (stop_entry (facts_of kept) (stops_stay i) fact) (stops_stay i));
+    stops = p5 ∙ (λ i. with_entry fact.line (stop_entry (facts_of kept) (stops_stay i) fact) (stops_stay i));
   }

@@ -14,11 +14,11 @@ use Rattle.trace_model.specs.Record.{LinePlace, line_number, event_of, line_at}
 use Rattle.trace_model.specs.Journey.{LineJourney, line_journey_of}
 use Rattle.trace_model.specs.Sound.{where_passes, below, Exchange, line_of, sender, sync_line}
 use Rattle.trace_model.specs.Sound.{follow_line, follow_lines, arrival_line}
+use Rattle.trace_model.proofs.JourneyLines.{origin_there}
 use Rattle.exchange_check.specs.Inner.Kept.{Facts}
 use Rattle.exchange_check.specs.Inner.Judged.{line_of_by, sender_by, sync_by, follow_by, follows_by}
 use Rattle.exchange_check.specs.Inner.Judged.{completion_by, arrival_by, found_journey_at}
 use Rattle.exchange_check.proofs.Told.{kept_journey_of, fact_of, facts_at, kept_journey_at-is}
-use Rattle.exchange_check.proofs.Messages.{origin_in}
 
 module _ (network : Network) where
   abbrev pub found_of : Exchange → Found
@@ -159,4 +159,4 @@ module _ (network : Network) where
         ap (λ (o : Option KeptJourney). option_and_then
         (λ kept_journey. option_map (λ origin. record { kept = kept_journey; origin = origin }) (facts kept_journey.origin)) o)
         (kept_journey_at-is network lines n)
-        ∙ found_journey_of_origin (line_journey_of network lines n) (origin_in network lines n)
+        ∙ found_journey_of_origin (line_journey_of network lines n) (origin_there network lines n)

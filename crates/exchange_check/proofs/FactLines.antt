@@ -1,9 +1,9 @@
 -- The fact that is kept of a line is what the line and those before it say.
 use Rattle.std.proofs.Common.{◌≡◌, ◌∙◌, ℕ, Bool, true, false, cond, eqb, ◌∷◌, length}
-use Rattle.std.proofs.Common.{Option, Some, None, refl, sym, ap, subst, arith}
+use Rattle.std.proofs.Common.{Option, Some, None, inl, inr, refl, sym, ap, subst, arith}
 use Rattle.std.specs.Prelude.{option_map, option_and_then}
 use Rattle.std.specs.Option.{option_map_or}
-use Rattle.std.proofs.lemmas.Option.{same_Some}
+use Rattle.std.proofs.lemmas.Option.{none-some}
 use Rattle.event_codec.specs.Packet.{Contents}
 use Rattle.master_port.specs.Written.{follow_up, delay_resp}
 use Rattle.network_model.specs.declared.event.Event.{Event}
@@ -18,7 +18,7 @@ use Rattle.trace_model.specs.declared.line.TraceLine.{TraceLine}
 use Rattle.trace_model.specs.Line.{Lines, counts}
 use Rattle.trace_model.specs.Record.{LinePlace, line_place, line_number, event_of}
 use Rattle.trace_model.specs.Record.{line_at, last_line, reading, sequence}
-use Rattle.trace_model.specs.Journey.{LineJourney, with_stay, copy_entered, line_left_from, line_journey_made}
+use Rattle.trace_model.specs.Journey.{LineJourney, line_journey_made}
 use Rattle.trace_model.specs.Journey.{line_journey_of}
 use Rattle.trace_model.specs.Octets.{drawing_port, sent, sent_after, follow_up_sent, answered}
 use Rattle.trace_model.specs.Octets.{message_made, writes_right, is_written}
@@ -33,8 +33,10 @@ use Rattle.std.proofs.lemmas.Slice.Eq.{bytes_eq-Decides}
 use Rattle.network_model.specs.Kinds.{is_at}
 use Rattle.network_model.specs.Run.{site_of}
 use Rattle.exchange_check.specs.Inner.Machine.{with_fact}
+use Rattle.trace_model.proofs.JourneyLines.{origin_there}
 use Rattle.trace_model.proofs.Lines.{last_is}
-use Rattle.exchange_check.proofs.Messages.{origin_in, sent_is, message_after_is}
+use Rattle.exchange_check.proofs.JourneysMade.{made-so}
+use Rattle.exchange_check.proofs.Messages.{sent_is, message_after_is}
 
 -- the port of a master sent its Syncs
 sync_port : (network : Network) (event : Event) (node : NodeName) (port : PortSetup) → is_at is_sync node event ≡ true
@@ -95,7 +97,7 @@ module _ (network : Network) (e : LinePlace) (lines : Lines)
       (option_and_then (message_after_by network facts) t)) heard
       ∙ ap (λ (m : Option Contents). option_map
       (λ (request : Contents). delay_resp port.config request.header (reading e)) m)
-      (message_of (line_journey_of network e.earlier copy) (origin_in network e.earlier copy))
+      (message_of (line_journey_of network e.earlier copy) (origin_there network e.earlier copy))
       ∙ answer_of (λ request. delay_resp port.config request.header (reading e))
       (line_journey_of network e.earlier copy)
 
@@ -106,32 +108,21 @@ module _ (network : Network) (e : LinePlace) where
   itself : (n : ℕ) (x : LinePlace) → line_at network e.earlier n ≡ Some x → line_at network e.earlier n ≡ Some x
   itself n x h = h
 
-  unwritten : (writes : Bool) (t : Option KeptJourney)
-      → option_and_then (message_after_by network facts_before) (option_map (written_journey writes) t)
+  unwritten : (writes : Bool) (n : ℕ) (t : Option KeptJourney)
+      → option_and_then (message_after_by network facts_before) (option_map (written_journey writes n) t)
       ≡ option_and_then (message_after_by network facts_before) t
-  unwritten writes None = refl
-  unwritten writes (Some t) = refl
+  unwritten writes n None = refl
+  unwritten writes n (Some t) = refl
 
-  stay_there : (entered : LinePlace) (o : Option LineJourney) (j : LineJourney)
-      → ((k : LineJourney) → o ≡ Some k → line_at network e.earlier (line_number k.origin) ≡ Some k.origin)
-      → option_map (with_stay e entered) o ≡ Some j → line_at network e.earlier (line_number j.origin) ≡ Some j.origin
-  stay_there entered None j known h = grind arith
-  stay_there entered (Some k) j known h =
-      let P : LineJourney → Type 0 = λ x. line_at network e.earlier (line_number x.origin) ≡ Some x.origin in
-      subst P (same_Some _ _ h) (known k refl)
-
-  copy_there : (entered : LinePlace) (c : Option ℕ) (j : LineJourney)
-      → option_and_then (λ copy. option_map (with_stay e entered) (line_journey_of network e.earlier copy)) c ≡ Some j
+  -- the line that sent a message is among those before the line by which it left a clock
+  pub left_there : (node : NodeName) (transit at : ℕ) (j : LineJourney)
+      → line_journey_made network (Leave node transit at) e (line_journey_of network e.earlier) ≡ Some j
       → line_at network e.earlier (line_number j.origin) ≡ Some j.origin
-  copy_there entered None j h = grind arith
-  copy_there entered (Some copy) j h =
-      stay_there entered (line_journey_of network e.earlier copy) j (origin_in network e.earlier copy) h
-
-  pub left_there : (node : NodeName) (o : Option LinePlace) (j : LineJourney)
-      → option_and_then (line_left_from node e (line_journey_of network e.earlier)) o ≡ Some j
-      → line_at network e.earlier (line_number j.origin) ≡ Some j.origin
-  left_there node None j h = grind arith
-  left_there node (Some entered) j h = copy_there entered (copy_entered node entered) j h
+  left_there node transit at j h = elim (made-so network e (Leave node transit at) j h) [
+    | inl sent ↦ absurd (none-some transit (sym sent.alone))
+    | inr left ↦ subst (λ (x : LineJourney). line_at network e.earlier (line_number x.origin) ≡ Some x.origin) left.more
+        (origin_there network e.earlier left.copy left.prior left.known)
+  ]
 
   left_message : (node : NodeName) (transit at : ℕ)
       → option_and_then (message_after_by network facts_before)
@@ -139,13 +130,13 @@ module _ (network : Network) (e : LinePlace) where
       ≡ option_and_then (sent_after network)
       (line_journey_made network (Leave node transit at) e (line_journey_of network e.earlier))
   left_message node transit at =
-      sym (unwritten (writes_right network e)
+      sym (unwritten (writes_right network e) (line_number e)
       (kept_journey_by facts_before (known_of network e) (Leave node transit at)))
       ∙ ap (λ (t : Option KeptJourney). option_and_then (message_after_by network facts_before) t)
       (kept_journey_is network e (Leave node transit at))
       ∙ message_of network e e.earlier itself
       (line_journey_made network (Leave node transit at) e (line_journey_of network e.earlier))
-      (left_there node (line_at network e.earlier transit))
+      (left_there node transit at)
 
   pub sent_at : (event : Event) → event ≡ event_of e
       → sent_by network event (number_drawn network e) (reading e) ≡ sent network e

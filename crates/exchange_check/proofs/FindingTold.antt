@@ -24,11 +24,9 @@ use Rattle.trace_model.proofs.OctetsOfExchanges.{passed, heard_of}
 use Rattle.exchange_check.specs.declared.exceptions.Exceptions.{Exceptions}
 use Rattle.exchange_check.specs.declared.kept.Kept.{Kept}
 use Rattle.exchange_check.specs.Evidence.{noted, told_by, last_finding, wrong_reading_at}
-use Rattle.exchange_check.specs.Evidence.{first_readings_at, first_octets_at}
 use Rattle.exchange_check.specs.Inner.Finding.{found_finding_by}
 use Rattle.exchange_check.specs.Inner.Found.{of_report, of_found}
 use Rattle.exchange_check.specs.Inner.Machine.{IsKept, machine, facts_of, sites_of, stamps_of}
-use Rattle.exchange_check.specs.Inner.Noting.{mapped}
 use Rattle.exchange_check.specs.Inner.Stays.{last_stays}
 use Rattle.copy_stays.specs.Leaves.{once_of}
 use Rattle.copy_stays.specs.Stays.{once_in}
@@ -106,8 +104,8 @@ module _ (network : Network) (report : Report) where
     same : (why : Why) → (counted : counts network line ≡ true) → (x : Lined)
         → all_lines network line earlier report ≡ Some x → IsSilent line.event → (s r : LineJourney)
         → unbroken network e draws_sync x.sync_arrival ≡ Some s → unbroken network e is_request x.request_arrival ≡ Some r
-        → found_finding_by network (site_at network fed) (wrong_reading_at network fed) (first_readings_at network fed)
-        (first_octets_at network fed) report why (fact_of network e) (found_of network x) (found_journey_of network s)
+        → found_finding_by network (site_at network fed) (facts_at network fed) (wrong_reading_at network fed)
+        report why (fact_of network e) (found_of network x) (found_journey_of network s)
         (found_journey_of network r) ≡ by_lines why e x s r
     same whys.OtherNumber counted x found quiet s r p q = pair-found network x s r
     same whys.OtherMaster counted x found quiet s r p q = master-found network line earlier counted report x quiet s
@@ -117,7 +115,7 @@ module _ (network : Network) (report : Report) where
         there.request_arrives
     same whys.TooBig counted x found quiet s r p q = size-found network s r
     same whys.WrongValue counted x found quiet s r p q = value-found network report x s r
-    same whys.Bytes counted x found quiet s r p q = octets-found network line earlier counted x s r p q
+    same whys.Bytes counted x found quiet s r p q = octets-found network x s r
     same _ counted x found quiet s r p q = refl
 
     abbrev ways_of : Why → LinePlace → Lined → Option Finding
@@ -128,22 +126,22 @@ module _ (network : Network) (report : Report) where
     told-last : (why : Why) (number : ℕ) → number + 1 ≡ length fed
         → of_report (facts_at network fed) (stamps_at network fed) (λ fact. of_found (facts_at network fed)
         (once_of (last_stays (facts_at network fed)) (leaves_at network fed)) (found_finding_by network
-        (site_at network fed) (wrong_reading_at network fed) (first_readings_at network fed) (first_octets_at network fed)
+        (site_at network fed) (facts_at network fed) (wrong_reading_at network fed)
         report why fact)) number report
         ≡ of_last network report (ways_of why) fed
     told-last why number h =
         let last : number ≡ length earlier = omega (arith, h) in
         ap (λ (n : ℕ). of_report (facts_at network fed) (stamps_at network fed) (λ fact. of_found (facts_at network fed)
         (once_of (last_stays (facts_at network fed)) (leaves_at network fed)) (found_finding_by network
-        (site_at network fed) (wrong_reading_at network fed) (first_readings_at network fed) (first_octets_at network fed)
+        (site_at network fed) (facts_at network fed) (wrong_reading_at network fed)
         report why fact)) n report) last
         ∙ last_if network report (ways_of why) (λ fact. of_found (facts_at network fed)
         (once_of (last_stays (facts_at network fed)) (leaves_at network fed)) (found_finding_by network
-        (site_at network fed) (wrong_reading_at network fed) (first_readings_at network fed) (first_octets_at network fed)
+        (site_at network fed) (facts_at network fed) (wrong_reading_at network fed)
         report why fact)) line earlier (counts network line) refl
         (λ counted. journeys-there network line earlier report counted
-        (found_finding_by network (site_at network fed) (wrong_reading_at network fed) (first_readings_at network fed)
-        (first_octets_at network fed) report why (fact_of network e)) (by_lines why e) (same why counted))
+        (found_finding_by network (site_at network fed) (facts_at network fed) (wrong_reading_at network fed)
+        report why (fact_of network e)) (by_lines why e) (same why counted))
 
     by_why : (why : Why) → is_of_journeys why ≡ true
         → of_last network report (ways_of why) fed ≡ last_finding network fed report why
@@ -158,7 +156,7 @@ module _ (network : Network) (report : Report) (why : Why) (asked : is_of_journe
   at_last : (l : Lines) → length kept.facts.items ≡ length l
       → of_report (facts_at network l) (stamps_at network l) (λ fact. of_found (facts_at network l)
       (once_of (last_stays (facts_at network l)) (leaves_at network l)) (found_finding_by network
-      (site_at network l) (wrong_reading_at network l) (first_readings_at network l) (first_octets_at network l)
+      (site_at network l) (facts_at network l) (wrong_reading_at network l)
       report why fact)) number report ≡ last_finding network l report why
   at_last [] n = refl
   at_last (line ∷ earlier) n =
@@ -166,26 +164,26 @@ module _ (network : Network) (report : Report) (why : Why) (asked : is_of_journe
       ∙ by_why network report line earlier why asked
 
   pub finding-told : of_report (facts_of kept) (stamps_of kept) (λ fact. of_found (facts_of kept) (once_in kept.stays)
-      (found_finding_by network (sites_of network kept) (get nat_cmp exceptions.readings)
-      (get nat_cmp exceptions.first_readings) (mapped findings.OtherOctets (get nat_cmp exceptions.first_octets)) report
+      (found_finding_by network (sites_of network kept) (facts_of kept)
+      (get nat_cmp exceptions.readings) report
       why fact)) number report
       ≡ last_finding network fed report why
   finding-told =
       (λ i. of_report (facts-kept network fed kept h i) (stamps-kept network fed kept h i)
       (λ fact. of_found (facts-kept network fed kept h i) (once-kept network fed kept h i)
-      (found_finding_by network (sites-kept network fed kept h i) (evidence i).readings (evidence i).first_readings
-      (evidence i).first_octets report why fact)) number report)
+      (found_finding_by network (sites-kept network fed kept h i) (facts-kept network fed kept h i)
+      (evidence i).readings report why fact)) number report)
       ∙ at_last fed h.count_is
 
   pub finding-at : (named : Network) → named ≡ network
       → of_report (facts_of kept) (stamps_of kept) (λ fact. of_found (facts_of kept) (once_in kept.stays)
-      (found_finding_by named (sites_of named kept) (get nat_cmp exceptions.readings)
-      (get nat_cmp exceptions.first_readings) (mapped findings.OtherOctets (get nat_cmp exceptions.first_octets)) report
+      (found_finding_by named (sites_of named kept) (facts_of kept)
+      (get nat_cmp exceptions.readings) report
       why fact)) number report
       ≡ last_finding network fed report why
   finding-at named same =
       (λ i. of_report (facts_of kept) (stamps_of kept) (λ fact. of_found (facts_of kept) (once_in kept.stays)
-      (found_finding_by (same i) (sites_of (same i) kept) (get nat_cmp exceptions.readings)
-      (get nat_cmp exceptions.first_readings) (mapped findings.OtherOctets (get nat_cmp exceptions.first_octets)) report
+      (found_finding_by (same i) (sites_of (same i) kept) (facts_of kept)
+      (get nat_cmp exceptions.readings) report
       why fact)) number report)
       ∙ finding-told

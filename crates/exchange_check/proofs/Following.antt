@@ -1,26 +1,24 @@
 -- Following the stays of a copy finds those of its journey.
 use Rattle.std.proofs.Common.{◌≡◌, ◌∙◌, ℕ, zero, suc, ◌<◌, Bool, true, false, ◌&&◌, cond, eqb, []}
-use Rattle.std.proofs.Common.{◌∷◌, length, Option, Some, None, refl, sym, ap, subst, arith}
+use Rattle.std.proofs.Common.{◌∷◌, length, Option, Some, None, inl, inr, refl, sym, ap, subst, arith}
 use Rattle.std.specs.Prelude.{option_map, option_and_then, nat_lt, is_some, count_by}
 use Rattle.std.specs.Option.{option_map_or}
 use Rattle.std.proofs.lemmas.Bool.{eqb-true}
 use Rattle.std.proofs.lemmas.Bool.Decides.{nat_tests}
-use Rattle.std.proofs.lemmas.Option.{same_Some, none-some}
-use Rattle.network_model.specs.declared.event.Event.{Event}
-use Rattle.network_model.specs.declared.event.Event.TheVariants.{Sync, SyncOne, Leave}
-use Rattle.network_model.specs.declared.event.Event.TheVariants.{Request}
-use Rattle.network_model.specs.Network.{Network, NodeName, is_named}
+use Rattle.std.proofs.lemmas.Option.{none-some}
+use Rattle.network_model.specs.Network.{Network}
 use Rattle.network_model.specs.Run.{Run}
 use Rattle.network_model.specs.Kinds.{entered_copy, is_leave_of, named_transit}
 use Rattle.exchange_check.specs.declared.facts.Fact.{Fact}
 use Rattle.trace_model.specs.declared.line.TraceLine.{TraceLine}
 use Rattle.trace_model.specs.Line.{Lines, counts}
-use Rattle.trace_model.specs.Record.{LinePlace, line_place, line_number, event_of, site, line_at, events}
-use Rattle.trace_model.specs.Journey.{LineJourney, line_begun, with_stay, copy_entered, line_left_from}
+use Rattle.trace_model.specs.Record.{LinePlace, line_place, line_number, line_at, events}
+use Rattle.trace_model.specs.Journey.{LineJourney}
 use Rattle.trace_model.specs.Journey.{line_journey_made, line_journey_of, left_once}
 use Rattle.exchange_check.specs.Inner.Kept.{Facts, leaves_after}
 use Rattle.copy_stays.specs.Leaves.{Leaves, left_again, is_once, once_by}
 use Rattle.exchange_check.specs.Inner.Stays.{stay_below, stay_of, last_stays}
+use Rattle.exchange_check.proofs.JourneysMade.{made-so}
 use Rattle.exchange_check.proofs.Noted.{leaves_at, count_more}
 use Rattle.exchange_check.proofs.Passing.{none_made}
 use Rattle.exchange_check.proofs.Told.{fact_of, kept_journey_of}
@@ -75,19 +73,6 @@ pub once_is : (network : Network) (lines : Lines) (stay : ℕ)
 once_is network lines stay =
     ap is_once (leaves_are network lines stay) ∙ ended_once (count_by (is_leave_of stay) (events network lines))
 
-copy_is : (named : Bool) (made limit c : ℕ) → cond (named && nat_lt made limit) (Some made) None ≡ Some c
-    → (made ≡ c) × (c < limit)
-copy_is true made limit c h = grind (arith, nat_tests)
-copy_is false made limit c h = grind arith
-
-pub entered_is : (node : NodeName) (entered : LinePlace) (o : Option ℕ) (c : ℕ) → entered_copy (event_of entered) ≡ o
-    → option_and_then (λ copy. cond (is_named (site entered) node && nat_lt copy (line_number entered))
-    (Some copy) None) o ≡ Some c
-    → (entered_copy (event_of entered) ≡ Some c) × (c < line_number entered)
-entered_is node entered None c same h = grind arith
-entered_is node entered (Some made) c same h =
-    let p = copy_is (is_named (site entered) node) made (line_number entered) c h in (same ∙ ap Some p.0, p.1)
-
 module _ (network : Network) (facts : Facts) (leaves : Leaves) (run : Run)
     (ends : (stay : ℕ) → is_once (leaves stay) ≡ eqb (count_by (is_leave_of stay) run) 1) where
   abbrev Keeps : Lines → Type 0
@@ -136,74 +121,34 @@ module _ (network : Network) (facts : Facts) (leaves : Leaves) (run : Run)
 
   module _ (line : TraceLine) (earlier : Lines) (counted : counts network line ≡ true) (keeps : Keeps (line ∷ earlier))
       (before : (n : ℕ) (j : LineJourney) → line_journey_of network earlier n ≡ Some j → IsFollowed n j) where
-    at_line : facts (length earlier) ≡ Some (fact_of network (line_place line earlier))
-    at_line = keeps (length earlier) (line_place line earlier) (line_at-here network line earlier counted)
+    abbrev e : LinePlace
+    e = line_place line earlier
 
-    begun_followed : (j : LineJourney) → named_transit line.event ≡ None → Some (line_begun (line_place line earlier)) ≡ Some j
-        → IsFollowed (length earlier) j
-    begun_followed j none h =
-        let P : LineJourney → Type 0 = λ x. IsFollowed (length earlier) x in
-        subst P (same_Some _ _ h) (follow_none (length earlier)
-        (no_stay (length earlier) (fact_of network (line_place line earlier)) at_line none))
+    at_line : facts (length earlier) ≡ Some (fact_of network e)
+    at_line = keeps (length earlier) e (line_at-here network line earlier counted)
 
-    abbrev HasJourney : Type 0
-    HasJourney = is_some (fact_of network (line_place line earlier)).journey ≡ true
-
-    has_journey_with : (event : Event) (j : LineJourney) → event ≡ line.event
-        → line_journey_made network event (line_place line earlier) (line_journey_of network earlier) ≡ Some j → HasJourney
-    has_journey_with event j same h =
-        ap (λ (o : Option LineJourney). is_some (option_map (kept_journey_of network) o))
-        (sym (ap (λ (x : Event). line_journey_made network x (line_place line earlier) (line_journey_of network earlier))
-        same) ∙ h)
-
-    stay_followed : HasJourney → (transit : ℕ) (entered : LinePlace) (c : ℕ) (o : Option LineJourney) (j : LineJourney)
-        → named_transit line.event ≡ Some transit → line_at network earlier transit ≡ Some entered
-        → (entered_copy (event_of entered) ≡ Some c) × (c < line_number entered) → line_journey_of network earlier c ≡ o
-        → option_map (with_stay (line_place line earlier) entered) o ≡ Some j → IsFollowed (length earlier) j
-    stay_followed has_journey transit entered c None j spent there copied journey h = grind arith
-    stay_followed has_journey transit entered c (Some k) j spent there copied journey h =
-        let number : line_number entered ≡ transit = line_at-number network earlier transit entered there in
-        let inside : transit < length earlier = line_at-bound network earlier transit entered there in
-        let below : c < length earlier = omega (arith, copied.1) in
-        let found = stay_found (length earlier) transit c (fact_of network (line_place line earlier))
-        (fact_of network entered) at_line has_journey spent inside
-        (keeps transit entered (line_at-later network line earlier transit entered there)) copied.0 below in
-        let P : LineJourney → Type 0 = λ x. IsFollowed (length earlier) x in
-        subst P (same_Some _ _ h) (λ count within. follow_one (length earlier) transit c (left_once run k) found below
-        (before c k journey) count within
-        ∙ (λ i. eqb (count_by (is_leave_of (sym number i)) run) 1 && left_once run k))
-
-    copy_followed : HasJourney → (node : NodeName) (transit : ℕ) (entered : LinePlace) (o : Option ℕ) (j : LineJourney)
-        → named_transit line.event ≡ Some transit → line_at network earlier transit ≡ Some entered
-        → copy_entered node entered ≡ o
-        → option_and_then (λ copy. option_map (with_stay (line_place line earlier) entered)
-        (line_journey_of network earlier copy)) o ≡ Some j → IsFollowed (length earlier) j
-    copy_followed has_journey node transit entered None j spent there copied h = grind arith
-    copy_followed has_journey node transit entered (Some c) j spent there copied h =
-        stay_followed has_journey transit entered c (line_journey_of network earlier c) j spent there
-        (entered_is node entered (entered_copy (event_of entered)) c refl copied) refl h
-
-    left_followed : HasJourney → (node : NodeName) (transit : ℕ) (o : Option LinePlace) (j : LineJourney)
-        → named_transit line.event ≡ Some transit → line_at network earlier transit ≡ o
-        → option_and_then (line_left_from node (line_place line earlier) (line_journey_of network earlier)) o ≡ Some j
-        → IsFollowed (length earlier) j
-    left_followed has_journey node transit None j spent there h = grind arith
-    left_followed has_journey node transit (Some entered) j spent there h =
-        copy_followed has_journey node transit entered (copy_entered node entered) j spent there refl h
-
-    nothing_followed : (j : LineJourney) → None ≡ Some j → IsFollowed (length earlier) j
-    nothing_followed j h = absurd (none-some j h)
-
-    made_followed : (event : Event) (j : LineJourney) → event ≡ line.event
-        → line_journey_made network event (line_place line earlier) (line_journey_of network earlier) ≡ Some j
-        → IsFollowed (length earlier) j
-    made_followed (Sync node at) j same h = begun_followed j (sym (ap named_transit same)) h
-    made_followed (SyncOne node at) j same h = begun_followed j (sym (ap named_transit same)) h
-    made_followed (Leave node transit at) j same h =
-        left_followed (has_journey_with (Leave node transit at) j same h) node transit (line_at network earlier transit) j
-        (sym (ap named_transit same)) refl h
-    made_followed (Request node at) j same h = begun_followed j (sym (ap named_transit same)) h
-    made_followed _ j same h = nothing_followed j h
+    made_followed : (j : LineJourney)
+        → line_journey_made network line.event e (line_journey_of network earlier) ≡ Some j → IsFollowed (length earlier) j
+    made_followed j h = elim (made-so network e line.event j h) [
+      | inl sent ↦ follow_as j sent.begun (follow_none (length earlier)
+          (no_stay (length earlier) (fact_of network e) at_line sent.alone))
+      | inr left ↦
+          let number : line_number left.entered ≡ left.transit =
+          line_at-number network earlier left.transit left.entered left.there in
+          let inside : left.transit < length earlier = line_at-bound network earlier left.transit left.entered left.there in
+          let below : left.copy < length earlier = omega (arith, left.low) in
+          let found = stay_found (length earlier) left.transit left.copy (fact_of network e)
+          (fact_of network left.entered) at_line
+          (ap (λ (o : Option LineJourney). is_some (option_map (kept_journey_of network) o)) h) left.named inside
+          (keeps left.transit left.entered (line_at-later network line earlier left.transit left.entered left.there))
+          left.copied below in
+          follow_as j left.more (λ count within. follow_one (length earlier) left.transit left.copy
+          (left_once run left.prior) found below (before left.copy left.prior left.known) count within
+          ∙ (λ i. eqb (count_by (is_leave_of (sym number i)) run) 1 && left_once run left.prior))
+    ]
+      where
+        follow_as : {k : LineJourney} (x : LineJourney) → k ≡ x → IsFollowed (length earlier) k → IsFollowed (length earlier) x
+        follow_as x same known = subst (λ (y : LineJourney). IsFollowed (length earlier) y) same known
 
   either_followed : (line : TraceLine) (earlier : Lines) (n : ℕ) (j : LineJourney) (here counted : Bool)
       → eqb (length earlier) n ≡ here → counts network line ≡ counted → Keeps (line ∷ earlier)
@@ -212,7 +157,7 @@ module _ (network : Network) (facts : Facts) (leaves : Leaves) (run : Run)
       (line_journey_of network earlier)) None) (line_journey_of network earlier n) ≡ Some j → IsFollowed n j
   either_followed line earlier n j true true p c keeps before h =
       let P : ℕ → Type 0 = λ m. IsFollowed m j in
-      subst P (eqb-true (length earlier) n p) (made_followed line earlier c keeps before line.event j refl h)
+      subst P (eqb-true (length earlier) n p) (made_followed line earlier c keeps before j h)
   either_followed line earlier n j true false p c keeps before h = absurd (none-some j h)
   either_followed line earlier n j false counted p c keeps before h = before n j h
 

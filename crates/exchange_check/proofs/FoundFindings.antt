@@ -14,40 +14,42 @@ use Rattle.trace_model.specs.declared.finding.Finding.TheVariants as findings
 use Rattle.trace_model.specs.declared.finding.Part.TheVariants as parts
 use Rattle.trace_model.specs.declared.line.TraceLine.{TraceLine}
 use Rattle.trace_model.specs.Line.{Lines, counts}
-use Rattle.trace_model.specs.Record.{LinePlace, line_place, line_number, event_of, site, line_at, last_line}
+use Rattle.trace_model.specs.Record.{LinePlace, line_place, line_number, event_of, site, line_at, last_line, reads_right}
+use Rattle.trace_model.specs.Octets.{writes_right}
 use Rattle.trace_model.specs.Journey.{LineJourney}
 use Rattle.trace_model.specs.Finding.{broken, follow_finding, pair_finding, early_finding, told_finding, master_finding}
 use Rattle.trace_model.specs.Finding.{reading_finding, stay_finding, stays_finding, readings_finding, size_finding}
 use Rattle.trace_model.specs.Finding.{octets_finding, follow_octets, all_octets_finding}
 use Rattle.trace_model.specs.Sound.{Exchange as Lined, unbroken, are_results, is_domain, fits}
 use Rattle.trace_model.proofs.Lines.{last_is, last_more}
-use Rattle.exchange_check.specs.Evidence.{wrong_reading_at, first_readings_at, first_octets_at, journey_readings}
-use Rattle.exchange_check.specs.Evidence.{journey_octets}
+use Rattle.exchange_check.specs.Evidence.{wrong_reading_at}
 use Rattle.exchange_check.specs.Inner.Finding.{follow_finding_by, pair_finding_by, told_finding_by, master_finding_by}
-use Rattle.exchange_check.specs.Inner.Finding.{copy_in, arrival_reading, readings_finding_by, size_finding_by}
-use Rattle.exchange_check.specs.Inner.Finding.{value_finding_by, follow_octets_by, all_octets_by}
+use Rattle.exchange_check.specs.Inner.Finding.{readings_finding_by, size_finding_by, value_finding_by, follow_line_by}
+use Rattle.exchange_check.specs.Inner.Finding.{octets_finding_by}
 use Rattle.exchange_check.proofs.Exchanges.{found_of, found_journey_of}
 use Rattle.exchange_check.proofs.Noted.{site_at, told_master}
-use Rattle.exchange_check.proofs.NotedTables.{or_none}
+use Rattle.exchange_check.proofs.Options.{or_none, map_four}
+use Rattle.exchange_check.proofs.ReadingsMet.{met-is, IsMet, or_met, reading-met, journey-met}
 use Rattle.exchange_check.proofs.Standing.{followed_line}
-use Rattle.exchange_check.proofs.Telling.{IsSilent, Arrives, arrives}
-use Rattle.exchange_check.proofs.Told.{fact_of}
-use Rattle.exchange_check.proofs.WrongReadings.{reading-found}
+use Rattle.exchange_check.proofs.Telling.{IsSilent, arrives}
+use Rattle.exchange_check.proofs.Told.{fact_of, facts_at}
+use Rattle.exchange_check.proofs.WrongLines.{reading_in_is, octets_in_are, line_met, broken_line, journey_readings}
+use Rattle.exchange_check.proofs.WrongLines.{journey_octets, reading_of, ByLine, or_by_line, octets_by_line, journey_by_line}
 
 -- options
 
-six : {X : Type 0} (a b c d e f : Option X)
-    → option_or (option_or a (option_or b c)) (option_or d (option_or e f))
-    ≡ option_or a (option_or b (option_or c (option_or d (option_or e (option_or f None)))))
-six (Some x) b c d e f = refl
-six None (Some x) c d e f = refl
-six None None (Some x) d e f = refl
-six None None None (Some x) e f = refl
-six None None None None (Some x) f = refl
-six None None None None None f = sym (or_none f)
+six : {X : Type 0} (a o l b p k : Option X)
+    → option_or (option_or (option_or a (option_or o l)) b) (option_or p k)
+    ≡ option_or a (option_or o (option_or l (option_or b (option_or p (option_or k None)))))
+six (Some x) o l b p k = refl
+six None (Some x) l b p k = refl
+six None None (Some x) b p k = refl
+six None None None (Some x) p k = refl
+six None None None None (Some x) k = refl
+six None None None None None k = sym (or_none k)
 
 octets_six : {X : Type 0} (o l f p k a : Option X)
-    → option_or (option_or o l) (option_or f (option_or (option_or p k) a))
+    → option_or (option_or (option_or (option_or o l) f) (option_or p k)) a
     ≡ option_or o (option_or l (option_or f (option_or p (option_or k (option_or a None)))))
 octets_six (Some x) l f p k a = refl
 octets_six None (Some x) f p k a = refl
@@ -83,10 +85,38 @@ module _ (network : Network) where
       ≡ broken (are_results report x s r) findings.OtherResults
   value-found report x s r = refl
 
-  follow-octets : (follow : Option LinePlace)
-      → follow_octets_by (option_map (fact_of network) follow) ≡ follow_octets network follow
-  follow-octets None = refl
-  follow-octets (Some follow) = refl
+  -- 708
+  follow_is : (follow : Option LinePlace)
+      → follow_line_by (option_map (fact_of network) follow) ≡ option_map line_met (follow_octets network follow)
+  follow_is None = refl
+  follow_is (Some follow) =
+      sym (broken_line (writes_right network follow) (findings.OtherOctets (line_number follow)))
+
+  follow_by_line : (follow : Option LinePlace) → ByLine network (follow_octets network follow)
+  follow_by_line None = refl
+  follow_by_line (Some follow) = octets_by_line network follow
+
+  pub octets-found : (x : Lined) (s r : LineJourney)
+      → octets_finding_by (found_of network x) (found_journey_of network s) (found_journey_of network r)
+      ≡ all_octets_finding network x s r
+  octets-found x s r =
+      let sync = journey_octets network s in
+      let follow = follow_octets network x.follow in
+      let request = journey_octets network r in
+      let answer = octets_finding network x.request_arrival in
+      ap (option_map findings.OtherOctets) ((λ i. option_or (option_or (option_or
+      (octets_in_are (option_map line_met (journey_readings network s)) (option_map line_met sync) i)
+      (follow_is x.follow i))
+      (octets_in_are (option_map line_met (journey_readings network r)) (option_map line_met request) i))
+      (sym (broken_line (writes_right network x.request_arrival)
+      (findings.OtherOctets (line_number x.request_arrival))) i))
+      ∙ map_four line_met sync follow request answer)
+      ∙ or_by_line network (option_or (option_or sync follow) request) answer
+      (or_by_line network (option_or sync follow) request
+      (or_by_line network sync follow (journey_by_line network s) (follow_by_line x.follow)) (journey_by_line network r))
+      (octets_by_line network x.request_arrival)
+      ∙ octets_six (octets_finding network s.origin) (stays_finding (λ t. octets_finding network t.left) s.stays)
+      follow (octets_finding network r.origin) (stays_finding (λ t. octets_finding network t.left) r.stays) answer
 
 -- 703
 set_told : (master : NodeName) (report : Report) (n : ℕ) (named : Option NodeName) → is_some named ≡ true
@@ -144,49 +174,41 @@ module _ (network : Network) (line : TraceLine) (earlier : Lines) (counted : cou
         (broken (is_named (site x.request_arrival) (site s.origin)) (findings.OtherAnswers (line_number x.request_arrival)))
         (sym (or_none (broken (is_domain (slave_at network at) (master_at network (site s.origin))) findings.OtherDomain)) i)))
 
-  -- of the copy that arrives
-  module _ (arrival : LinePlace) (journey : LineJourney) (found : Arrives network line earlier counted arrival journey) where
-    reading-copy : copy_in (first_readings_at network fed) (fact_of network arrival) ≡ journey_readings network journey
-    reading-copy = ap (option_and_then (first_readings_at network fed)) found.1
-        ∙ ap (λ (o : Option LineJourney). option_and_then (journey_readings network) o) found.2
-
-    octets-copy : copy_in (first_octets_at network fed) (fact_of network arrival) ≡ journey_octets network journey
-    octets-copy = ap (option_and_then (first_octets_at network fed)) found.1
-        ∙ ap (λ (o : Option LineJourney). option_and_then (journey_octets network) o) found.2
-
-    reading-arrival : line_at network fed (line_number arrival) ≡ Some arrival → is_arrival (event_of arrival) ≡ true
-        → arrival_reading (wrong_reading_at network fed) (first_readings_at network fed) (fact_of network arrival)
-        ≡ option_or (reading_finding network arrival) (journey_readings network journey)
-    reading-arrival there is = λ i. option_or
-        (reading-found network fed arrival there (arrival_timed (event_of arrival) is) i) (reading-copy i)
-
+  -- 705
   module _ (x : Lined) (s r : LineJourney) (p : unbroken network e draws_sync x.sync_arrival ≡ Some s)
       (q : unbroken network e is_request x.request_arrival ≡ Some r) where
-    sync-arrives : Arrives network line earlier counted x.sync_arrival s
-    sync-arrives = arrives network line earlier counted draws_sync x.sync_arrival s p
+    arrival_met : (arrival : LinePlace) → line_at network fed (line_number arrival) ≡ Some arrival
+        → is_arrival (event_of arrival) ≡ true → IsMet network fed (reading_finding network arrival)
+    arrival_met arrival there is = reading-met network fed arrival there (arrival_timed (event_of arrival) is)
 
-    request-arrives : Arrives network line earlier counted x.request_arrival r
-    request-arrives = arrives network line earlier counted is_request x.request_arrival r q
-
-    pub octets-found : all_octets_by (first_octets_at network fed) (found_of network x)
-        ≡ all_octets_finding network x s r
-    octets-found =
-        (λ i. option_or (octets-copy x.sync_arrival s sync-arrives i)
-        (option_or (follow-octets network x.follow i)
-        (option_or (octets-copy x.request_arrival r request-arrives i) (octets_finding network x.request_arrival))))
-        ∙ octets_six (octets_finding network s.origin) (stays_finding (λ t. octets_finding network t.left) s.stays)
-        (follow_octets network x.follow) (octets_finding network r.origin)
-        (stays_finding (λ t. octets_finding network t.left) r.stays) (octets_finding network x.request_arrival)
+    way_met : (kind : Event → Bool) (arrival : LinePlace) (journey : LineJourney)
+        → unbroken network e kind arrival ≡ Some journey → IsMet network fed (journey_readings network journey)
+    way_met kind arrival journey is =
+        let found = arrives network line earlier counted kind arrival journey is in
+        journey-met network fed _ journey found.2
 
     pub readings-found : line_at network fed (line_number x.sync_arrival) ≡ Some x.sync_arrival
         → is_arrival (event_of x.sync_arrival) ≡ true
         → line_at network fed (line_number x.request_arrival) ≡ Some x.request_arrival
         → is_arrival (event_of x.request_arrival) ≡ true
-        → readings_finding_by (wrong_reading_at network fed) (first_readings_at network fed) (found_of network x)
+        → readings_finding_by (facts_at network fed) (wrong_reading_at network fed) (found_of network x)
+        (found_journey_of network s) (found_journey_of network r)
         ≡ readings_finding network x s r
     readings-found there is other other_is =
-        (λ i. option_or (reading-arrival x.sync_arrival s sync-arrives there is i)
-        (reading-arrival x.request_arrival r request-arrives other other_is i))
-        ∙ six (reading_finding network x.sync_arrival) (reading_finding network s.origin)
-        (stays_finding (stay_finding network) s.stays) (reading_finding network x.request_arrival)
+        let a = reading_finding network x.sync_arrival in
+        let sync = journey_readings network s in
+        let b = reading_finding network x.request_arrival in
+        let request = journey_readings network r in
+        (λ i. option_and_then (met-is network fed i) ((
+        (λ k. option_or (option_or (option_or
+        (sym (broken_line (reads_right network x.sync_arrival) (reading_of network x.sync_arrival)) k)
+        (reading_in_is (option_map line_met sync) (option_map line_met (journey_octets network s)) k))
+        (sym (broken_line (reads_right network x.request_arrival) (reading_of network x.request_arrival)) k))
+        (reading_in_is (option_map line_met request) (option_map line_met (journey_octets network r)) k))
+        ∙ map_four line_met a sync b request) i))
+        ∙ or_met network fed (option_or (option_or a sync) b) request
+        (or_met network fed (option_or a sync) b
+        (or_met network fed a sync (arrival_met x.sync_arrival there is) (way_met draws_sync x.sync_arrival s p))
+        (arrival_met x.request_arrival other other_is)) (way_met is_request x.request_arrival r q)
+        ∙ six a (reading_finding network s.origin) (stays_finding (stay_finding network) s.stays) b
         (reading_finding network r.origin) (stays_finding (stay_finding network) r.stays)

@@ -1,6 +1,6 @@
 -- The message that the line of a number made, and the last stay of its copy, by what is kept and by the lines.
 use Rattle.std.proofs.Common.{◌≡◌, ◌∙◌, ℕ, ◌<◌, ◌≤◌, Bool, true, false, cond, eqb, List, [], ◌∷◌, length}
-use Rattle.std.proofs.Common.{Option, Some, None, refl, sym, ap, subst, arith}
+use Rattle.std.proofs.Common.{Option, Some, None, inl, inr, refl, sym, ap, subst, arith}
 use Rattle.std.specs.Prelude.{option_map, option_and_then, nat_lt, slice_get, is_some, drop}
 use Rattle.std.proofs.lemmas.Bool.{ltb-true}
 use Rattle.std.proofs.lemmas.Bool.Decides.{nat_tests}
@@ -15,8 +15,7 @@ use Rattle.network_model.specs.Truth.{master_at}
 use Rattle.trace_model.specs.declared.line.TraceLine.{TraceLine}
 use Rattle.trace_model.specs.Line.{Lines, counts}
 use Rattle.trace_model.specs.Record.{LinePlace, line_place, line_number, event_of, line_at, last_line, reading}
-use Rattle.trace_model.specs.Journey.{LineStay, LineJourney, line_begun, with_stay, copy_entered, line_left_from}
-use Rattle.trace_model.specs.Journey.{line_journey_made, line_journey_of}
+use Rattle.trace_model.specs.Journey.{LineStay, LineJourney, line_journey_made, line_journey_of}
 use Rattle.trace_model.specs.Octets.{answered, message_made}
 use Rattle.trace_model.proofs.Lines.{line_at-bound, line_at-number, line_at-before}
 use Rattle.exchange_check.specs.Exchange.{stay_told}
@@ -26,7 +25,7 @@ use Rattle.exchange_check.specs.Inner.Telling.{stay_by, stay_left, last_stay_by,
 use Rattle.exchange_check.proofs.Noted.{cond_same}
 use Rattle.exchange_check.proofs.Told.{kept_journey_of, fact_of, facts_at, journey_from, journey_of-line_at}
 use Rattle.exchange_check.proofs.Told.{kept_journey_at-is}
-use Rattle.exchange_check.proofs.Following.{entered_is}
+use Rattle.exchange_check.proofs.JourneysMade.{made-so}
 use Rattle.exchange_check.proofs.FactLines.{follow_at, message_of, answer_at, left_there, sent_at}
 
 -- the lines before a line are among those that it is among
@@ -129,106 +128,51 @@ module _ (network : Network) (lines : Lines) (number : ℕ) (e : LinePlace)
       (line_journey_made network x e (line_journey_of network e.earlier)))) (sym same)
       ∙ message_of network e lines among
       (line_journey_made network (Leave node transit at) e (line_journey_of network e.earlier))
-      (left_there network e node (line_at network e.earlier transit))
+      (left_there network e node transit at)
   made_by (Arrive node copy at) same = answer_is node copy (nat_lt copy (line_number e)) refl
   made_by (Hear node copy) same = cond_same (nat_lt copy (line_number e)) None
   made_by (Request node at) same = sent_at network e (Request node at) same
   made_by _ same = refl
 
   -- the last stay
-  entered_at : (node : NodeName) (transit : ℕ) (entered : LinePlace) (o : Option LineJourney)
-      → line_at network e.earlier transit ≡ Some entered
-      → cond (is_some (option_map (kept_journey_of network) (option_map (with_stay e entered) o)))
-      (option_map (λ fact. stay_by fact (fact_of network e)) (facts transit)) None
-      ≡ option_and_then (λ journey. option_map (stay_told network) (slice_get journey.stays 0))
-      (option_map (with_stay e entered) o)
-  entered_at node transit entered None h = refl
-  entered_at node transit entered (Some j) h =
-      ap (λ (o : Option LinePlace).
-      option_map (λ fact. stay_by fact (fact_of network e)) (option_map (fact_of network) o)) (among transit entered h)
-
-  copy_at : (node : NodeName) (transit : ℕ) (entered : LinePlace) (o : Option ℕ)
-      → line_at network e.earlier transit ≡ Some entered
-      → cond (is_some (option_map (kept_journey_of network) (option_and_then
-      (λ copy. option_map (with_stay e entered) (line_journey_of network e.earlier copy)) o)))
-      (option_map (λ fact. stay_by fact (fact_of network e)) (facts transit)) None
-      ≡ option_and_then (λ journey. option_map (stay_told network) (slice_get journey.stays 0))
-      (option_and_then (λ copy. option_map (with_stay e entered) (line_journey_of network e.earlier copy)) o)
-  copy_at node transit entered None h = refl
-  copy_at node transit entered (Some copy) h =
-      entered_at node transit entered (line_journey_of network e.earlier copy) h
-
-  left_at : (node : NodeName) (transit : ℕ) (o : Option LinePlace) → line_at network e.earlier transit ≡ o
-      → cond (is_some (option_map (kept_journey_of network) (option_and_then
-      (line_left_from node e (line_journey_of network e.earlier)) o)))
-      (option_map (λ fact. stay_by fact (fact_of network e)) (facts transit)) None
-      ≡ option_and_then (λ journey. option_map (stay_told network) (slice_get journey.stays 0))
-      (option_and_then (line_left_from node e (line_journey_of network e.earlier)) o)
-  left_at node transit None h = refl
-  left_at node transit (Some entered) h = copy_at node transit entered (copy_entered node entered) h
-
-  stay_is : (event : Event) → cond (is_some (option_map (kept_journey_of network)
-      (line_journey_made network event e (line_journey_of network e.earlier))))
+  stay_is : (o : Option LineJourney) → journey_from network e ≡ o
+      → cond (is_some (option_map (kept_journey_of network) o))
       (option_and_then (λ transit. option_map (λ fact. stay_by fact (fact_of network e)) (facts transit))
-      (named_transit event)) None
-      ≡ option_and_then (λ journey. option_map (stay_told network) (slice_get journey.stays 0))
-      (line_journey_made network event e (line_journey_of network e.earlier))
-  stay_is (Leave node transit at) = left_at node transit (line_at network e.earlier transit) refl
-  stay_is _ = refl
+      (named_transit (event_of e))) None
+      ≡ option_and_then (λ journey. option_map (stay_told network) (slice_get journey.stays 0)) o
+  stay_is None h = refl
+  stay_is (Some j) h = elim (made-so network e (event_of e) j h) [
+    | inl sent ↦ (λ i. option_and_then
+        (λ transit. option_map (λ fact. stay_by fact (fact_of network e)) (facts transit)) (sent.alone i))
+        ∙ ap (λ (x : LineJourney). option_map (stay_told network) (slice_get x.stays 0)) sent.begun
+    | inr left ↦ (λ i. option_and_then
+        (λ transit. option_map (λ fact. stay_by fact (fact_of network e)) (facts transit)) (left.named i))
+        ∙ ap (λ (o : Option LinePlace). option_map (λ fact. stay_by fact (fact_of network e)) (option_map (fact_of network) o))
+        (among left.transit left.entered left.there)
+        ∙ ap (λ (x : LineJourney). option_map (stay_told network) (slice_get x.stays 0)) left.more
+  ]
 
-  none_before : (j : LineJourney) (stay : LineStay) (rest : List LineStay) → Some (line_begun e) ≡ Some j
+  made_before : (j : LineJourney) (stay : LineStay) (rest : List LineStay)
+      → line_journey_made network (event_of e) e (line_journey_of network e.earlier) ≡ Some j
       → j.stays ≡ stay ∷ rest → IsBefore network lines (line_number e) stay rest
-  none_before j stay rest made h = absurd (none-some stay
-      (ap (λ (x : LineJourney). slice_get x.stays 0) (same_Some _ _ made)
-      ∙ ap (λ (l : List LineStay). slice_get l 0) h))
-
-  journey_entered : (transit : ℕ) (entered : LinePlace) (copy : ℕ) (o : Option LineJourney) (j : LineJourney)
-      (stay : LineStay) (rest : List LineStay) → line_at network e.earlier transit ≡ Some entered
-      → (entered_copy (event_of entered) ≡ Some copy) × (copy < line_number entered)
-      → line_journey_of network e.earlier copy ≡ o
-      → option_map (with_stay e entered) o ≡ Some j → j.stays ≡ stay ∷ rest → IsBefore network lines (line_number e) stay rest
-  journey_entered transit entered copy None j stay rest at copied journey made h = absurd (none-some j made)
-  journey_entered transit entered copy (Some k) j stay rest at copied journey made h =
-      let number : line_number entered ≡ transit = line_at-number network e.earlier transit entered at in
-      let inside : transit < line_number e = line_at-bound network e.earlier transit entered at in
-      let low : copy < line_number e = omega (arith, number, inside, copied.1) in
-      let stays = ap (λ (x : LineJourney). x.stays) (same_Some _ _ made) ∙ h in
-      let same = same_Some _ _ (ap (λ (l : List LineStay). slice_get l 0) stays) in (
-        copy,
-        k,
-        ap (λ (x : LineStay). entered_copy (event_of x.entered)) (sym same) ∙ copied.0,
-        journey_before copy low ∙ journey,
-        ap (λ (l : List LineStay). drop 1 l) stays,
-        low,
-      )
-
-  copy_before_stay : (node : NodeName) (transit : ℕ) (entered : LinePlace) (o : Option ℕ) (j : LineJourney)
-      (stay : LineStay) (rest : List LineStay) → line_at network e.earlier transit ≡ Some entered
-      → copy_entered node entered ≡ o
-      → option_and_then (λ copy. option_map (with_stay e entered) (line_journey_of network e.earlier copy)) o ≡ Some j
-      → j.stays ≡ stay ∷ rest → IsBefore network lines (line_number e) stay rest
-  copy_before_stay node transit entered None j stay rest at copied made h = absurd (none-some j made)
-  copy_before_stay node transit entered (Some copy) j stay rest at copied made h =
-      journey_entered transit entered copy (line_journey_of network e.earlier copy) j stay rest at
-      (entered_is node entered (entered_copy (event_of entered)) copy refl copied) refl made h
-
-  left_before : (node : NodeName) (transit : ℕ) (o : Option LinePlace) (j : LineJourney) (stay : LineStay)
-      (rest : List LineStay) → line_at network e.earlier transit ≡ o
-      → option_and_then (line_left_from node e (line_journey_of network e.earlier)) o ≡ Some j
-      → j.stays ≡ stay ∷ rest → IsBefore network lines (line_number e) stay rest
-  left_before node transit None j stay rest at made h = absurd (none-some j made)
-  left_before node transit (Some entered) j stay rest at made h =
-      copy_before_stay node transit entered (copy_entered node entered) j stay rest at refl made h
-
-  made_before : (event : Event) (j : LineJourney) (stay : LineStay) (rest : List LineStay)
-      → line_journey_made network event e (line_journey_of network e.earlier) ≡ Some j
-      → j.stays ≡ stay ∷ rest → IsBefore network lines (line_number e) stay rest
-  made_before (Sync node at) j stay rest made h = none_before j stay rest made h
-  made_before (SyncOne node at) j stay rest made h = none_before j stay rest made h
-  made_before (Leave node transit at) j stay rest made h =
-      left_before node transit (line_at network e.earlier transit) j stay rest refl made h
-  made_before (Request node at) j stay rest made h = none_before j stay rest made h
-  made_before _ j stay rest made h = absurd (none-some j made)
+  made_before j stay rest made h = elim (made-so network e (event_of e) j made) [
+    | inl sent ↦ absurd (none-some stay (ap (λ (x : LineJourney). slice_get x.stays 0) sent.begun
+        ∙ ap (λ (l : List LineStay). slice_get l 0) h))
+    | inr left ↦
+        let number : line_number left.entered ≡ left.transit =
+        line_at-number network e.earlier left.transit left.entered left.there in
+        let inside : left.transit < line_number e = line_at-bound network e.earlier left.transit left.entered left.there in
+        let low : left.copy < line_number e = omega (arith, number, inside, left.low) in
+        let stays = ap (λ (x : LineJourney). x.stays) left.more ∙ h in
+        let same = same_Some _ _ (ap (λ (l : List LineStay). slice_get l 0) stays) in (
+          left.copy,
+          left.prior,
+          ap (λ (x : LineStay). entered_copy (event_of x.entered)) (sym same) ∙ left.copied,
+          journey_before left.copy low ∙ left.known,
+          ap (λ (l : List LineStay). drop 1 l) stays,
+          low,
+        )
+  ]
 
 module _ (network : Network) (lines : Lines) (number : ℕ) where
   message_found : (o : Option LinePlace) → line_at network lines number ≡ o
@@ -246,7 +190,7 @@ module _ (network : Network) (lines : Lines) (number : ℕ) where
       ≡ option_and_then (λ journey. option_map (stay_told network) (slice_get journey.stays 0))
       (option_and_then (journey_from network) o)
   stay_found None h = refl
-  stay_found (Some e) h = stay_is network lines number e h (event_of e)
+  stay_found (Some e) h = stay_is network lines number e h (journey_from network e) refl
 
   -- the last stay of the copy of a number, by what is kept of all lines
   pub last_stay_by-is : last_stay_by (facts_at network lines) number
@@ -264,7 +208,7 @@ module _ (network : Network) (lines : Lines) (number : ℕ) where
   stay_before_found (Some e) j stay rest at made h =
       let same : line_number e ≡ number = line_at-number network lines number e at in
       subst (λ (n : ℕ). IsBefore network lines n stay rest) same
-      (made_before network lines number e at (event_of e) j stay rest made h)
+      (made_before network lines number e at j stay rest made h)
 
   -- the journey before the last stay of a copy
   pub stay_before : (j : LineJourney) (stay : LineStay) (rest : List LineStay)

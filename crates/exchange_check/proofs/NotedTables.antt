@@ -9,32 +9,11 @@ use Rattle.network_model.specs.Network.{Network}
 use Rattle.trace_model.specs.declared.line.TraceLine.{TraceLine}
 use Rattle.trace_model.specs.Line.{Lines, counts}
 use Rattle.trace_model.specs.Record.{LinePlace, line_place, line_at}
-use Rattle.trace_model.specs.Journey.{LineJourney, line_journey_of}
 use Rattle.trace_model.proofs.Lines.{line_at-bound}
 use Rattle.exchange_check.specs.declared.kept_line.Uncounted.{Uncounted}
 use Rattle.exchange_check.specs.Evidence.{Table, uncounted_at}
 use Rattle.exchange_check.specs.Inner.Noting.{mapped, with_entry, slim}
-use Rattle.exchange_check.proofs.Told.{journey_from, journey_of-line_at}
-
--- options
-
-pub or_none : {X : Type 0} (o : Option X) → option_or o None ≡ o
-or_none None = refl
-or_none (Some x) = refl
-
-pub or_twice : {X : Type 0} (a b c : Option X) → option_or (option_or a b) c ≡ option_or a (option_or b c)
-or_twice None b c = refl
-or_twice (Some x) b c = refl
-
-pub then_twice : {X Y Z : Type 0} (f : X → Option Y) (g : Y → Option Z) (o : Option X)
-    → option_and_then g (option_and_then f o) ≡ option_and_then (λ (x : X). option_and_then g (f x)) o
-then_twice f g None = refl
-then_twice f g (Some x) = refl
-
-pub map_or : {X Y : Type 0} (f : X → Y) (a b : Option X)
-    → option_map f (option_or a b) ≡ option_or (option_map f a) (option_map f b)
-map_or f None b = refl
-map_or f (Some x) b = refl
+use Rattle.exchange_check.proofs.Options.{or_none, map_or}
 
 -- there is no line yet of the next number
 line_at-next : (network : Network) (lines : Lines) (n : ℕ) → length lines ≡ n → line_at network lines n ≡ None
@@ -73,17 +52,6 @@ no-entry n table = λ i k. by (eqb n k) (table k) i
     by : {X : Type 0} (here : Bool) (o : Option X) → option_or (cond here None None) o ≡ o
     by true o = refl
     by false o = refl
-
--- a table of what there is on journeys is one of what there is at the lines that made the copies
-abbrev pub journeys_table : Network → {X : Type 0} → (LineJourney → Option X) → Lines → Table X
-journeys_table network g lines n = option_and_then g (line_journey_of network lines n)
-
-pub of-journeys : (network : Network) {X : Type 0} (g : LineJourney → Option X) (lines : Lines)
-    → journeys_table network g lines
-    ≡ table network (λ (e : LinePlace). option_and_then g (journey_from network e)) lines
-of-journeys network g lines = λ i n.
-    (ap (λ (o : Option LineJourney). option_and_then g o) (journey_of-line_at network lines n)
-    ∙ then_twice (journey_from network) g (line_at network lines n)) i
 
 -- lines that don't count
 module _ (network : Network) where

@@ -24,11 +24,10 @@ use Rattle.exchange_check.specs.declared.facts.Fact.{Fact}
 use Rattle.exchange_check.specs.declared.kept.Kept.{Kept}
 use Rattle.exchange_check.specs.Evidence.{noted, told_by, otherwise_finding, journey_otherwise, made_otherwise}
 use Rattle.exchange_check.specs.Evidence.{exchange_otherwise, first_otherwise_at, last_otherwise}
-use Rattle.exchange_check.specs.Inner.Finding.{copy_in}
 use Rattle.exchange_check.specs.Inner.Found.{of_found}
 use Rattle.exchange_check.specs.Inner.Machine.{IsKept, machine, facts_of, stamps_of}
 use Rattle.exchange_check.specs.Inner.Noting.{mapped}
-use Rattle.exchange_check.specs.Inner.Otherwise.{exchange_otherwise_by, otherwise_by}
+use Rattle.exchange_check.specs.Inner.Otherwise.{copy_in, exchange_otherwise_by, otherwise_by}
 use Rattle.exchange_check.specs.Inner.Stays.{last_stays}
 use Rattle.copy_stays.specs.Leaves.{once_of}
 use Rattle.copy_stays.specs.Stays.{once_in}
@@ -38,7 +37,7 @@ use Rattle.exchange_check.proofs.FindingTold.{placed}
 use Rattle.exchange_check.proofs.FirstOtherwise.{of_made}
 use Rattle.exchange_check.proofs.Inside.{facts-kept, once-kept, stamps-kept}
 use Rattle.exchange_check.proofs.Noted.{leaves_at, stamps_at}
-use Rattle.exchange_check.proofs.NotedTables.{or_none}
+use Rattle.exchange_check.proofs.Options.{or_none}
 use Rattle.exchange_check.proofs.OfExchange.{journeys-there, last_if}
 use Rattle.exchange_check.proofs.Standing.{slave, all_lines}
 use Rattle.exchange_check.proofs.Telling.{Arrives, arrives}

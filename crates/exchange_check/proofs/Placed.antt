@@ -1,6 +1,6 @@
 -- The lines of a report that are placed are those that are judged.
 use Rattle.std.proofs.Common.{◌≡◌, ◌∙◌, ℕ, ◌≤◌, Bool, true, false, ◌&&◌, cond, length, Option, Some, None, Ok, Err, Result}
-use Rattle.std.proofs.Common.{refl, sym, ap, arith, is_some, List, slice_get}
+use Rattle.std.proofs.Common.{refl, sym, ap, arith, is_some}
 use Rattle.std.specs.Prelude.{◌||◌, nat_lt, ok_or, option_and_then, option_map}
 use Rattle.std.specs.Result.{result_ok}
 use Rattle.std.proofs.lemmas.Bool.Decides.{nat_tests}
@@ -21,7 +21,7 @@ use Rattle.trace_model.specs.Sound.{where_passes, below, is_of_line}
 use Rattle.exchange_check.specs.declared.facts.Fact.{Fact}
 use Rattle.exchange_check.specs.declared.facts.Found.{Found}
 use Rattle.exchange_check.specs.declared.kept.Kept.{Kept}
-use Rattle.exchange_check.specs.Inner.Kept.{Facts, Stamps, fact_in}
+use Rattle.exchange_check.specs.Inner.Kept.{Facts, Stamps}
 use Rattle.exchange_check.specs.Inner.Machine.{facts_of, stamps_of}
 use Rattle.exchange_check.specs.Inner.Judged.{line_of_by, sender_by, sync_by, follow_by, follows_by, completion_by}
 use Rattle.exchange_check.specs.Inner.Judged.{arrival_by, is_stamped_by, found_by}

@@ -15,7 +15,7 @@ use Rattle.trace_model.specs.Finding.{leave_of}
 use Rattle.exchange_check.specs.Evidence.{Table, second_leave_of, second_leaves}
 use Rattle.exchange_check.specs.Inner.Noting.{with_entry, is_left_again, seconds_with}
 use Rattle.exchange_check.proofs.Noted.{firsts_at}
-use Rattle.exchange_check.proofs.NotedTables.{or_none}
+use Rattle.exchange_check.proofs.Options.{or_none}
 use Rattle.exchange_check.proofs.Told.{fact_of}
 
 -- second Leave lines

@@ -16,10 +16,10 @@ use Rattle.trace_model.specs.declared.judgement.Judgement.{Judgement}
 use Rattle.trace_model.specs.declared.verdict.Why.TheVariants.{NoSuchLine, OtherNumber, OtherMaster, BrokenJourney}
 use Rattle.trace_model.specs.declared.verdict.Why.TheVariants.{WrongReading, WrongValue, TooBig, Bytes}
 use Rattle.trace_model.specs.Line.{Lines, counts}
-use Rattle.trace_model.specs.Record.{LinePlace, line_place, line_number, event_of, site, events, last_line}
+use Rattle.trace_model.specs.Record.{LinePlace, line_place, line_number, event_of, site, events, last_line, reads_right}
 use Rattle.trace_model.specs.Octets.{writes_right}
 use Rattle.trace_model.specs.Journey.{LineJourney, line_journey_of, left_once}
-use Rattle.trace_model.specs.Sound.{journey_writes_right, where_passes, below, Exchange, line_of, sync_line}
+use Rattle.trace_model.specs.Sound.{where_passes, below, Exchange, line_of, sync_line}
 use Rattle.trace_model.specs.Sound.{follow_lines, arrival_line, is_of_line, is_stamped_between, unbroken, is_followed}
 use Rattle.trace_model.specs.Sound.{are_paired, are_later, is_domain, is_of_master, are_readings, fits}
 use Rattle.trace_model.specs.Sound.{results_of, are_results, are_octets, Conditions, needs, failing, reason, judgement}
@@ -29,6 +29,7 @@ use Rattle.exchange_check.specs.Inner.Judged.{found_journey_from, found_journey_
 use Rattle.exchange_check.specs.Inner.Judged.{both_journeys, found_judgement, judgement_by}
 use Rattle.exchange_check.proofs.Noted.{site_at, leaves_at, firsts_at, stamps_at, told_master}
 use Rattle.exchange_check.proofs.Told.{fact_of, facts_at}
+use Rattle.exchange_check.proofs.WrongLines.{line_met, journey_readings, journey_octets, reads-so, writes-so}
 use Rattle.exchange_check.proofs.Following.{once_is, followed_is}
 use Rattle.trace_model.specs.declared.verdict.Verdict.{Verdict}
 use Rattle.trace_model.specs.declared.verdict.Verdict.TheVariants.{Accepted, Refused}
@@ -188,6 +189,12 @@ module _ (network : Network) (line : TraceLine) (earlier : Lines) where
           (unbroken network e draws_sync x.sync_arrival)) x;
     }
 
+    abbrev kept_journey_readings : LineJourney → Option ℕ
+    kept_journey_readings j = option_map line_met (journey_readings network j)
+
+    abbrev kept_journey_octets : LineJourney → Option ℕ
+    kept_journey_octets j = option_map line_met (journey_octets network j)
+
     journeys_are_found : (x : Exchange) (s r : Option LineJourney)
         → both_journeys network (site_at network earlier slave) slave report (found_of network x)
         (option_map (found_journey_of network) s) (option_map (found_journey_of network) r) ≡ with_journeys x s r
@@ -205,13 +212,17 @@ module _ (network : Network) (line : TraceLine) (earlier : Lines) where
                 && is_named (site x.request_arrival) (site s.origin)
                 && is_domain (slave_at network slave) (master_at network (site s.origin)),
           )
-          ∷ (WrongReading, are_readings network x s r)
+          ∷ (
+            WrongReading,
+            reads_right network x.sync_arrival && reads-so network s (kept_journey_octets s) i
+                && reads_right network x.request_arrival && reads-so network r (kept_journey_octets r) i,
+          )
           ∷ (TooBig, fits s && fits r)
           ∷ (WrongValue, are_results report x s r)
           ∷ (
             Bytes,
-            journey_writes_right network s && follow_octets network x.follow i
-                && journey_writes_right network r && writes_right network x.request_arrival,
+            writes-so network s (kept_journey_readings s) i && follow_octets network x.follow i
+                && writes-so network r (kept_journey_readings r) i && writes_right network x.request_arrival,
           ) ∷ []);
       by_readings = Some (results_of x s r);
     }

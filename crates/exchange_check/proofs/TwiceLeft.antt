@@ -22,7 +22,7 @@ use Rattle.exchange_check.specs.Evidence.{second_leave_of, second_leaves}
 use Rattle.copy_stays.specs.Leaves.{Firsts}
 use Rattle.exchange_check.specs.Inner.WayFinding.{twice_at, earlier_twice, twice_finding_by}
 use Rattle.exchange_check.proofs.Noted.{cond_same, firsts_at}
-use Rattle.exchange_check.proofs.NotedTables.{or_none}
+use Rattle.exchange_check.proofs.Options.{or_none}
 
 abbrev twice : (entered second : ℕ) → Twice
 twice entered second = record { entered = entered; second = second }

@@ -47,7 +47,7 @@ use Rattle.exchange_check.proofs.Following.{once_is, followed_is}
 use Rattle.exchange_check.proofs.Inside.{facts-kept, firsts-kept, once-kept, stamps-kept}
 use Rattle.exchange_check.proofs.Made.{last_stay_by-is, stay_before as journey_before}
 use Rattle.exchange_check.proofs.Noted.{leaves_at, firsts_at, stamps_at}
-use Rattle.exchange_check.proofs.NotedTables.{or_none}
+use Rattle.exchange_check.proofs.Options.{or_none}
 use Rattle.exchange_check.proofs.OfExchange.{found-there, last_if}
 use Rattle.exchange_check.proofs.Standing.{all_lines, either_within}
 use Rattle.exchange_check.proofs.Telling.{IsSilent}

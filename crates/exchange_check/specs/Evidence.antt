@@ -22,8 +22,7 @@ use Rattle.trace_model.specs.Record.{LinePlace, line_place, line_number, event_o
 use Rattle.trace_model.specs.Journey.{LineJourney, line_journey_of, line_journey_made}
 use Rattle.trace_model.specs.Octets.{writes_right}
 use Rattle.trace_model.specs.ByMessages.{by_messages, tells_right}
-use Rattle.trace_model.specs.Finding.{Stop, stop, finding, leave_of, reading_finding, stay_finding, stays_finding}
-use Rattle.trace_model.specs.Finding.{octets_finding, way_made, way_of, first_of, of_exchange}
+use Rattle.trace_model.specs.Finding.{Stop, stop, finding, leave_of, stays_finding, way_made, way_of, first_of, of_exchange}
 use Rattle.trace_model.specs.Sound.{Exchange}
 use Rattle.exchange_check.specs.declared.evidence.Evidence.{Evidence}
 use Rattle.exchange_check.specs.declared.exceptions.Exceptions.{Exceptions}
@@ -88,16 +87,6 @@ second_leave_of network transit (line ∷ earlier) = option_or
     (if counts network line && is_leave_of transit line.event && is_some (leave_of network transit earlier)
     then Some (length earlier) else None)
 
--- the first thing that is wrong with the readings on a journey
-abbrev pub journey_readings : Network → LineJourney → Option Finding
-journey_readings network journey =
-    option_or (reading_finding network journey.origin) (stays_finding (stay_finding network) journey.stays)
-
--- the first message with wrong octets on a journey
-abbrev pub journey_octets : Network → LineJourney → Option Finding
-journey_octets network journey =
-    option_or (octets_finding network journey.origin) (stays_finding (λ s. octets_finding network s.left) journey.stays)
-
 -- a line made a message whose octets tell otherwise than those that its port or its clock writes, in a field that a slave
 -- or a master reads, or that writes no message there
 abbrev pub tells_otherwise : Network → LinePlace → Bool
@@ -133,12 +122,6 @@ stop_made network e =
 abbrev pub second_leaves : Network → Lines → Table ℕ
 second_leaves network lines transit = second_leave_of network transit lines
 
-abbrev pub first_readings_at : Network → Lines → Table Finding
-first_readings_at network lines copy = option_and_then (journey_readings network) (line_journey_of network lines copy)
-
-abbrev pub first_octets_at : Network → Lines → Table Finding
-first_octets_at network lines copy = option_and_then (journey_octets network) (line_journey_of network lines copy)
-
 abbrev pub first_otherwise_at : Network → Lines → Table Finding
 first_otherwise_at network lines copy = option_and_then
     (λ e. made_otherwise network e (line_journey_made network (event_of e) e (line_journey_of network e.earlier)))
@@ -153,8 +136,6 @@ pub record Noted : Type 0 where
   pub readings : Table WrongReading
   pub uncounted : Table Uncounted
   pub seconds : Table ℕ
-  pub first_readings : Table Finding
-  pub first_octets : Table Finding
   pub first_otherwise : Table Finding
   pub stops : Table Stop
 
@@ -165,8 +146,6 @@ noted network lines = record {
   readings = wrong_reading_at network lines;
   uncounted = uncounted_at network lines;
   seconds = second_leaves network lines;
-  first_readings = first_readings_at network lines;
-  first_octets = first_octets_at network lines;
   first_otherwise = first_otherwise_at network lines;
   stops = stops_at network lines;
 }
@@ -190,8 +169,6 @@ told_by exceptions = record {
   readings = get nat_cmp exceptions.readings;
   uncounted = get nat_cmp exceptions.uncounted;
   seconds = get nat_cmp exceptions.seconds;
-  first_readings = get nat_cmp exceptions.first_readings;
-  first_octets = λ n. option_map findings.OtherOctets (get nat_cmp exceptions.first_octets n);
   first_otherwise = λ n. option_map findings.OtherOctets (get nat_cmp exceptions.first_otherwise n);
   stops = stops_in (get nat_cmp exceptions.stops);
 }

@@ -24,7 +24,7 @@ use trace_model::TraceLine;
 
 /// What a checker doesn't keep of lines, since it judges without it. Only what is out of the ordinary takes memory here:
 /// lines that don't count, readings and octets that aren't right, stays that were left twice, journeys that stop or
-/// on which something is wrong.
+/// on which a message tells otherwise.
 #[derive(Drop)]
 pub struct Evidence {
     pub(crate) exceptions: Exceptions,

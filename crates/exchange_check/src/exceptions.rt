@@ -11,9 +11,7 @@ ghost use Rattle.exchange_check.specs.Evidence.{octets_told, stops_in, came_of, 
 ghost use Rattle.exchange_check.specs.Inner.Machine.{IsKept, machine};
 ghost use Rattle.exchange_check.specs.Inner.Machine.{facts_of, firsts_of};
 ghost use Rattle.exchange_check.specs.Inner.Noting.{with_entry, octets_entry, reading_entry, is_left_again, seconds_with};
-ghost use Rattle.exchange_check.specs.Inner.Noting.{reading_found, stay_found, first_reading_left, first_reading_by};
-ghost use Rattle.exchange_check.specs.Inner.Noting.{octets_found, first_left, first_octets_by, stop_entry, slim};
-ghost use Rattle.exchange_check.specs.Inner.Noting.{first_otherwise_by, otherwise_found};
+ghost use Rattle.exchange_check.specs.Inner.Noting.{first_left, first_otherwise_by, otherwise_found, stop_entry, slim};
 ghost use Rattle.exchange_check.specs.Inner.Noting.{AreNone, NotesLine};
 
 use crate::facts::{Fact, Site};
@@ -27,7 +25,7 @@ use network_model::{Event, Nodes};
 use ptp_units::ScaledTime;
 use std::alloc::Global;
 use std::collections::BTreeMap;
-use trace_model::{Finding, TraceLine, TraceOut, tells_same};
+use trace_model::{TraceLine, TraceOut, tells_same};
 
 /// What is out of the ordinary in the lines so far.
 #[derive(Drop)]
@@ -40,10 +38,6 @@ pub(crate) struct Exceptions {
     pub(crate) uncounted: BTreeMap<u64, Uncounted>,
     /// Of each stay that was left twice, by the number that its Leave lines name: the second of these.
     pub(crate) seconds: BTreeMap<u64, u64>,
-    /// Of each copy on whose journey a reading is wrong: the first thing that is.
-    pub(crate) first_readings: BTreeMap<u64, Finding>,
-    /// Of each copy on whose journey octets are wrong: the first line that has such.
-    pub(crate) first_octets: BTreeMap<u64, u64>,
     /// Of each message, the first on its journey whose octets tell otherwise, in a field that is read; one that has no journey
     /// stands for itself.
     pub(crate) first_otherwise: BTreeMap<u64, u64>,
@@ -117,8 +111,6 @@ impl Exceptions {
             readings: BTreeMap::new(alloc),
             uncounted: BTreeMap::new(alloc),
             seconds: BTreeMap::new(alloc),
-            first_readings: BTreeMap::new(alloc),
-            first_octets: BTreeMap::new(alloc),
             first_otherwise: BTreeMap::new(alloc),
             stops: BTreeMap::new(alloc),
         }
@@ -169,8 +161,6 @@ impl Exceptions {
         self.note_octets(fact, &line.out)?;
         self.note_reading(site, fact, line.reading)?;
         self.note_leave(kept, fact)?;
-        self.note_first_reading(kept, fact)?;
-        self.note_first_octets(kept, fact)?;
         self.note_first_otherwise(nodes, kept, fact, &line.out)?;
         self.note_stop(kept, fact)?;
         Ok(())
@@ -199,26 +189,6 @@ impl Exceptions {
             fact.line,
             wrong_reading(site, fact, reading),
         )
-    }
-
-    fn note_first_reading(&mut self, kept: &Kept, fact: &Fact) -> Result<(), CheckFault>
-        ensures first_readings { OnOk result (get nat_cmp self.new.first_readings
-            ≡ with_entry fact.now.line (first_reading_by (facts_of kept.now) (get nat_cmp self.old.readings)
-            (get nat_cmp self.old.first_readings) fact.now) (get nat_cmp self.old.first_readings)) }
-        ensures others { self.new ≡ record self.old { first_readings = self.new.first_readings } }
-    {
-        let found = self.first_reading(kept, fact);
-        put(&mut self.first_readings, fact.line, found)
-    }
-
-    fn note_first_octets(&mut self, kept: &Kept, fact: &Fact) -> Result<(), CheckFault>
-        ensures first_octets { OnOk result (get nat_cmp self.new.first_octets
-            ≡ with_entry fact.now.line (first_octets_by (facts_of kept.now) (get nat_cmp self.old.first_octets) fact.now)
-            (get nat_cmp self.old.first_octets)) }
-        ensures others { self.new ≡ record self.old { first_octets = self.new.first_octets } }
-    {
-        let found = self.first_octets(kept, fact);
-        put(&mut self.first_octets, fact.line, found)
     }
 
     fn note_first_otherwise(
@@ -273,79 +243,6 @@ impl Exceptions {
         }
     }
 
-    /// What is wrong with the reading of a line that counts and has a true moment.
-    pub(crate) fn reading_finding(&self, fact: &Fact) -> Option<Finding>
-        ensures { result ≡ reading_found (get nat_cmp self.now.readings) fact.now }
-    {
-        if fact.reads_right {
-            return None;
-        }
-        let set = match self.readings.get(&fact.line) {
-            Some(wrong) => wrong.set,
-            None => None,
-        };
-        Some(Finding::WrongReading {
-            event: fact.line,
-            set,
-        })
-    }
-
-    /// What is wrong with the readings of a stay.
-    fn stay_finding(&self, entered: &Fact, left: &Fact) -> Option<Finding>
-        ensures { result ≡ stay_found (get nat_cmp self.now.readings) entered.now left.now }
-    {
-        if let Some(found) = self.reading_finding(entered) {
-            return Some(found);
-        }
-        if let Some(found) = self.reading_finding(left) {
-            return Some(found);
-        }
-        if left.reading.value() < entered.reading.value() {
-            return Some(Finding::Falls {
-                entered: entered.line,
-                left: left.line,
-            });
-        }
-        None
-    }
-
-    /// The first thing that is wrong with the readings on the journey of a copy that left a clock after this stay.
-    fn first_reading_left(&self, kept: &Kept, left: &Fact, transit: u64) -> Option<Finding>
-        ensures { result ≡ first_reading_left (facts_of kept.now) (get nat_cmp self.now.readings)
-            (get nat_cmp self.now.first_readings) left.now (Some transit) }
-    {
-        let entered = kept.at(transit)?;
-        let copy = entered.event.entered_copy()?;
-        match self.first_readings.get(&copy) {
-            Some(found) => Some(*found),
-            None => self.stay_finding(entered, left),
-        }
-    }
-
-    /// The first thing that is wrong with the readings on the journey of the copy that a line made.
-    fn first_reading(&self, kept: &Kept, fact: &Fact) -> Option<Finding>
-        ensures { result ≡ first_reading_by (facts_of kept.now) (get nat_cmp self.now.readings)
-            (get nat_cmp self.now.first_readings) fact.now }
-    {
-        if fact.journey.is_none() {
-            return None;
-        }
-        match fact.event.named_transit() {
-            Some(transit) => self.first_reading_left(kept, fact, transit),
-            None => self.reading_finding(fact),
-        }
-    }
-
-    /// The first line with wrong octets on the journey of the copy that a line made.
-    fn first_octets(&self, kept: &Kept, fact: &Fact) -> Option<u64>
-        ensures { result ≡ first_octets_by (facts_of kept.now) (get nat_cmp self.now.first_octets) fact.now }
-    {
-        if fact.journey.is_none() {
-            return None;
-        }
-        first_left(kept, &self.first_octets, octets_found(fact), &fact.event)
-    }
-
     /// The first line whose octets tell otherwise, on the journey of the message that a line made or of that line alone.
     fn first_otherwise(
         &self,
@@ -381,17 +278,6 @@ fn first_left(
     match firsts.get(&copy) {
         Some(first) => Some(*first),
         None => own,
-    }
-}
-
-/// The line, where its octets are wrong.
-fn octets_found(fact: &Fact) -> Option<u64>
-    ensures { result ≡ octets_found fact.now }
-{
-    if fact.writes_right {
-        None
-    } else {
-        Some(fact.line)
     }
 }
 

@@ -6,6 +6,7 @@ ghost use Rattle.exchange_check.specs.Inner.Noting.{line_of_fact};
 
 use crate::kept_line::KeptLine;
 use crate::residence::Residence;
+use crate::wrong_lines::WrongLines;
 use network_model::{Event, Name};
 use ptp_units::{ScaledTime, Seq};
 
@@ -16,14 +17,12 @@ pub(crate) struct KeptJourney {
     pub(crate) residence: Residence,
     /// The number of the line that sent it.
     pub(crate) origin: u64,
-    /// Whether all readings on it are right.
-    pub(crate) reads_right: bool,
-    /// Whether all octets on it are right.
-    pub(crate) writes_right: bool,
+    /// The first lines on it where something is wrong.
+    pub(crate) wrong: WrongLines,
 }
 
 /// A line that counts, as far as later lines ask. What is kept of a line, this and its place in the tables, takes
-/// some 200 octets (`bench/check` measures it).
+/// some 220 octets (`bench/check` measures it).
 #[derive(Clone, Copy)]
 pub(crate) struct Fact {
     /// The line's number.

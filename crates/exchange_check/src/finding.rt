@@ -10,13 +10,12 @@ ghost use Rattle.trace_model.specs.declared.finding.Finding.TheVariants as findi
 ghost use Rattle.trace_model.specs.Finding.{broken, early_finding};
 ghost use Rattle.exchange_check.specs.Evidence.{Evidences, last_finding};
 ghost use Rattle.exchange_check.specs.Inner.Finding.{follow_finding_by, pair_finding_by, told_finding_by};
-ghost use Rattle.exchange_check.specs.Inner.Finding.{master_finding_by, copy_in, arrival_reading, readings_finding_by};
-ghost use Rattle.exchange_check.specs.Inner.Finding.{size_finding_by, octets_finding_by};
-ghost use Rattle.exchange_check.specs.Inner.Judged.{paired_by, of_master_by, fits_by, results_by};
-ghost use Rattle.exchange_check.specs.Inner.Finding.{follow_octets_by, all_octets_by, found_finding_by};
+ghost use Rattle.exchange_check.specs.Inner.Finding.{master_finding_by, size_finding_by, reading_line_by, reading_met};
+ghost use Rattle.exchange_check.specs.Inner.Finding.{readings_finding_by, follow_line_by, octets_line_by};
+ghost use Rattle.exchange_check.specs.Inner.Finding.{octets_finding_by, found_finding_by};
+ghost use Rattle.exchange_check.specs.Inner.Judged.{paired_by, of_master_by, readings_by, fits_by, results_by, octets_by};
 ghost use Rattle.exchange_check.specs.Inner.Found.{of_report, of_found};
 ghost use Rattle.exchange_check.specs.Inner.Machine.{facts_of, sites_of, stamps_of};
-ghost use Rattle.exchange_check.specs.Inner.Noting.{mapped};
 ghost use Rattle.copy_stays.specs.Stays.{once_in};
 
 use crate::checker::Checker;
@@ -27,6 +26,7 @@ use crate::judging::{LineKind, are_results, fits, is_domain, is_followed, result
 use crate::kept::Kept;
 use crate::lookup::Lookup;
 use crate::octets::{master_at, slave_at};
+use crate::wrong_lines::wrong_line;
 use network_model::{Name, Nodes, Report};
 use trace_model::{Finding, Part, Results, Why};
 
@@ -186,77 +186,87 @@ pub(crate) fn value_finding(report: &Report, results: &Results) -> Option<Findin
     broken(are_results(report, results), Finding::OtherResults)
 }
 
-/// 708: other octets at a line.
-fn octets_finding(fact: &Fact) -> Option<Finding>
-    ensures { result ≡ octets_finding_by fact.now }
+/// 705: the line at which the first thing is met that is wrong with readings.
+#[tactic(auto, using(crate::proofs::Conditions::reading_holds))]
+pub(crate) fn reading_line(
+    found: &Found,
+    sync: &FoundJourney,
+    request: &FoundJourney,
+) -> Option<u64>
+    ensures finding { result ≡ reading_line_by found.now sync.now request.now }
+    ensures holds { is_none result ≡ readings_by found.now sync.now request.now }
 {
-    broken(fact.writes_right, Finding::OtherOctets { event: fact.line })
+    let synced = &found.sync_arrival;
+    let asked = &found.request_arrival;
+    wrong_line(synced.reads_right, synced.line)
+        .or(sync.kept.wrong.reading())
+        .or(wrong_line(asked.reads_right, asked.line))
+        .or(request.kept.wrong.reading())
 }
 
-/// 708: other octets of the Follow_Up, where there is one.
-fn follow_octets(follow: &Option<Fact>) -> Option<Finding>
-    ensures { result ≡ follow_octets_by follow.now }
+/// 708: the line of the Follow_Up, if any, where its octets are wrong.
+fn follow_line(follow: &Option<Fact>) -> Option<u64>
+    ensures { result ≡ follow_line_by follow.now }
 {
     match follow {
-        Some(follow) => octets_finding(follow),
+        Some(follow) => wrong_line(follow.writes_right, follow.line),
         None => None,
     }
 }
 
-impl Exceptions {
-    /// 705: the first wrong reading on the journey of the copy that arrives at a line.
-    fn copy_reading(&self, arrival: &Fact) -> Option<Finding>
-        ensures { result ≡ copy_in (get nat_cmp self.now.first_readings) arrival.now }
-    {
-        match arrival.event.heard_copy() {
-            Some(copy) => self.first_readings.get(&copy).copied(),
-            None => None,
-        }
-    }
+/// 708: the line of the first message with wrong octets.
+#[tactic(auto, using(crate::proofs::Conditions::octets_hold))]
+pub(crate) fn octets_line(found: &Found, sync: &FoundJourney, request: &FoundJourney) -> Option<u64>
+    ensures finding { result ≡ octets_line_by found.now sync.now request.now }
+    ensures holds { is_none result ≡ octets_by found.now sync.now request.now }
+{
+    let answered = &found.request_arrival;
+    let sent = sync.kept.wrong.octets().or(follow_line(&found.follow));
+    sent.or(request.kept.wrong.octets())
+        .or(wrong_line(answered.writes_right, answered.line))
+}
 
-    /// 705: the same, after that of the arrival.
-    fn arrival_reading(&self, arrival: &Fact) -> Option<Finding>
-        ensures { result ≡ arrival_reading (get nat_cmp self.now.readings) (get nat_cmp self.now.first_readings)
-            arrival.now }
+/// 708: what is found of octets.
+fn octets_finding(found: &Found, sync: &FoundJourney, request: &FoundJourney) -> Option<Finding>
+    ensures { result ≡ octets_finding_by found.now sync.now request.now }
+{
+    let event = octets_line(found, sync, request)?;
+    Some(Finding::OtherOctets { event })
+}
+
+impl Exceptions {
+    /// 705: what is wrong with readings, met at the line of this number: its own reading, or else that of the stay which
+    /// ends there the clock read less at the end than at the beginning.
+    fn reading_met(&self, kept: &Kept, number: u64) -> Option<Finding>
+        ensures { result ≡ reading_met (facts_of kept.now) (get nat_cmp self.now.readings) number }
     {
-        or(self.reading_finding(arrival), self.copy_reading(arrival))
+        let fact = kept.at(number)?;
+        if fact.reads_right {
+            let entered = fact.event.named_transit()?;
+            return Some(Finding::Falls {
+                entered,
+                left: number,
+            });
+        }
+        let set = match self.readings.get(&number) {
+            Some(wrong) => wrong.set,
+            None => None,
+        };
+        Some(Finding::WrongReading { event: number, set })
     }
 
     /// 705: what is found of readings.
-    fn readings_finding(&self, found: &Found) -> Option<Finding>
-        ensures { result ≡ readings_finding_by (get nat_cmp self.now.readings) (get nat_cmp self.now.first_readings)
-            found.now }
+    fn readings_finding(
+        &self,
+        kept: &Kept,
+        found: &Found,
+        sync: &FoundJourney,
+        request: &FoundJourney,
+    ) -> Option<Finding>
+        ensures { result ≡ readings_finding_by (facts_of kept.now) (get nat_cmp self.now.readings) found.now sync.now
+            request.now }
     {
-        or(
-            self.arrival_reading(&found.sync_arrival),
-            self.arrival_reading(&found.request_arrival),
-        )
-    }
-
-    /// 708: the first message with other octets on the journey of the copy that arrives at a line.
-    fn copy_octets(&self, arrival: &Fact) -> Option<Finding>
-        ensures { result ≡ copy_in (mapped findings.OtherOctets (get nat_cmp self.now.first_octets)) arrival.now }
-    {
-        let Some(copy) = arrival.event.heard_copy() else {
-            return None;
-        };
-        match self.first_octets.get(&copy) {
-            Some(event) => Some(Finding::OtherOctets { event: *event }),
-            None => None,
-        }
-    }
-
-    /// 708: what is found of octets.
-    fn all_octets_finding(&self, found: &Found) -> Option<Finding>
-        ensures { result ≡ all_octets_by (mapped findings.OtherOctets (get nat_cmp self.now.first_octets)) found.now }
-    {
-        let sync = self.copy_octets(&found.sync_arrival);
-        let request = self.copy_octets(&found.request_arrival);
-        let response = octets_finding(&found.request_arrival);
-        or(
-            sync,
-            or(follow_octets(&found.follow), or(request, response)),
-        )
+        self.reading_met(kept, reading_line(found, sync, request)?)
     }
 }
 
@@ -290,17 +300,16 @@ fn journeys_finding(
     request: &FoundJourney,
     why: Why,
 ) -> Option<Finding>
-    ensures { result ≡ found_finding_by nodes.now (sites_of nodes.now kept.now) (get nat_cmp evidence.now.readings)
-        (get nat_cmp evidence.now.first_readings) (mapped findings.OtherOctets (get nat_cmp evidence.now.first_octets))
-        report.now why fact.now found.now sync.now request.now }
+    ensures { result ≡ found_finding_by nodes.now (sites_of nodes.now kept.now) (facts_of kept.now)
+        (get nat_cmp evidence.now.readings) report.now why fact.now found.now sync.now request.now }
 {
     match why {
         Why::OtherNumber => pair_finding(found, sync, request),
         Why::OtherMaster => slave_finding(nodes, kept, fact, report, found, sync),
-        Why::WrongReading => evidence.readings_finding(found),
+        Why::WrongReading => evidence.readings_finding(kept, found, sync, request),
         Why::TooBig => size_finding(sync, request),
         Why::WrongValue => value_finding(report, &results_of(found, sync, request)),
-        Why::Bytes => evidence.all_octets_finding(found),
+        Why::Bytes => octets_finding(found, sync, request),
         Why::NoSuchLine | Why::BrokenJourney => None,
     }
 }
@@ -316,8 +325,8 @@ fn found_finding(
     why: Why,
 ) -> Option<Finding>
     ensures { result ≡ of_found (facts_of kept.now) (once_in kept.now.stays) (found_finding_by nodes.now
-        (sites_of nodes.now kept.now) (get nat_cmp evidence.now.readings) (get nat_cmp evidence.now.first_readings)
-        (mapped findings.OtherOctets (get nat_cmp evidence.now.first_octets)) report.now why fact.now) found.now }
+        (sites_of nodes.now kept.now) (facts_of kept.now) (get nat_cmp evidence.now.readings) report.now why fact.now)
+        found.now }
 {
     let sync = kept.journey_to(LineKind::DrawsSync, &found.sync_arrival);
     let request = kept.journey_to(LineKind::Request, &found.request_arrival);
@@ -339,9 +348,8 @@ fn report_finding(
     why: Why,
 ) -> Option<Finding>
     ensures { result ≡ of_report (facts_of kept.now) (stamps_of kept.now) (λ fact. of_found (facts_of kept.now)
-        (once_in kept.now.stays) (found_finding_by nodes.now (sites_of nodes.now kept.now)
-        (get nat_cmp evidence.now.readings) (get nat_cmp evidence.now.first_readings)
-        (mapped findings.OtherOctets (get nat_cmp evidence.now.first_octets)) report.now why fact)) number report.now }
+        (once_in kept.now.stays) (found_finding_by nodes.now (sites_of nodes.now kept.now) (facts_of kept.now)
+        (get nat_cmp evidence.now.readings) report.now why fact)) number report.now }
 {
     let Some(fact) = kept.at(number) else {
         return None;

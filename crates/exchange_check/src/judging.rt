@@ -8,13 +8,15 @@ ghost use Rattle.trace_model.specs.Sound.{is_of_line, is_domain};
 ghost use Rattle.exchange_check.specs.Inner.Kept.{port_setup};
 ghost use Rattle.copy_stays.specs.Stays.{once_in};
 ghost use Rattle.exchange_check.specs.Inner.Judged.{is_of_kind, found_journey_at, found_journey_to, is_followed_by};
-ghost use Rattle.exchange_check.specs.Inner.Judged.{readings_by, fraction_by, fits_by};
-ghost use Rattle.exchange_check.specs.Inner.Judged.{bracket_by, results_of_by, results_by, octets_by, IsElapsed};
+ghost use Rattle.exchange_check.specs.Inner.Judged.{fraction_by, fits_by};
+ghost use Rattle.exchange_check.specs.Inner.Judged.{bracket_by, results_of_by, results_by, IsElapsed};
 ghost use Rattle.exchange_check.specs.Inner.Judged.{journeys_judgement_by, alone, found_judgement, judgement_by};
 ghost use Rattle.exchange_check.specs.Inner.Machine.{facts_of, sites_of, stamps_of};
 
 use crate::facts::{Fact, Found, FoundJourney, Site};
-use crate::finding::{holds, master_finding, pair_finding, size_finding, value_finding};
+use crate::finding::{
+    holds, master_finding, octets_line, pair_finding, reading_line, size_finding, value_finding,
+};
 use crate::kept::Kept;
 use crate::lookup::Lookup;
 use crate::octets::Port;
@@ -55,16 +57,6 @@ pub(crate) fn is_followed(follow: &Option<Fact>, origin: &Fact) -> bool
         },
         None => origin.event.is_one_step_sync(),
     }
-}
-
-/// Whether all readings are right.
-fn are_readings(found: &Found, sync: &FoundJourney, request: &FoundJourney) -> bool
-    ensures { result ≡ readings_by found.now sync.now request.now }
-{
-    found.sync_arrival.reads_right
-        && sync.kept.reads_right
-        && found.request_arrival.reads_right
-        && request.kept.reads_right
 }
 
 /// The fraction of a nanosecond that a message is sent with in its correctionField.
@@ -149,20 +141,6 @@ pub(crate) fn are_results(report: &Report, results: &Results) -> bool
     is_number(report.offset2, results.offset2) && is_number(report.path2, results.path2)
 }
 
-/// Whether all octets are right.
-fn are_octets(found: &Found, sync: &FoundJourney, request: &FoundJourney) -> bool
-    ensures { result ≡ octets_by found.now sync.now request.now }
-{
-    let follow = match &found.follow {
-        Some(follow) => follow.writes_right,
-        None => true,
-    };
-    sync.kept.writes_right
-        && follow
-        && request.kept.writes_right
-        && found.request_arrival.writes_right
-}
-
 /// What a report is judged to be whose lines are there, and its two journeys.
 fn journeys_judgement(
     nodes: &Lookup<'_>,
@@ -178,16 +156,18 @@ fn journeys_judgement(
     let results = results_of(found, sync, request);
     let pair = pair_finding(found, sync, request);
     let master = master_finding(nodes, at, slave, report, found, sync);
+    let reading = reading_line(found, sync, request);
     let size = size_finding(sync, request);
     let value = value_finding(report, &results);
+    let octets = octets_line(found, sync, request);
     Judgement {
         reasons: Reasons::failing(&[
             (Why::OtherNumber, holds(&pair)),
             (Why::OtherMaster, holds(&master)),
-            (Why::WrongReading, are_readings(found, sync, request)),
+            (Why::WrongReading, reading.is_none()),
             (Why::TooBig, holds(&size)),
             (Why::WrongValue, holds(&value)),
-            (Why::Bytes, are_octets(found, sync, request)),
+            (Why::Bytes, octets.is_none()),
         ]),
         by_readings: Some(results),
     }

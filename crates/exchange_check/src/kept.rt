@@ -34,6 +34,7 @@ use crate::octets::{Port, delay_resp, is_written, master_at, resided, sent, slav
 use crate::refusal::CheckFault;
 use crate::residence::Residence;
 use crate::sites::{move_site, site_in};
+use crate::wrong_lines::{WrongLines, wrong_line};
 use copy_stays::Stays;
 use event_codec::PortMessage;
 use master_port::follow_up;
@@ -110,11 +111,13 @@ fn stayed(known: &Known, entered: &Fact, before: &KeptJourney) -> Result<KeptJou
         .value()
         .saturating_sub(entered.reading.value());
     let rises = known.reading.value() >= entered.reading.value();
+    let entering = wrong_line(entered.reads_right, entered.line);
+    let leaving = wrong_line(known.reads && rises, known.line);
+    let reading = before.wrong.reading().or(entering.or(leaving));
     Ok(KeptJourney {
         residence: before.residence.plus(stay)?,
         origin: before.origin,
-        reads_right: before.reads_right && (entered.reads_right && known.reads && rises),
-        writes_right: before.writes_right,
+        wrong: WrongLines::new(reading, before.wrong.octets()),
     })
 }
 
@@ -125,8 +128,7 @@ fn begun(known: &Known) -> KeptJourney
     KeptJourney {
         residence: Residence::zero(),
         origin: known.line,
-        reads_right: known.reads,
-        writes_right: true,
+        wrong: WrongLines::new(wrong_line(known.reads, known.line), None),
     }
 }
 
@@ -385,7 +387,7 @@ impl Kept {
             reads_right: known.reads,
             writes_right,
             last_sync: known.last_sync,
-            journey: with_octets(*journey, writes_right),
+            journey: with_octets(*journey, writes_right, known.line),
         }
     }
 
@@ -572,13 +574,14 @@ fn stamp(stamps: &mut BTreeMap<u64, u64>, last: Option<u64>, number: u64) -> Res
     }
 }
 
-/// A journey with the line's own octets.
-fn with_octets(journey: Option<KeptJourney>, writes_right: bool) -> Option<KeptJourney>
-    ensures { result ≡ option_map (written_journey writes_right) journey }
+/// A journey with the octets of the line of this number, by which it goes on.
+fn with_octets(journey: Option<KeptJourney>, writes_right: bool, number: u64) -> Option<KeptJourney>
+    ensures { result ≡ option_map (written_journey writes_right number) journey }
 {
     let journey = journey?;
+    let octets = journey.wrong.octets().or(wrong_line(writes_right, number));
     Some(KeptJourney {
-        writes_right: journey.writes_right && writes_right,
+        wrong: WrongLines::new(journey.wrong.reading(), octets),
         ..journey
     })
 }

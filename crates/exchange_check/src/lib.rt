@@ -23,6 +23,7 @@ mod residence;
 mod sites;
 mod way_finding;
 mod ways;
+mod wrong_lines;
 
 pub use checker::{Checker, check};
 pub use evidence::Evidence;

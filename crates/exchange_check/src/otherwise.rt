@@ -5,11 +5,10 @@ ghost use Rattle.std.specs.BTreeMap.{get};
 ghost use Rattle.std.specs.Ordering.{nat_cmp};
 ghost use Rattle.trace_model.specs.declared.finding.Finding.TheVariants as findings;
 ghost use Rattle.exchange_check.specs.Evidence.{Evidences, last_otherwise};
-ghost use Rattle.exchange_check.specs.Inner.Finding.{copy_in};
 ghost use Rattle.exchange_check.specs.Inner.Found.{of_found};
 ghost use Rattle.exchange_check.specs.Inner.Machine.{facts_of, stamps_of};
 ghost use Rattle.exchange_check.specs.Inner.Noting.{mapped};
-ghost use Rattle.exchange_check.specs.Inner.Otherwise.{exchange_otherwise_by, otherwise_by};
+ghost use Rattle.exchange_check.specs.Inner.Otherwise.{copy_in, exchange_otherwise_by, otherwise_by};
 ghost use Rattle.copy_stays.specs.Stays.{once_in};
 
 use crate::checker::Checker;

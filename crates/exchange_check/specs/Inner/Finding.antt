@@ -1,12 +1,12 @@
 -- What is found wrong with a report, by what is kept and noted: where trace_model's `Finding` has an `x`, `x_by` is that by
 -- these, as proofs/FoundFindings and what it stands on show.
 use Rattle.std.specs.Prelude.{ℕ, ◌==◌}
-use Rattle.std.specs.Prelude.{Option, Some, None, option_and_then}
+use Rattle.std.specs.Prelude.{Option, Some, None, option_map, option_and_then, if◌then◌else◌}
 use Rattle.std.specs.Option.{option_or}
 use Rattle.slave_port.specs.declared.heard.Report.{Report}
 use Rattle.network_model.specs.Network.{Network, NodeName, is_named}
 use Rattle.network_model.specs.Run.{site_of}
-use Rattle.network_model.specs.Kinds.{heard_copy}
+use Rattle.network_model.specs.Kinds.{named_transit}
 use Rattle.network_model.specs.Truth.{master_at, slave_at}
 use Rattle.trace_model.specs.declared.finding.Finding.{Finding}
 use Rattle.trace_model.specs.declared.finding.Finding.TheVariants as findings
@@ -22,8 +22,7 @@ use Rattle.exchange_check.specs.declared.facts.Site.{Site}
 use Rattle.exchange_check.specs.declared.kept_line.WrongReading.{WrongReading}
 use Rattle.exchange_check.specs.Evidence.{Table}
 use Rattle.exchange_check.specs.Inner.Judged.{is_followed_by, fits_by, results_of_by, results_by}
-use Rattle.exchange_check.specs.Inner.Kept.{Sites}
-use Rattle.exchange_check.specs.Inner.Noting.{reading_found}
+use Rattle.exchange_check.specs.Inner.Kept.{Facts, Sites, wrong_line, wrong_reading_in, wrong_octets_in}
 
 -- 702
 abbrev pub follow_finding_by : Option Fact → (origin : Fact) → Finding
@@ -50,17 +49,26 @@ master_finding_by network site slave report found sync = option_or
     (findings.OtherAnswers found.request_arrival.line))
     (broken (is_domain (slave_at network slave) (master_at network (site_of sync.origin.event))) findings.OtherDomain))
 
--- 705: of the journey of the copy that arrives at a line
-abbrev pub copy_in : {X : Type 0} → Table X → Fact → Option X
-copy_in table arrival = option_and_then table (heard_copy arrival.event)
+-- 705: the line where the first thing is met that is wrong with readings
+abbrev pub reading_line_by : Found → (sync request : FoundJourney) → Option ℕ
+reading_line_by found sync request = option_or (option_or (option_or
+    (wrong_line found.sync_arrival.reads_right found.sync_arrival.line)
+    (wrong_reading_in sync.kept.wrong))
+    (wrong_line found.request_arrival.reads_right found.request_arrival.line))
+    (wrong_reading_in request.kept.wrong)
 
-abbrev pub arrival_reading : Table WrongReading → Table Finding → Fact → Option Finding
-arrival_reading readings firsts arrival = option_or (reading_found readings arrival) (copy_in firsts arrival)
+-- what this is: the reading of that line, or else the stay that ends there
+abbrev pub reading_met_by : (number : ℕ) → Option WrongReading → Fact → Option Finding
+reading_met_by number wrong fact =
+    if fact.reads_right then option_map (λ entered. findings.Falls entered number) (named_transit fact.event)
+    else Some (findings.WrongReading number (option_and_then (λ wrong. wrong.set) wrong))
 
-abbrev pub readings_finding_by : Table WrongReading → Table Finding → Found → Option Finding
-readings_finding_by readings firsts found = option_or
-    (arrival_reading readings firsts found.sync_arrival)
-    (arrival_reading readings firsts found.request_arrival)
+abbrev pub reading_met : Facts → Table WrongReading → (number : ℕ) → Option Finding
+reading_met facts readings number = option_and_then (reading_met_by number (readings number)) (facts number)
+
+abbrev pub readings_finding_by : Facts → Table WrongReading → Found → (sync request : FoundJourney) → Option Finding
+readings_finding_by facts readings found sync request =
+    option_and_then (reading_met facts readings) (reading_line_by found sync request)
 
 -- 707
 abbrev pub size_finding_by : (sync request : FoundJourney) → Option Finding
@@ -73,33 +81,33 @@ abbrev pub value_finding_by : Report → Found → (sync request : FoundJourney)
 value_finding_by report found sync request =
     broken (results_by report (results_of_by found sync request)) findings.OtherResults
 
--- 708
-abbrev pub octets_finding_by : Fact → Option Finding
-octets_finding_by fact = broken fact.writes_right (findings.OtherOctets fact.line)
+-- 708: the line of the first message with wrong octets
+abbrev pub follow_line_by : Option Fact → Option ℕ
+follow_line_by None = None
+follow_line_by (Some follow) = wrong_line follow.writes_right follow.line
 
-abbrev pub follow_octets_by : Option Fact → Option Finding
-follow_octets_by None = None
-follow_octets_by (Some follow) = octets_finding_by follow
+abbrev pub octets_line_by : Found → (sync request : FoundJourney) → Option ℕ
+octets_line_by found sync request = option_or (option_or (option_or
+    (wrong_octets_in sync.kept.wrong)
+    (follow_line_by found.follow))
+    (wrong_octets_in request.kept.wrong))
+    (wrong_line found.request_arrival.writes_right found.request_arrival.line)
 
-abbrev pub all_octets_by : Table Finding → Found → Option Finding
-all_octets_by firsts found = option_or
-    (copy_in firsts found.sync_arrival)
-    (option_or (follow_octets_by found.follow)
-    (option_or (copy_in firsts found.request_arrival) (octets_finding_by found.request_arrival)))
+abbrev pub octets_finding_by : Found → (sync request : FoundJourney) → Option Finding
+octets_finding_by found sync request = option_map findings.OtherOctets (octets_line_by found sync request)
 
 -- each of these
-abbrev pub found_finding_by : Network → Sites → Table WrongReading → (readings octets : Table Finding) → Report → Why
-    → Fact → Found → (sync request : FoundJourney) → Option Finding
-found_finding_by network sites wrong readings octets report whys.OtherNumber fact found sync request =
+abbrev pub found_finding_by : Network → Sites → Facts → Table WrongReading → Report → Why → Fact → Found → (sync request : FoundJourney) → Option Finding
+found_finding_by network sites facts readings report whys.OtherNumber fact found sync request =
     pair_finding_by found sync request
-found_finding_by network sites wrong readings octets report whys.OtherMaster fact found sync request =
+found_finding_by network sites facts readings report whys.OtherMaster fact found sync request =
     master_finding_by network (sites (site_of fact.event)) (site_of fact.event) report found sync
-found_finding_by network sites wrong readings octets report whys.WrongReading fact found sync request =
-    readings_finding_by wrong readings found
-found_finding_by network sites wrong readings octets report whys.TooBig fact found sync request =
+found_finding_by network sites facts readings report whys.WrongReading fact found sync request =
+    readings_finding_by facts readings found sync request
+found_finding_by network sites facts readings report whys.TooBig fact found sync request =
     size_finding_by sync request
-found_finding_by network sites wrong readings octets report whys.WrongValue fact found sync request =
+found_finding_by network sites facts readings report whys.WrongValue fact found sync request =
     value_finding_by report found sync request
-found_finding_by network sites wrong readings octets report whys.Bytes fact found sync request =
-    all_octets_by octets found
-found_finding_by network sites wrong readings octets report _ fact found sync request = None
+found_finding_by network sites facts readings report whys.Bytes fact found sync request =
+    octets_finding_by found sync request
+found_finding_by network sites facts readings report _ fact found sync request = None

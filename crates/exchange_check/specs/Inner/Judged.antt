@@ -2,7 +2,7 @@
 -- by the lines alone. A definition `x_by` is `x`, `x_line` or `are_x` of trace_model's `Sound` by what is kept, and
 -- `found_by` and `found_journey_to` are its `exchange_of` and `unbroken`: proofs/Exchanges and proofs/Standing show it.
 use Rattle.std.specs.Prelude.{ℕ, ◌+◌, ◌-◌, ◌^◌, ℤ, pos, negsuc, ◌-ℤ◌, ◌<ℤ◌, Bool, true, false, ◌&&◌, ◌||◌}
-use Rattle.std.specs.Prelude.{nat_lt, ◌==◌, is_some, if◌then◌else◌, [], ◌∷◌, Option, Some, None, option_map, option_and_then}
+use Rattle.std.specs.Prelude.{nat_lt, ◌==◌, is_some, is_none, if◌then◌else◌, [], ◌∷◌, Option, Some, None, option_map, option_and_then}
 use Rattle.std.specs.Option.{option_map_or}
 use Rattle.std.specs.Ordering.{int_eq}
 use Rattle.ptp_units.specs.Exchange.{offset2, path2}
@@ -26,7 +26,7 @@ use Rattle.trace_model.specs.declared.verdict.Why.{Why}
 use Rattle.trace_model.specs.declared.verdict.Why.TheVariants.{NoSuchLine, OtherNumber, OtherMaster, BrokenJourney}
 use Rattle.trace_model.specs.declared.verdict.Why.TheVariants.{WrongReading, WrongValue, TooBig, Bytes}
 use Rattle.trace_model.specs.Sound.{where_passes, below, are_later, is_domain, is_of_line, Conditions, failing}
-use Rattle.exchange_check.specs.Inner.Kept.{Facts, Stamps, Sites, kept_journey_at}
+use Rattle.exchange_check.specs.Inner.Kept.{Facts, Stamps, Sites, kept_journey_at, wrong_reading_in, wrong_octets_in}
 use Rattle.copy_stays.specs.Leaves.{Once}
 
 -- the events of a kind that a line has to tell of
@@ -121,8 +121,8 @@ of_master_by network site slave report found sync =
 
 abbrev pub readings_by : Found → (sync request : FoundJourney) → Bool
 readings_by found sync request =
-    found.sync_arrival.reads_right && sync.kept.reads_right
-    && found.request_arrival.reads_right && request.kept.reads_right
+    found.sync_arrival.reads_right && is_none (wrong_reading_in sync.kept.wrong)
+    && found.request_arrival.reads_right && is_none (wrong_reading_in request.kept.wrong)
 
 abbrev pub fraction_by : Fact → ℕ
 fraction_by fact = if is_one_step_sync fact.event then fraction_of fact.reading else 0
@@ -149,8 +149,8 @@ results_by report results = int_eq report.offset2 results.offset2 && int_eq repo
 
 abbrev pub octets_by : Found → (sync request : FoundJourney) → Bool
 octets_by found sync request =
-    sync.kept.writes_right && option_map_or (λ follow. follow.writes_right) found.follow true
-    && request.kept.writes_right && found.request_arrival.writes_right
+    is_none (wrong_octets_in sync.kept.wrong) && option_map_or (λ follow. follow.writes_right) found.follow true
+    && is_none (wrong_octets_in request.kept.wrong) && found.request_arrival.writes_right
 
 -- the conditions on an exchange and its journeys
 abbrev pub journeys_conditions_by : Network → Site → NodeName → Report → Found → (sync request : FoundJourney)

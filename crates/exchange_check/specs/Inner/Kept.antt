@@ -1,7 +1,7 @@
 -- What the checker keeps of lines, so that it searches for nothing. Its own functions cite these; what its callers
 -- are told is said by the lines alone. A definition `x_by` says by what is kept what trace_model's `Record`, `Journey`
 -- and `Octets` say by the lines, as proofs/Told, proofs/Messages and proofs/FactLines show.
-use Rattle.std.specs.Prelude.{ℕ, ◌+◌, ◌-◌, ℤ, pos, ◌+ℤ◌, Bool, true, false, ◌&&◌, not, List, [], ◌∷◌, nat_lt}
+use Rattle.std.specs.Prelude.{ℕ, ◌+◌, ◌-◌, ℤ, pos, ◌+ℤ◌, Bool, false, ◌&&◌, not, List, [], ◌∷◌, nat_lt}
 use Rattle.std.specs.Prelude.{slice_get, unwrap_or, ◌==◌, is_some, if◌then◌else◌, Option, Some, None, option_map}
 use Rattle.std.specs.Prelude.{option_and_then}
 use Rattle.std.specs.Option.{option_or, option_map_or}
@@ -23,6 +23,8 @@ use Rattle.exchange_check.specs.declared.facts.Site.{Site}
 use Rattle.exchange_check.specs.declared.facts.KeptJourney.{KeptJourney}
 use Rattle.trace_model.specs.declared.line.TraceLine.{TraceLine}
 use Rattle.exchange_check.specs.declared.octets.Port.{Port}
+use Rattle.exchange_check.specs.declared.wrong_lines.WrongLines.{WrongLines}
+use Rattle.exchange_check.specs.declared.wrong_lines.WrongLines.TheVariants.{Neither, Reading, Octets, Both}
 use Rattle.trace_model.specs.Line.{counts, is_made, completes}
 use Rattle.trace_model.specs.Record.{is_reading}
 use Rattle.trace_model.specs.Octets.{drawing_port, message_sent, is_written}
@@ -76,14 +78,41 @@ copy_entered_by clock entered = option_and_then
     (λ copy. if is_named (site_of entered.event) clock && nat_lt copy entered.line then Some copy else None)
     (entered_copy entered.event)
 
+-- the number of a line, where something of it isn't right
+abbrev pub wrong_line : (right : Bool) → (number : ℕ) → Option ℕ
+wrong_line right number = if right then None else Some number
+
+-- the lines on a journey where the first thing is met that is wrong with readings, and that has the first wrong octets
+abbrev pub wrong_lines : (reading octets : Option ℕ) → WrongLines
+wrong_lines None None = Neither
+wrong_lines (Some reading) None = Reading reading
+wrong_lines None (Some octets) = Octets octets
+wrong_lines (Some reading) (Some octets) = Both reading octets
+
+abbrev pub wrong_reading_in : WrongLines → Option ℕ
+wrong_reading_in (Reading reading) = Some reading
+wrong_reading_in (Both reading octets) = Some reading
+wrong_reading_in _ = None
+
+abbrev pub wrong_octets_in : WrongLines → Option ℕ
+wrong_octets_in (Octets octets) = Some octets
+wrong_octets_in (Both reading octets) = Some octets
+wrong_octets_in _ = None
+
+-- the line of a stay where the first thing is met that is wrong with its readings
+abbrev pub stay_line : Known → (entered : Fact) → Option ℕ
+stay_line known entered = option_or
+    (wrong_line entered.reads_right entered.line)
+    (wrong_line (known.reads && not (nat_lt known.reading entered.reading)) known.line)
+
 -- a journey and one more stay
 abbrev pub stayed : Known → Fact → KeptJourney → KeptJourney
 stayed known entered before = record {
   origin = before.origin;
   residence = before.residence + (known.reading - entered.reading);
-  reads_right = before.reads_right
-      && (entered.reads_right && known.reads && not (nat_lt known.reading entered.reading));
-  writes_right = before.writes_right;
+  wrong = wrong_lines
+      (option_or (wrong_reading_in before.wrong) (stay_line known entered))
+      (wrong_octets_in before.wrong);
 }
 
 abbrev pub left_by : Facts → NodeName → Known → Fact → Option KeptJourney
@@ -97,7 +126,11 @@ kept_journey_left facts clock transit known = option_and_then (left_by facts clo
 
 -- the journey of a message that was just sent
 abbrev pub begun_by : Known → KeptJourney
-begun_by known = record { origin = known.line; residence = 0; reads_right = known.reads; writes_right = true }
+begun_by known = record {
+  origin = known.line;
+  residence = 0;
+  wrong = wrong_lines (wrong_line known.reads known.line) None;
+}
 
 -- the journey of the copy that a line made, its own octets left out
 abbrev pub kept_journey_by : Facts → Known → Event → Option KeptJourney
@@ -144,13 +177,14 @@ message_by network facts known journey (Request node at) =
     sent_by network (Request node at) known.number.0 known.reading
 message_by network facts known journey _ = None
 
--- a journey with the line's own octets
-abbrev pub written_journey : Bool → KeptJourney → KeptJourney
-written_journey writes journey = record {
+-- a journey with the octets of the line of this number, by which it goes on
+abbrev pub written_journey : (writes : Bool) → (number : ℕ) → KeptJourney → KeptJourney
+written_journey writes number journey = record {
   origin = journey.origin;
   residence = journey.residence;
-  reads_right = journey.reads_right;
-  writes_right = journey.writes_right && writes;
+  wrong = wrong_lines
+      (wrong_reading_in journey.wrong)
+      (option_or (wrong_octets_in journey.wrong) (wrong_line writes number));
 }
 
 -- what is kept of a line
@@ -165,7 +199,7 @@ fact_made line known writes journey = record {
   reads_right = known.reads;
   writes_right = writes;
   last_sync = known.last_sync;
-  journey = option_map (written_journey writes) journey;
+  journey = option_map (written_journey writes known.line) journey;
 }
 
 abbrev pub fact_known : Network → Facts → TraceLine → Known → Option KeptJourney → Fact

@@ -10,8 +10,6 @@ use Rattle.network_model.specs.Network.{Network, is_named}
 use Rattle.network_model.specs.Run.{site_of, true_moment}
 use Rattle.network_model.specs.declared.event.Event.{Event}
 use Rattle.network_model.specs.Kinds.{draws_sync, is_request, entered_copy, named_transit}
-use Rattle.trace_model.specs.declared.finding.Finding.{Finding}
-use Rattle.trace_model.specs.declared.finding.Finding.TheVariants as findings
 use Rattle.trace_model.specs.declared.finding.Lack.TheVariants.{NotBefore, CameToNothing, OtherEvent}
 use Rattle.trace_model.specs.declared.line.TraceLine.{TraceLine}
 use Rattle.trace_model.specs.declared.line.TraceOut.{TraceOut}
@@ -72,45 +70,12 @@ seconds_with firsts fact seconds = option_map_or
     (λ transit. if is_left_again firsts seconds fact.line transit then with_entry transit (Some fact.line) seconds else seconds)
     (named_transit fact.event) seconds
 
--- what is found of a reading
-abbrev pub reading_found : Table WrongReading → Fact → Option Finding
-reading_found readings fact =
-    if fact.reads_right then None
-    else Some (findings.WrongReading fact.line (option_and_then (λ wrong. wrong.set) (readings fact.line)))
-
--- of those of a stay
-abbrev pub stay_found : Table WrongReading → (entered left : Fact) → Option Finding
-stay_found readings entered left = option_or
-    (reading_found readings entered)
-    (option_or (reading_found readings left)
-    (if nat_lt left.reading entered.reading then Some (findings.Falls entered.line left.line) else None))
-
--- of a journey, from what is found of those before
-abbrev pub first_reading_left : Facts → Table WrongReading → Table Finding → Fact → Option ℕ → Option Finding
-first_reading_left facts readings firsts left None = reading_found readings left
-first_reading_left facts readings firsts left (Some transit) =
-    option_and_then (λ entered.
-    option_and_then (λ copy. option_or (firsts copy) (stay_found readings entered left)) (entered_copy entered.event))
-    (facts transit)
-
-abbrev pub first_reading_by : Facts → Table WrongReading → Table Finding → Fact → Option Finding
-first_reading_by facts readings firsts fact =
-    if is_some fact.journey then first_reading_left facts readings firsts fact (named_transit fact.event) else None
-
--- the same of octets
-abbrev pub octets_found : Fact → Option ℕ
-octets_found fact = if fact.writes_right then None else Some fact.line
-
 -- the first line on a journey, from the first before and from what is found of the last line itself
 abbrev pub first_left : Facts → Table ℕ → (own : Option ℕ) → Option ℕ → Option ℕ
 first_left facts firsts own None = own
 first_left facts firsts own (Some transit) =
     option_and_then (λ entered. option_and_then (λ copy. option_or (firsts copy) own) (entered_copy entered.event))
     (facts transit)
-
-abbrev pub first_octets_by : Facts → Table ℕ → Fact → Option ℕ
-first_octets_by facts firsts fact =
-    if is_some fact.journey then first_left facts firsts (octets_found fact) (named_transit fact.event) else None
 
 -- octets that tell otherwise than the message of their line; a message that has no journey is one by itself
 abbrev pub otherwise_found : Network → Facts → Fact → TraceOut → Option ℕ
@@ -179,8 +144,6 @@ pub record AreNone (e : Exceptions) : Type 0 where
   pub readings : get nat_cmp e.readings ≡ (λ n. None)
   pub uncounted : get nat_cmp e.uncounted ≡ (λ n. None)
   pub seconds : get nat_cmp e.seconds ≡ (λ n. None)
-  pub first_readings : get nat_cmp e.first_readings ≡ (λ n. None)
-  pub first_octets : get nat_cmp e.first_octets ≡ (λ n. None)
   pub first_otherwise : get nat_cmp e.first_otherwise ≡ (λ n. None)
   pub stops : get nat_cmp e.stops ≡ (λ n. None)
 
@@ -193,12 +156,6 @@ pub record NotesLine (network : Network) (kept : Kept) (site : Site) (fact : Fac
       ≡ with_entry fact.line (reading_entry site fact line.reading) (get nat_cmp old.readings)
   pub uncounted : get nat_cmp new.uncounted ≡ get nat_cmp old.uncounted
   pub seconds : get nat_cmp new.seconds ≡ seconds_with (firsts_of kept) fact (get nat_cmp old.seconds)
-  pub first_readings : get nat_cmp new.first_readings
-      ≡ with_entry fact.line (first_reading_by (facts_of kept) (get nat_cmp new.readings)
-      (get nat_cmp old.first_readings) fact) (get nat_cmp old.first_readings)
-  pub first_octets : get nat_cmp new.first_octets
-      ≡ with_entry fact.line (first_octets_by (facts_of kept) (get nat_cmp old.first_octets) fact)
-      (get nat_cmp old.first_octets)
   pub first_otherwise : get nat_cmp new.first_otherwise
       ≡ with_entry fact.line (first_otherwise_by network (facts_of kept) (get nat_cmp old.first_otherwise) fact line.out)
       (get nat_cmp old.first_otherwise)

@@ -9,8 +9,6 @@ returns c network = λ i. record {
   readings = c.new.ensures.readings i;
   uncounted = c.new.ensures.uncounted i;
   seconds = c.new.ensures.seconds i;
-  first_readings = c.new.ensures.first_readings i;
-  first_octets = none-told findings.OtherOctets _ c.new.ensures.first_octets i;
   first_otherwise = none-told findings.OtherOctets _ c.new.ensures.first_otherwise i;
   stops = none-told stop_told _ c.new.ensures.stops i;
 }
