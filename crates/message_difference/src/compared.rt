@@ -1,86 +1,80 @@
 //! A message beside the one that its port or its clock writes.
+ghost use Rattle.std.specs.Prelude.{◌≡◌, IfSome, not};
+ghost use Rattle.event_codec.specs.Profile.{contents_of};
+ghost use Rattle.trace_model.specs.Field.{tells_same};
 
 use crate::difference::{Difference, Differs};
-use crate::wrong_field::{READ_FIELDS, ReadField, WrongField, with_read_of};
-use event_codec::{DecodeRefusal, PortMessage, decode, encode};
+use crate::wrong_field::{WrongField, with_read_of, wrong_in};
+use event_codec::{DecodeRefusal, PortMessage, decode};
 use std::alloc::AllocError;
 use std::fmt::Display;
+use std::marker::Model;
+use trace_model::{Field, tells_same};
 
-/// What octets say in fields that are read.
-#[derive(Clone, Copy)]
-enum Said {
-    /// What is wanted.
-    Wanted,
-    /// In one of them at least something else.
-    Otherwise(PortMessage),
-    /// Nobody can read them.
-    Unreadable(DecodeRefusal),
-}
-
-/// The message that is to be written, and how octets that came in its place differ.
-#[derive(Clone, Copy)]
+/// The message that is to be written, and how octets that came in its place differ. Contracts see whether they tell the same:
+/// whether nobody reads what differs.
+#[derive(Drop)]
 pub struct Compared {
     wanted: PortMessage,
-    said: Said,
+    /// What the octets say, or why nobody can read them.
+    found: Result<PortMessage, DecodeRefusal>,
+    tells_same: bool,
     /// How they differ, but for fields that are read.
     pub(crate) rest: Option<Difference>,
 }
 
-impl Said {
-    /// What octets say that are to say this, and that differ so.
-    fn of(octets: &[u8], wanted: &PortMessage, difference: Option<Difference>) -> Said {
-        match difference {
-            None => return Said::Wanted,
-            Some(difference) if difference.is_minor_version() => return Said::Wanted,
-            Some(_) => {}
-        }
-        match message_in(octets) {
-            Ok(found) if is_read_alike(&found, wanted) => Said::Wanted,
-            Ok(found) => Said::Otherwise(found),
-            Err(refusal) => Said::Unreadable(refusal),
-        }
-    }
+impl Model for Compared {
+    ghost use Rattle.std.specs.Prelude.{Bool};
+
+    ghost Value = { Bool };
+
+    ghost view = { λ c. c.tells_same };
 }
 
 impl Compared {
     /// Octets beside the message that is to be written; none where that has no octets.
-    pub fn of(wanted: &PortMessage, octets: &[u8]) -> Option<Compared> {
-        let mut rest = difference_from(octets, wanted)?;
-        let said = Said::of(octets, wanted, rest);
-        if let Said::Otherwise(found) = &said {
-            rest = difference_from(octets, &with_read_of(wanted, found))?;
-        }
+    pub fn of(wanted: &PortMessage, octets: &[u8]) -> Option<Compared>
+        ensures { IfSome result (λ told. told ≡ tells_same (contents_of wanted.now) octets.now) }
+    {
+        let found = message_in(octets);
+        let told = match &found {
+            Ok(found) => with_read_of(wanted, found),
+            Err(_) => *wanted,
+        };
         Some(Compared {
             wanted: *wanted,
-            said,
-            rest,
+            found,
+            tells_same: tells_same(&wanted.message(), octets),
+            rest: Difference::from(octets, &told)?,
         })
     }
 
     /// Why nobody can read the octets, where that is so.
     pub(crate) fn refusal(&self) -> Option<DecodeRefusal> {
-        match &self.said {
-            Said::Unreadable(refusal) => Some(*refusal),
-            Said::Wanted | Said::Otherwise(_) => None,
+        match &self.found {
+            Ok(_) => None,
+            Err(refusal) => Some(*refusal),
         }
     }
 
-    /// What is wrong in this field, which is read.
-    pub(crate) fn wrong(&self, field: ReadField) -> Option<WrongField> {
-        match &self.said {
-            Said::Otherwise(found) => field.wrong_in(found, &self.wanted),
-            Said::Wanted | Said::Unreadable(_) => None,
+    /// What is wrong in this field, where somebody reads it.
+    pub(crate) fn wrong(&self, field: Field) -> Option<WrongField> {
+        match &self.found {
+            Ok(found) => wrong_in(field, found, &self.wanted),
+            Err(_) => None,
         }
     }
 
     /// Whether a field that is read differs, or nobody can read the octets.
-    pub(crate) fn is_read_otherwise(&self) -> bool {
-        !matches!(self.said, Said::Wanted)
+    pub(crate) fn is_read_otherwise(&self) -> bool
+        ensures { result ≡ not self.now }
+    {
+        !self.tells_same
     }
 
     /// Whether all octets are right.
     pub fn is_right(&self) -> bool {
-        self.rest.is_none() && !self.is_read_otherwise()
+        self.rest.is_none() && self.tells_same
     }
 
     /// Appends how the message of this name differs, a line each: first what it says in fields that are read, or why nobody
@@ -93,7 +87,7 @@ impl Compared {
                 refusal.code()
             )?;
         }
-        for field in READ_FIELDS {
+        for field in Field::ALL {
             if let Some(wrong) = self.wrong(field) {
                 write!(text, "    {name}: {wrong}\n")?;
             }
@@ -108,20 +102,6 @@ impl Compared {
         };
         write!(text, "    {name}: {differs}\n")
     }
-}
-
-/// Whether all fields that are read say the same.
-fn is_read_alike(found: &PortMessage, wanted: &PortMessage) -> bool {
-    READ_FIELDS
-        .iter()
-        .all(|field| field.wrong_in(found, wanted).is_none())
-}
-
-/// How octets differ from those of a message, where they do; none where that can't be written.
-fn difference_from(octets: &[u8], message: &PortMessage) -> Option<Option<Difference>> {
-    let mut room = [0; 54];
-    let length = encode(&message.message(), &mut room).ok()?;
-    Some(Difference::of(octets, room.get(..length)?))
 }
 
 /// What octets say, or why nobody can read them.

@@ -1,9 +1,9 @@
 //! How octets differ from those that are wanted, in words.
 
-use crate::field::{VERSION, field_name};
-use event_codec::Body;
+use event_codec::{Body, PortMessage, encode};
 use std::fmt;
 use std::fmt::{Display, Formatter};
+use trace_model::{Field, differing};
 
 /// How the octets of a message differ from those that its port or its clock writes.
 #[derive(Clone, Copy)]
@@ -23,13 +23,23 @@ pub(crate) struct Difference {
 struct Octet {
     /// Its place, from 0.
     place: usize,
+    /// The field that differs there.
+    field: Field,
     found: u8,
     wanted: u8,
 }
 
 impl Difference {
-    /// How these octets differ from those that are wanted; None where they don't.
-    pub(crate) fn of(found: &[u8], wanted: &[u8]) -> Option<Difference> {
+    /// How octets differ from those of a message, where they do; none where that can't be written.
+    pub(crate) fn from(octets: &[u8], message: &PortMessage) -> Option<Option<Difference>> {
+        let mut room = [0; 54];
+        let length = encode(&message.message(), &mut room).ok()?;
+        let field = first_differing(octets, message);
+        Some(Difference::of(octets, room.get(..length)?, field))
+    }
+
+    /// How these octets differ from those that are wanted, first in this field; None where they don't.
+    fn of(found: &[u8], wanted: &[u8], field: Field) -> Option<Difference> {
         let mut first = None;
         let mut count = 0_usize;
         for (place, (found, wanted)) in found.iter().zip(wanted).enumerate() {
@@ -40,6 +50,7 @@ impl Difference {
             if first.is_none() {
                 first = Some(Octet {
                     place,
+                    field,
                     found: *found,
                     wanted: *wanted,
                 });
@@ -56,9 +67,9 @@ impl Difference {
         })
     }
 
-    /// The place of the first octet that differs; None where one just ends before the other.
-    pub(crate) fn first_place(self) -> Option<usize> {
-        Some(self.first?.place)
+    /// The field that has the first octet that differs; None where one just ends before the other.
+    pub(crate) fn first_field(self) -> Option<Field> {
+        Some(self.first?.field)
     }
 
     /// Whether minorVersionPTP is all that differs, and is 0 in place of 1.
@@ -66,13 +77,24 @@ impl Difference {
         let minor = matches!(
             self.first,
             Some(Octet {
-                place: VERSION,
+                field: Field::MinorVersion,
                 found: 0x02,
-                wanted: 0x12
+                wanted: 0x12,
+                ..
             })
         );
         minor && self.count == 1 && self.found == self.wanted
     }
+}
+
+/// The first field that octets have otherwise than a message; the suffix where they have none. A test of a field isn't one.
+fn first_differing(octets: &[u8], message: &PortMessage) -> Field {
+    for field in differing(&message.message(), octets).as_slice() {
+        if !matches!(field, Field::Whole | Field::Nanoseconds) {
+            return *field;
+        }
+    }
+    Field::Suffix
 }
 
 /// What differs in a message, in words.
@@ -106,7 +128,7 @@ impl Display for Differs<'_> {
                 f,
                 "octet {} from 0, in {}, is {:02x}; wanted is {:02x}",
                 octet.place,
-                field_name(octet.place, self.body),
+                octet.field.name_in(self.body),
                 octet.found,
                 octet.wanted
             )?;

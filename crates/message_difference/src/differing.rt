@@ -5,14 +5,19 @@ ghost use Rattle.message_difference.specs.Differing.{TellsMessages, messages_tex
 
 use crate::compared::Compared;
 use crate::difference::Difference;
-use crate::field::{FIELDS, field_at};
-use crate::wrong_field::{READ_FIELDS, WrongField};
+use crate::wrong_field::{ROWS, WrongField};
 use std::alloc::{AllocError, Global};
 use story_words::{Length, push_lines};
+use trace_model::Field;
+
+/// The place of the suffix, the last of all fields.
+const SUFFIX: usize = Field::ALL.len() - 1;
 
 /// How many messages differ in a field that is read.
 #[derive(Clone, Copy, Debug)]
 struct FieldCount {
+    /// The name of the field, once there is one.
+    name: &'static str,
     messages: u64,
     /// By how much at the most, in units of 2^-16 ns, where that can be said of each.
     most: Option<i128>,
@@ -28,11 +33,11 @@ pub struct Differing {
     /// So that nobody can read them.
     unreadable: u64,
     /// In each field that is read.
-    read_fields: [FieldCount; 10],
+    read_fields: [FieldCount; ROWS],
     /// In no field that is read: in minorVersionPTP alone, which is 0.
     minor_version: u64,
-    /// From each field on, where it isn't that alone.
-    from_field: [u64; 14],
+    /// From each field on, but for the suffix, where it isn't that alone.
+    from_field: [u64; SUFFIX],
     /// In the suffix or in length alone.
     other: u64,
 }
@@ -40,6 +45,7 @@ pub struct Differing {
 impl FieldCount {
     /// One more message, in which the field is wrong so.
     fn count(&mut self, wrong: &WrongField) {
+        self.name = wrong.name;
         self.messages = self.messages.saturating_add(1);
         self.most = match (self.most, wrong.excess()) {
             (Some(most), Some(excess)) => Some(most.max(excess.saturating_abs())),
@@ -52,6 +58,7 @@ impl Differing {
     /// There is no message yet.
     pub fn new() -> Differing {
         let none = FieldCount {
+            name: "",
             messages: 0,
             most: Some(0),
         };
@@ -60,9 +67,9 @@ impl Differing {
             differ: 0,
             read: 0,
             unreadable: 0,
-            read_fields: [none; 10],
+            read_fields: [none; ROWS],
             minor_version: 0,
-            from_field: [0; 14],
+            from_field: [0; SUFFIX],
             other: 0,
         }
     }
@@ -93,9 +100,11 @@ impl Differing {
         if compared.refusal().is_some() {
             self.unreadable = self.unreadable.saturating_add(1);
         }
-        for (count, field) in self.read_fields.iter_mut().zip(READ_FIELDS) {
+        for field in Field::ALL {
             if let Some(wrong) = compared.wrong(field) {
-                count.count(&wrong);
+                if let Some(count) = self.read_fields.get_mut(wrong.row) {
+                    count.count(&wrong);
+                }
             }
         }
     }
@@ -106,9 +115,8 @@ impl Differing {
             return &mut self.minor_version;
         }
         match difference
-            .first_place()
-            .and_then(field_at)
-            .and_then(|index| self.from_field.get_mut(index))
+            .first_field()
+            .and_then(|field| self.from_field.get_mut(field as usize))
         {
             Some(count) => count,
             None => &mut self.other,
@@ -157,9 +165,9 @@ impl Differing {
                 self.minor_version
             )?;
         }
-        for (count, (_, name)) in self.from_field.iter().zip(FIELDS) {
+        for (count, field) in self.from_field.iter().zip(Field::ALL) {
             if *count > 0 {
-                write!(text, "  from {name} on: {count}\n")?;
+                write!(text, "  from {} on: {count}\n", field.name())?;
             }
         }
         if self.other > 0 {
@@ -178,14 +186,14 @@ impl Differing {
                 messages_noun(self.unreadable)
             )?;
         }
-        for (count, field) in self.read_fields.iter().zip(READ_FIELDS) {
+        for count in &self.read_fields {
             match (count.messages, count.most) {
                 (0, _) => {}
-                (messages, None) => write!(text, "  {} in {messages}\n", field.name())?,
+                (messages, None) => write!(text, "  {} in {messages}\n", count.name)?,
                 (messages, Some(most)) => write!(
                     text,
                     "  {} in {messages}, by {} at the most\n",
-                    field.name(),
+                    count.name,
                     Length(most)
                 )?,
             }

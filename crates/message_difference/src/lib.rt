@@ -4,7 +4,6 @@
 mod compared;
 mod difference;
 mod differing;
-mod field;
 mod wrong_field;
 
 pub use compared::Compared;

@@ -7,39 +7,10 @@ use ptp_units::{ScaledTime, Timestamp};
 use std::fmt;
 use std::fmt::{Display, Formatter};
 use story_words::{Length, Moment};
+use trace_model::Field;
 
 /// A correction that is too big for its field, in units of 2^-16 ns (IEEE 1588-2019, 13.3.2.9).
 const TOO_BIG: i64 = i64::MAX;
-
-/// A field that a slave or a master reads.
-#[derive(Clone, Copy)]
-pub(crate) enum ReadField {
-    Type,
-    Domain,
-    TwoStep,
-    Correction,
-    Source,
-    Sequence,
-    /// The originTimestamp of a one-step Sync.
-    Origin,
-    Precise,
-    Receive,
-    Requesting,
-}
-
-/// All of them, in the order in which they are told.
-pub(crate) const READ_FIELDS: [ReadField; 10] = [
-    ReadField::Type,
-    ReadField::Domain,
-    ReadField::TwoStep,
-    ReadField::Correction,
-    ReadField::Source,
-    ReadField::Sequence,
-    ReadField::Origin,
-    ReadField::Precise,
-    ReadField::Receive,
-    ReadField::Requesting,
-];
 
 /// What messageType says.
 #[derive(Clone, Copy, PartialEq, Eq)]
@@ -58,76 +29,77 @@ enum Value {
     /// In units of 2^-16 ns.
     Correction(i64),
     Port(PortIdentity),
-    Time(Timestamp),
+    /// The timestamp of a message of this type.
+    Time(Kind, Timestamp),
 }
 
-/// A field that says something else than it is to say.
+/// How many rows there are in which fields are counted: one for each, and of the timestamp one for each of its names.
+pub(crate) const ROWS: usize = Field::ALL.len() + 2;
+
+/// A field that is read and says something else than it is to say.
 #[derive(Clone, Copy)]
 pub(crate) struct WrongField {
-    pub(crate) field: ReadField,
+    /// The row in which it is counted, in the order of octets.
+    pub(crate) row: usize,
+    pub(crate) name: &'static str,
     found: Value,
     wanted: Value,
 }
 
-impl ReadField {
-    /// The name of the field.
-    pub(crate) fn name(self) -> &'static str {
-        match self {
-            ReadField::Type => "messageType",
-            ReadField::Domain => "domainNumber",
-            ReadField::TwoStep => "twoStepFlag",
-            ReadField::Correction => "correctionField",
-            ReadField::Source => "sourcePortIdentity",
-            ReadField::Sequence => "sequenceId",
-            ReadField::Origin => "originTimestamp",
-            ReadField::Precise => "preciseOriginTimestamp",
-            ReadField::Receive => "receiveTimestamp",
-            ReadField::Requesting => "requestingPortIdentity",
-        }
+/// What is wrong with a field in a message that was found, beside the one that is to be written: nothing where nobody reads it
+/// there, or where the other one hasn't got it.
+pub(crate) fn wrong_in(
+    field: Field,
+    found: &PortMessage,
+    wanted: &PortMessage,
+) -> Option<WrongField> {
+    if !field.is_read(&found.message()) {
+        return None;
     }
+    let wrong = WrongField {
+        row: row_of(field, &found.body),
+        name: field.name_in(&found.body),
+        found: value_in(field, found)?,
+        wanted: value_in(field, wanted)?,
+    };
+    let is_wrong = wrong.found != wrong.wanted && wrong.found.is_beside(&wrong.wanted);
+    if is_wrong { Some(wrong) } else { None }
+}
 
-    /// Whether it is read in a message with this header: the originTimestamp is in a one-step Sync alone.
-    fn is_read_in(self, header: &Header) -> bool {
-        !matches!(self, ReadField::Origin) || !is_two_step(header)
+/// The row of a field, as a message with this body has it.
+fn row_of(field: Field, body: &Body) -> usize {
+    let (row, timestamp) = (field as usize, Field::Timestamp as usize);
+    let behind = match body {
+        Body::Sync { .. } | Body::DelayReq { .. } => 0,
+        Body::FollowUp { .. } => 1,
+        Body::DelayResp { .. } => 2,
+    };
+    if row < timestamp {
+        row
+    } else if row == timestamp {
+        row.saturating_add(behind)
+    } else {
+        row.saturating_add(2)
     }
+}
 
-    /// What it says in a message that has it.
-    fn value_in(self, message: &PortMessage) -> Option<Value> {
-        let PortMessage { header, body } = message;
-        match (self, body) {
-            (ReadField::Type, _) => Some(Value::Type(Kind::of(body))),
-            (ReadField::Domain, _) => Some(Value::Number(u16::from(header.domain))),
-            (ReadField::TwoStep, Body::Sync { .. }) => {
-                Some(Value::Number(u16::from(is_two_step(header))))
-            }
-            (ReadField::Correction, _) => Some(Value::Correction(header.correction.0)),
-            (ReadField::Source, _) => Some(Value::Port(header.source)),
-            (ReadField::Sequence, _) => Some(Value::Number(header.sequence.0)),
-            (ReadField::Origin, Body::Sync { origin }) => Some(Value::Time(*origin)),
-            (ReadField::Precise, Body::FollowUp { precise }) => Some(Value::Time(*precise)),
-            (ReadField::Receive, Body::DelayResp { receive, .. }) => Some(Value::Time(*receive)),
-            (ReadField::Requesting, Body::DelayResp { requesting, .. }) => {
-                Some(Value::Port(*requesting))
-            }
-            _ => None,
+/// What a field says that is read, in a message that has it.
+fn value_in(field: Field, message: &PortMessage) -> Option<Value> {
+    let PortMessage { header, body } = message;
+    match (field, body) {
+        (Field::MessageType, _) => Some(Value::Type(Kind::of(body))),
+        (Field::DomainNumber, _) => Some(Value::Number(u16::from(header.domain))),
+        (Field::TwoStepFlag, Body::Sync { .. }) => {
+            Some(Value::Number(u16::from(is_two_step(header))))
         }
-    }
-
-    /// What is wrong with it in a message, beside the one that is to be written.
-    pub(crate) fn wrong_in(self, found: &PortMessage, wanted: &PortMessage) -> Option<WrongField> {
-        if !self.is_read_in(&found.header) {
-            return None;
+        (Field::Correction, _) => Some(Value::Correction(header.correction.0)),
+        (Field::SourcePort, _) => Some(Value::Port(header.source)),
+        (Field::SequenceId, _) => Some(Value::Number(header.sequence.0)),
+        (Field::Timestamp, _) => Some(Value::Time(Kind::of(body), body.timestamp())),
+        (Field::RequestingPort, Body::DelayResp { requesting, .. }) => {
+            Some(Value::Port(*requesting))
         }
-        let found = self.value_in(found)?;
-        let wanted = self.value_in(wanted)?;
-        if found == wanted {
-            return None;
-        }
-        Some(WrongField {
-            field: self,
-            found,
-            wanted,
-        })
+        _ => None,
     }
 }
 
@@ -182,6 +154,14 @@ pub(crate) fn with_read_of(wanted: &PortMessage, found: &PortMessage) -> PortMes
 }
 
 impl Value {
+    /// Whether it can be said beside another one: of times, whether they are of messages of one type.
+    fn is_beside(&self, other: &Value) -> bool {
+        match (self, other) {
+            (Value::Time(one, _), Value::Time(other, _)) => one == other,
+            _ => true,
+        }
+    }
+
     /// By how much it is more than another one, in units of 2^-16 ns, where both are times or corrections that can be said.
     fn excess(&self, other: &Value) -> Option<i128> {
         Some(self.units()?.saturating_sub(other.units()?))
@@ -192,15 +172,10 @@ impl Value {
         match self {
             Value::Correction(TOO_BIG) => None,
             Value::Correction(units) => Some(i128::from(*units)),
-            Value::Time(timestamp) => Some(units_of(*timestamp)),
+            Value::Time(_, timestamp) => Some(ScaledTime::join(*timestamp, 0).signed_units()),
             Value::Type(_) | Value::Number(_) | Value::Port(_) => None,
         }
     }
-}
-
-/// A timestamp in units of 2^-16 ns.
-fn units_of(timestamp: Timestamp) -> i128 {
-    ScaledTime::join(timestamp, 0).signed_units()
 }
 
 impl Display for Value {
@@ -211,7 +186,7 @@ impl Display for Value {
             Value::Correction(TOO_BIG) => f.write_str("too big"),
             Value::Correction(units) => write!(f, "{}", Length(i128::from(*units))),
             Value::Port(identity) => write!(f, "{}", Identity(identity)),
-            Value::Time(timestamp) => write!(f, "{}", Moment(ScaledTime::join(*timestamp, 0))),
+            Value::Time(_, timestamp) => write!(f, "{}", Moment(ScaledTime::join(*timestamp, 0))),
         }
     }
 }
@@ -228,9 +203,7 @@ impl Display for WrongField {
         write!(
             f,
             "{} is {}; wanted is {}",
-            self.field.name(),
-            self.found,
-            self.wanted
+            self.name, self.found, self.wanted
         )?;
         match self.excess() {
             None => Ok(()),
