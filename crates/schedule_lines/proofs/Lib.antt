@@ -16,3 +16,5 @@ pub mod ToldLines
 pub mod ShownTexts
 pub mod LineTexts
 pub mod Values
+mod Asked
+mod Traced

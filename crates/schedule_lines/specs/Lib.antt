@@ -1,3 +1,4 @@
+pub mod Inner
 pub mod EventKind
 pub mod Json
 pub mod Line
@@ -5,3 +6,6 @@ pub mod Ranges
 pub mod TranscriptLine
 pub mod Written
 pub mod Keys
+pub mod Needed
+pub mod Refusal
+pub mod Wanted

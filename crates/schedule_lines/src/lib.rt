@@ -5,9 +5,10 @@
 mod event_kind;
 pub mod laws;
 mod reading;
+mod refusal;
+mod wanted;
 
 pub use event_kind::EventKind;
-pub use reading::{
-    Line, TranscriptLine, clock_in, difference_in, line_value, name_in, octets_in, signed_octet_in,
-    whole_below,
-};
+pub use reading::{Line, TranscriptLine, line_value};
+pub use refusal::Refusal;
+pub use wanted::{Part, Wanted};
