@@ -1,5 +1,1 @@
-mod Asked
-mod AskedTold
-mod Searched
-mod Told
 mod Values

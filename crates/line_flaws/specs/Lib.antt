@@ -1,7 +1,3 @@
-pub mod Keys
-pub mod Read
+pub mod Needed
 pub mod Sound
-pub mod Told
 pub mod Truth
-pub mod Wanted
-pub mod Inner

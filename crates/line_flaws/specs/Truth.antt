@@ -1,24 +1,24 @@
 -- What a flaw says, which is so of the line. Of the octets that it quotes of values, of a key near another, and of why
 -- octets are no JSON, nothing is said here.
-use Rattle.std.specs.Prelude.{◌≡◌, ◌≢◌, ◌⊎◌, ℕ, List, codes, false, if◌then◌else◌, Option, Some, None, is_some, IsSome}
-use Rattle.std.specs.Prelude.{[], ◌∷◌, ◌++◌, length, IsSomeAnd, All, Contains}
+use Rattle.std.specs.Prelude.{◌≡◌, ◌≢◌, ◌⊎◌, ℕ, List, codes, Option, Some, None, IsSome}
+use Rattle.std.specs.Prelude.{[], ◌∷◌, ◌++◌, All}
 use Rattle.std.specs.Str.{IsUtf8}
 use Rattle.serde_json.specs.Data.{Data}
 use Rattle.serde_json.specs.Find.{get, as_object}
 use Rattle.network_model.specs.declared.node.NodeSpec.{NodeSpec}
 use Rattle.trace_model.specs.declared.line.TraceLine.{TraceLine}
-use Rattle.schedule_lines.specs.Json.{has_keys}
 use Rattle.schedule_lines.specs.Line.{line_of}
 use Rattle.schedule_lines.specs.TranscriptLine.{transcript_line_of}
 use Rattle.schedule_lines.specs.declared.reading.schedule.Line.TheVariants as schedules
 use Rattle.schedule_lines.specs.declared.reading.transcript.TranscriptLine.TheVariants as transcripts
-use Rattle.line_flaws.specs.Keys.{needed_keys}
+use Rattle.line_flaws.specs.Needed.{needed}
 use Rattle.line_object.specs.Key.{key_text}
-use Rattle.line_flaws.specs.Wanted.{HasWanted, HasWrongPart, wanted_at}
+use Rattle.schedule_lines.specs.Refusal.{IsRefused}
+use Rattle.schedule_lines.specs.Wanted.{HasWanted}
+use Rattle.schedule_lines.specs.declared.refusal.Refusal.TheVariants as refusals
 use Rattle.line_flaws.specs.declared.flaw.Flaw.{Flaw}
 use Rattle.line_flaws.specs.declared.flaw.FileForm.{FileForm}
 use Rattle.line_flaws.specs.declared.flaw.FileForm.TheVariants.{Schedule, Transcript}
-use Rattle.line_object.specs.declared.key.Key.{Key}
 use Rattle.line_object.specs.declared.key.Key.TheVariants as keys
 use Rattle.line_flaws.specs.declared.flaw.Flaw.TheVariants as flaws
 
@@ -37,44 +37,22 @@ IsNodeLine d = ((node : NodeSpec) × (line_of d ≡ Some (schedules.Node node)))
 abbrev pub IsEventLine : ℕ → Data → Type 0
 IsEventLine number d = (line : TraceLine) × (transcript_line_of d ≡ Some (transcripts.Event number line))
 
--- a key is one that the line needs
-abbrev pub IsNeeded : FileForm → Data → Key → Type 0
-IsNeeded form d key = IsSomeAnd (needed_keys form d) (λ needed. Contains needed key)
-
--- the key that says what the line is: `ev`, or where that isn't there `kind`
-abbrev pub telling_key : Data → Key
-telling_key d = if is_some (get (codes "ev") d) then keys.Ev else keys.Kind
-
--- a key says what the line is, or is one that such a line needs
-abbrev pub IsAsked : FileForm → Data → Key → Type 0
-IsAsked form d key = (key ≡ telling_key d) ⊎ IsNeeded form d key
-
--- each key that the line needs is there, with a value that is wanted
-abbrev pub HasNeeded : FileForm → Data → Type 0
-HasNeeded form d = IsSomeAnd (needed_keys form d) (All (HasWanted d))
-
--- the value hasn't just as many keys as the line needs
-abbrev pub HasOthers : FileForm → Data → Type 0
-HasOthers form d = IsSomeAnd (needed_keys form d) (λ needed. has_keys (length needed) d ≡ false)
-
 -- octets are, in its quotes, a key of the value that the line doesn't need
 abbrev pub IsOther : FileForm → Data → List ℕ → Type 0
 IsOther form d octets = (name : List ℕ) × (octets ≡ 34 ∷ (name ++ 34 ∷ [])) × IsSome (get name d)
-    × IsSomeAnd (needed_keys form d) (All (λ key. key_text key ≢ name))
+    × All (λ key. key_text key ≢ name) (needed form d)
 
 -- a flaw of the value of a line of a form, after so many events
 abbrev pub IsSoOfValue : FileForm → ℕ → Data → Flaw → Type 0
 IsSoOfValue form events d (flaws.NoText octet) = ⊥
 IsSoOfValue form events d (flaws.NoJson octet why) = ⊥
 IsSoOfValue form events d (flaws.NoObject found) = as_object d ≡ None
-IsSoOfValue form events d (flaws.NoKind near) =
-    IsSome (as_object d) × (get (codes "ev") d ≡ None) × (get (codes "kind") d ≡ None)
-IsSoOfValue form events d (flaws.Missing key near) = (get (key_text key) d ≡ None) × IsNeeded form d key
-IsSoOfValue form events d (flaws.Wrong key found) = (wanted_at key d ≡ Some false) × IsAsked form d key
-IsSoOfValue form events d (flaws.WrongPart key part found) =
-    (wanted_at key d ≡ Some false) × HasWrongPart d key part × IsNeeded form d key
+IsSoOfValue form events d (flaws.NoKind near) = IsSome (as_object d) × IsRefused d (needed form d) refusals.NoKind
+IsSoOfValue form events d (flaws.Missing key near) = IsRefused d (needed form d) (refusals.Missing key)
+IsSoOfValue form events d (flaws.Wrong key found) = IsRefused d (needed form d) (refusals.Wrong key)
+IsSoOfValue form events d (flaws.WrongPart key part found) = IsRefused d (needed form d) (refusals.WrongPart key part)
 IsSoOfValue form events d (flaws.TooMuch key kind out) =
-    HasNeeded form d × HasOthers form d × ((key.now ≡ []) ⊎ IsOther form d key.now)
+    IsRefused d (needed form d) refusals.TooMuch × ((key.now ≡ []) ⊎ IsOther form d key.now)
 IsSoOfValue form events d (flaws.HasOutcome) =
     (form ≡ Schedule) × HasWanted d keys.Ev × IsSome (get (codes "n") d) × IsSome (get (codes "out") d)
 IsSoOfValue form events d (flaws.NoOutcome) =

@@ -1,13 +1,8 @@
 //! What is wrong with a line.
-ghost use Rattle.std.specs.Prelude.{◌≡◌};
-ghost use Rattle.serde_json.specs.View.{view};
-ghost use Rattle.line_flaws.specs.Wanted.{is_wanted_part, part_wanted, place_of};
-
 use crate::excerpt::Excerpt;
-use crate::json_fault::JsonFault;
-use crate::wanted::Wanted;
+use crate::words::{Words, hint};
 use line_object::Key;
-use serde_json::Value;
+use schedule_lines::{Part, Wanted};
 use std::fmt;
 use std::fmt::{Display, Formatter};
 
@@ -20,25 +15,6 @@ pub enum FileForm {
     Transcript,
 }
 
-/// A part of an array.
-#[derive(Clone, Copy, Debug, PartialEq, Eq)]
-pub enum Part {
-    /// The seconds of a moment.
-    Seconds,
-    /// The nanoseconds of a moment.
-    Nanoseconds,
-    /// The fraction of a moment, in units of 2^-16 ns.
-    Fraction,
-    /// The tag by which the Sync of a report came.
-    SyncTag,
-    /// The tag by which the Follow_Up of a report came.
-    FollowTag,
-    /// The tag by which the Delay_Req of a report left.
-    RequestTag,
-    /// The tag by which the Delay_Resp of a report came.
-    ResponseTag,
-}
-
 /// What is wrong with a line, and what is wanted of it. Octets of the line stand as they are in it;
 /// where those of a value can't be found, since its key has escapes, they are empty.
 #[derive(Clone, Copy, Debug, PartialEq, Eq)]
@@ -47,12 +23,12 @@ pub enum Flaw<'a> {
     NoText {
         octet: usize,
     },
-    /// It isn't JSON: the first octet at which none goes on, counted from 1, and why. Where the line
-    /// ends too early, this is the octet after its last, and of a text without its closing quote that
-    /// of its first quote.
+    /// It isn't JSON: the octet at which none goes on, counted from 1, and why, where that is known. Where
+    /// the line ends too early, this is the octet after its last, and of a text without its closing quote
+    /// that of its first quote.
     NoJson {
         octet: usize,
-        why: JsonFault,
+        hint: Option<&'static str>,
     },
     /// It is a JSON value other than an object.
     NoObject {
@@ -117,60 +93,16 @@ impl Display for FileForm {
     }
 }
 
-impl Part {
-    /// What is wanted of the part.
-    pub fn wanted(self) -> Wanted
-        ensures { result ≡ part_wanted self }
-    {
-        match self {
-            Part::Seconds => Wanted::Whole { bound: 1 << 48 },
-            Part::Nanoseconds => Wanted::Whole {
-                bound: 1_000_000_000,
-            },
-            Part::Fraction => Wanted::Whole { bound: 65_536 },
-            Part::SyncTag => Wanted::Tag,
-            Part::FollowTag => Wanted::TagOrNull,
-            Part::RequestTag => Wanted::Tag,
-            Part::ResponseTag => Wanted::Tag,
-        }
-    }
-
-    /// The place of the part in its array, from 0.
-    pub(crate) fn place(self) -> usize
-        ensures { result ≡ place_of self }
-    {
-        match self {
-            Part::Seconds => 0,
-            Part::Nanoseconds => 1,
-            Part::Fraction => 2,
-            Part::SyncTag => 0,
-            Part::FollowTag => 1,
-            Part::RequestTag => 2,
-            Part::ResponseTag => 3,
-        }
-    }
-
-    /// Whether an array has what is wanted at the place of the part.
-    pub(crate) fn is_in(self, array: &Value) -> bool
-        ensures { result ≡ is_wanted_part self (view array.now) }
-    {
-        match array.get(self.place()) {
-            Some(item) => self.wanted().is_met(item),
-            None => false,
-        }
-    }
-
-    /// The part in words, before and after the key.
-    fn words(self) -> (&'static str, &'static str) {
-        match self {
-            Part::Seconds => ("the seconds of", "are"),
-            Part::Nanoseconds => ("the nanoseconds of", "are"),
-            Part::Fraction => ("the fraction of", "is"),
-            Part::SyncTag => ("the Sync's tag in", "is"),
-            Part::FollowTag => ("the Follow_Up's tag in", "is"),
-            Part::RequestTag => ("the Delay_Req's tag in", "is"),
-            Part::ResponseTag => ("the Delay_Resp's tag in", "is"),
-        }
+/// A part in words, before and after the key.
+fn part_words(part: Part) -> (&'static str, &'static str) {
+    match part {
+        Part::Seconds => ("the seconds of", "are"),
+        Part::Nanoseconds => ("the nanoseconds of", "are"),
+        Part::Fraction => ("the fraction of", "is"),
+        Part::SyncTag => ("the Sync's tag in", "is"),
+        Part::FollowTag => ("the Follow_Up's tag in", "is"),
+        Part::RequestTag => ("the Delay_Req's tag in", "is"),
+        Part::ResponseTag => ("the Delay_Resp's tag in", "is"),
     }
 }
 
@@ -185,7 +117,7 @@ fn write_wrong<W: fmt::Write>(
         [] => write!(f, "{verb} something else")?,
         _ => write!(f, "{verb} {}", Excerpt(found))?,
     }
-    write!(f, "; {wanted}{}", wanted.hint(found))
+    write!(f, "; {}{}", Words(wanted), hint(wanted, found))
 }
 
 /// That a key is missing, and which stands near it.
@@ -206,7 +138,7 @@ fn write_missing_key<W: fmt::Write>(
     write_missing(f, near)?;
     match near {
         Some(_) => Ok(()),
-        None => write!(f, "; {}", Wanted::of(key)),
+        None => write!(f, "; {}", Words(Wanted::of(key))),
     }
 }
 
@@ -246,7 +178,13 @@ impl Display for Flaw<'_> {
     fn fmt<W: fmt::Write>(&self, f: &mut Formatter<W>) -> fmt::Result {
         match self {
             Flaw::NoText { .. } => f.write_str("no UTF-8; wanted is the line in UTF-8"),
-            Flaw::NoJson { why, .. } => write!(f, "no JSON: {why}"),
+            Flaw::NoJson { hint, .. } => {
+                write!(
+                    f,
+                    "no JSON: {}",
+                    hint.unwrap_or("something that JSON doesn't have")
+                )
+            }
             Flaw::NoObject { found } => {
                 write!(
                     f,
@@ -264,7 +202,7 @@ impl Display for Flaw<'_> {
                 write_wrong(f, "is", found, Wanted::of(*key))
             }
             Flaw::WrongPart { key, part, found } => {
-                let (words, verb) = part.words();
+                let (words, verb) = part_words(*part);
                 write!(f, "{words} \"{}\" ", key.text())?;
                 write_wrong(f, verb, found, part.wanted())
             }

@@ -4,12 +4,11 @@ ghost use Rattle.line_flaws.specs.Truth.{IsSoOfOctets};
 use crate::class::Class;
 use crate::flaw::Flaw;
 use arrayvec::ArrayVec;
-use std::fmt::{Display, Formatter};
-use std::{fmt, str};
+use std::str;
 
 /// Why no JSON goes on at an octet.
 #[derive(Clone, Copy, Debug, PartialEq, Eq)]
-pub enum JsonFault {
+enum JsonFault {
     /// There is nothing but blanks.
     Empty,
     /// The line begins with a byte order mark.
@@ -74,13 +73,12 @@ pub enum JsonFault {
     HalfPair,
     /// Brackets nest deeper than 127.
     TooDeep,
-    /// Something else.
-    Other,
 }
 
-impl Display for JsonFault {
-    fn fmt<W: fmt::Write>(&self, f: &mut Formatter<W>) -> fmt::Result {
-        f.write_str(match self {
+impl JsonFault {
+    /// Why, in words.
+    fn text(self) -> &'static str {
+        match self {
             JsonFault::Empty => "nothing; wanted is an object",
             JsonFault::ByteOrderMark => "a byte order mark; wanted is none",
             JsonFault::OpenObject => "the line ends before the } of an object",
@@ -117,8 +115,7 @@ impl Display for JsonFault {
                 "a \\ without an escape; wanted is \\\\, or another escape of JSON",
             JsonFault::HalfPair => "an escape that is half of a character; wanted are both halves",
             JsonFault::TooDeep => "brackets that nest deeper than 127; wanted are fewer",
-            JsonFault::Other => "something that JSON doesn't have",
-        })
+        }
     }
 }
 
@@ -134,11 +131,11 @@ pub(crate) fn json_flaw<'a>(line: &[u8], column: usize) -> Flaw<'a>
     match halt_in(line) {
         Some(halt) => Flaw::NoJson {
             octet: line.len().saturating_sub(halt.left.len()).saturating_add(1),
-            why: halt.why,
+            hint: Some(halt.why.text()),
         },
         None => Flaw::NoJson {
             octet: column,
-            why: JsonFault::Other,
+            hint: None,
         },
     }
 }

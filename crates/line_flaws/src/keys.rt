@@ -1,6 +1,7 @@
 //! Which keys a line has.
-ghost use Rattle.std.specs.Prelude.{◌≡◌, option_map};
-ghost use Rattle.line_flaws.specs.Keys.{is_timed, node_keys, outcome_keys, own_keys, told_keys};
+ghost use Rattle.std.specs.Prelude.{◌≡◌, ◌∷◌, ◌++◌, [], option_map};
+ghost use Rattle.schedule_lines.specs.Needed.{node_keys, outcome_keys, own_keys, reading_keys};
+ghost use Rattle.line_object.specs.declared.key.Key.TheVariants.{Out};
 
 use line_object::Key;
 use schedule_lines::EventKind;
@@ -12,8 +13,8 @@ const OF_PORTS: &[Key] = &[
     Key::Id,
     Key::Port,
     Key::Domain,
-    Key::First,
     Key::Log,
+    Key::First,
 ];
 
 /// The keys of a kind of node.
@@ -43,21 +44,23 @@ pub(crate) fn own_keys(kind: EventKind) -> &'static [Key]
     }
 }
 
-/// Whether an event of a kind has a true moment, and so a reading.
-fn is_timed(kind: EventKind) -> bool
-    ensures { result ≡ is_timed kind }
-{
-    own_keys(kind).contains(&Key::At)
-}
-
-/// The keys that an event of a kind has in a transcript besides, whatever came of it.
+/// The reading of an event of a kind that has one, and `out`.
 pub(crate) fn told_keys(kind: EventKind) -> &'static [Key]
-    ensures { result.now ≡ told_keys (is_timed kind) }
+    ensures { result.now ≡ reading_keys kind ++ (Out ∷ []) }
 {
-    if is_timed(kind) {
-        &[Key::Number, Key::Reading, Key::Out]
-    } else {
-        &[Key::Number, Key::Out]
+    match kind {
+        EventKind::Sync
+        | EventKind::SyncOne
+        | EventKind::Enter
+        | EventKind::Leave
+        | EventKind::Arrive
+        | EventKind::Request => &[Key::Reading, Key::Out],
+        EventKind::Follow
+        | EventKind::Hear
+        | EventKind::Stamped
+        | EventKind::Tick
+        | EventKind::SetMaster
+        | EventKind::StepClock => &[Key::Out],
     }
 }
 

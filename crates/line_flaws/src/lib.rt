@@ -8,14 +8,11 @@ mod flaw;
 mod foreign;
 mod json_fault;
 mod keys;
-pub mod laws;
 mod line;
 mod pieces;
 mod search;
-mod wanted;
+mod words;
 
-pub use flaw::{FileForm, Flaw, FlawAt, Part};
+pub use flaw::{FileForm, Flaw, FlawAt};
 pub use foreign::Foreign;
-pub use json_fault::JsonFault;
 pub use line::{schedule_flaw, transcript_flaw};
-pub use wanted::Wanted;

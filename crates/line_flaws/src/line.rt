@@ -11,7 +11,7 @@ ghost use Rattle.line_flaws.specs.Truth.{IsSo, IsSoOfOctets, IsSoOfValue, IsNode
 
 use crate::flaw::{FileForm, Flaw};
 use crate::json_fault::json_flaw;
-use crate::search::flaw_in;
+use crate::search::flaw_of;
 use schedule_lines::{Line, TranscriptLine, line_value};
 use serde_json::Value;
 use std::alloc::{AllocError, Global};
@@ -52,9 +52,9 @@ fn scheduled_flaw<'a>(line: &'a [u8], value: &Value, events: u64) -> Option<Flaw
     ensures so { IfSome result (IsSoOfValue Schedule events (view value.now)) }
 {
     match Line::of(value) {
-        Some(Line::Event(_)) => None,
-        Some(Line::Node(_)) => misplaced_node(events),
-        None => Some(flaw_in(FileForm::Schedule, line, value)),
+        Ok(Line::Event(_)) => None,
+        Ok(Line::Node(_)) => misplaced_node(events),
+        Err(refusal) => Some(flaw_of(FileForm::Schedule, line, value, refusal)),
     }
 }
 
@@ -81,9 +81,9 @@ fn told_flaw<'a>(line: &'a [u8], value: &Value, events: u64) -> Option<Flaw<'a>>
     ensures so { IfSome result (IsSoOfValue Transcript events (view value.now)) }
 {
     match TranscriptLine::of(value) {
-        Some(TranscriptLine::Event { number, .. }) => misplaced_event(number, events),
-        Some(TranscriptLine::Node(_)) => misplaced_node(events),
-        None => Some(flaw_in(FileForm::Transcript, line, value)),
+        Ok(TranscriptLine::Event { number, .. }) => misplaced_event(number, events),
+        Ok(TranscriptLine::Node(_)) => misplaced_node(events),
+        Err(refusal) => Some(flaw_of(FileForm::Transcript, line, value, refusal)),
     }
 }
 

@@ -1,26 +1,23 @@
-//! The search for the flaw of a line that is JSON.
-ghost use Rattle.std.specs.Prelude.{◌≡◌, ◌++◌, ◌∷◌, [], All, MatchOption, ℕ, true, false, Some, None};
-ghost use Rattle.std.specs.Prelude.{◌≢◌, IfSome, is_some, option_map};
+//! The flaw by which a line that is JSON is refused.
+ghost use Rattle.std.specs.Prelude.{◌≡◌, ◌≢◌, ◌++◌, ◌∷◌, [], All, IfSome, IsSome, ℕ, true, false, None, is_some, option_map};
 ghost use Rattle.serde_json.specs.View.{view};
 ghost use Rattle.serde_json.specs.Find.{as_object, as_str, get};
-ghost use Rattle.schedule_lines.specs.Json.{field, has_items};
+ghost use Rattle.schedule_lines.specs.Json.{field};
+ghost use Rattle.schedule_lines.specs.Refusal.{IsRefused};
+ghost use Rattle.schedule_lines.specs.Wanted.{HasWanted};
+ghost use Rattle.schedule_lines.specs.declared.refusal.Refusal.TheVariants as refusals;
 ghost use Rattle.line_flaws.specs.declared.flaw.FileForm.TheVariants.{Schedule, Transcript};
-ghost use Rattle.line_object.specs.declared.key.Key.TheVariants.{At, Ev, Kind, Node, Out, Tags};
-ghost use Rattle.line_flaws.specs.declared.wanted.Wanted.TheVariants as wanteds;
-ghost use Rattle.line_flaws.specs.Keys.{is_timed, needed_keys, outcome_keys_in, own_keys, told_keys};
+ghost use Rattle.line_object.specs.declared.key.Key.TheVariants.{Ev, Number, Out};
 ghost use Rattle.line_object.specs.Key.{key_text};
-ghost use Rattle.line_flaws.specs.Wanted.{HasWanted, HasWrongPart, IsPartOf, array_of, is_wanted, is_wanted_part};
-ghost use Rattle.line_flaws.specs.Wanted.{part_count, wanted_at, wanted_of};
-ghost use Rattle.line_flaws.specs.Read.{HasJustNeeded};
-ghost use Rattle.line_flaws.specs.Truth.{HasNeeded, HasOthers, IsAsked, IsOther, IsNeeded, IsSoOfValue};
-ghost use Rattle.line_flaws.specs.Inner.Met.{is_met};
+ghost use Rattle.schedule_lines.specs.Needed.{kind_in, needed_of_node, outcome_keys_in};
+ghost use Rattle.line_flaws.specs.Needed.{needed};
+ghost use Rattle.line_flaws.specs.Truth.{IsOther, IsSoOfValue};
 
-use crate::flaw::{FileForm, Flaw, Part};
+use crate::flaw::{FileForm, Flaw};
 use crate::keys::{node_keys, outcome_keys, own_keys, told_keys};
 use crate::pieces::{Members, item_text, plain_name, unquoted, value_text};
-use crate::wanted::Wanted;
 use line_object::Key;
-use schedule_lines::EventKind;
+use schedule_lines::{EventKind, Refusal};
 use serde_json::Value;
 
 /// A line, the value that it is, and the form that it isn't a line of.
@@ -31,29 +28,46 @@ struct Search<'a, 'v> {
     form: FileForm,
 }
 
-/// The keys that a line may have.
+/// The keys that a line needs.
 #[derive(Clone, Copy)]
 struct Allowed {
     /// Those of all events, or of the kind of node.
     common: &'static [Key],
     /// Those of the kind of event.
     own: &'static [Key],
-    /// That of the reading, and those of all outcomes.
+    /// That of the reading, and `out`.
     told: &'static [Key],
     /// Those of the outcome.
     outcome: &'static [Key],
+    /// That of the event's number.
+    number: &'static [Key],
 }
 
 impl Allowed {
+    /// These alone.
+    fn only(common: &'static [Key]) -> Allowed
+        ensures { (result.common.now ≡ common.now) × (result.own.now ≡ []) × (result.told.now ≡ [])
+            × (result.outcome.now ≡ []) × (result.number.now ≡ []) }
+    {
+        Allowed {
+            common,
+            own: &[],
+            told: &[],
+            outcome: &[],
+            number: &[],
+        }
+    }
+
     /// Whether a key is one of these, without its quotes.
     fn has(self, name: &[u8]) -> bool
         ensures { result ≡ false → All (λ key. key_text key ≢ name.now)
-            (self.common.now ++ (self.own.now ++ (self.told.now ++ self.outcome.now))) }
+            (self.common.now ++ (self.own.now ++ (self.told.now ++ (self.outcome.now ++ self.number.now)))) }
     {
         is_among(self.common, name)
             || is_among(self.own, name)
             || is_among(self.told, name)
             || is_among(self.outcome, name)
+            || is_among(self.number, name)
     }
 }
 
@@ -90,12 +104,36 @@ fn key_near<'a>(line: &'a [u8], keys: &[Key], allowed: Allowed) -> Option<&'a [u
     None
 }
 
-/// The flaw of a value that isn't a line of the form.
-pub(crate) fn flaw_in<'a>(form: FileForm, line: &'a [u8], value: &Value) -> Flaw<'a>
-    requires { ¬ HasJustNeeded form (view value.now) }
+/// The flaw by which a value is refused.
+pub(crate) fn flaw_of<'a>(
+    form: FileForm,
+    line: &'a [u8],
+    value: &Value,
+    refusal: Refusal,
+) -> Flaw<'a>
+    requires { IsRefused (view value.now) (needed form (view value.now)) refusal }
     ensures { (events : ℕ) → IsSoOfValue form events (view value.now) result }
 {
-    Search { line, value, form }.flaw()
+    let search = Search { line, value, form };
+    match refusal {
+        Refusal::NoKind => search.no_kind(),
+        _ if search.has_outcome() => Flaw::HasOutcome,
+        _ if search.has_no_outcome() => Flaw::NoOutcome,
+        Refusal::Missing { key } => Flaw::Missing {
+            key,
+            near: key_near(line, &[key], search.allowed()),
+        },
+        Refusal::Wrong { key } => Flaw::Wrong {
+            key,
+            found: search.found(key),
+        },
+        Refusal::WrongPart { key, part } => Flaw::WrongPart {
+            key,
+            part,
+            found: item_text(search.found(key), part.place()),
+        },
+        Refusal::TooMuch => search.too_much(),
+    }
 }
 
 impl<'a, 'v> Search<'a, 'v> {
@@ -118,289 +156,137 @@ impl<'a, 'v> Search<'a, 'v> {
         self.value.get(key.text())?.as_str()
     }
 
-    /// The flaw of the value.
-    fn flaw(self) -> Flaw<'a>
-        requires { ¬ HasJustNeeded self.form (view self.value.now) }
+    /// The event that is named.
+    fn kind(self) -> Option<EventKind>
+        ensures { result ≡ kind_in (view self.entry.value.now) }
+    {
+        EventKind::named(self.text_at(Key::Ev)?)
+    }
+
+    /// Whether it is an event of a schedule that has what came of it.
+    fn has_outcome(self) -> bool
+        ensures { result ≡ true → (self.entry.form ≡ Schedule) × HasWanted (view self.entry.value.now) Ev
+            × IsSome (get (key_text Number) (view self.entry.value.now)) × IsSome (get (key_text Out) (view self.entry.value.now)) }
+    {
+        self.form == FileForm::Schedule
+            && self.kind().is_some()
+            && self.has(Key::Number)
+            && self.has(Key::Out)
+    }
+
+    /// Whether it is an event of a transcript that lacks what came of it.
+    fn has_no_outcome(self) -> bool
+        ensures { result ≡ true → (self.entry.form ≡ Transcript) × HasWanted (view self.entry.value.now) Ev
+            × (get (key_text Number) (view self.entry.value.now) ≡ None) × (get (key_text Out) (view self.entry.value.now) ≡ None) }
+    {
+        self.form == FileForm::Transcript
+            && self.kind().is_some()
+            && !self.has(Key::Number)
+            && !self.has(Key::Out)
+    }
+
+    /// That it is no object, or names neither an event nor a node.
+    fn no_kind(self) -> Flaw<'a>
+        requires { IsRefused (view self.value.now) (needed self.form (view self.value.now)) refusals.NoKind }
         ensures { (events : ℕ) → IsSoOfValue self.entry.form events (view self.entry.value.now) result }
     {
-        if !self.value.is_object() {
-            return Flaw::NoObject {
+        if self.value.is_object() {
+            Flaw::NoKind {
+                near: key_near(self.line, &[Key::Ev, Key::Kind], Allowed::only(&[])),
+            }
+        } else {
+            Flaw::NoObject {
                 found: self.line.trim_ascii(),
-            };
-        }
-        if self.has(Key::Ev) {
-            self.event_flaw()
-        } else if self.has(Key::Kind) {
-            self.node_flaw()
-        } else {
-            self.no_kind()
-        }
-    }
-
-    /// The flaw of a node.
-    fn node_flaw(self) -> Flaw<'a>
-        requires unread { ¬ HasJustNeeded self.form (view self.value.now) }
-        requires node { is_some (get (key_text Kind) (view self.value.now)) ≡ true }
-        requires no_event { is_some (get (key_text Ev) (view self.value.now)) ≡ false }
-        ensures { (events : ℕ) → IsSoOfValue self.entry.form events (view self.entry.value.now) result }
-    {
-        let Some(kind) = self.text_at(Key::Kind) else {
-            return self.wrong(Key::Kind);
-        };
-        let Some(common) = node_keys(kind) else {
-            return self.wrong(Key::Kind);
-        };
-        self.flaw_of(
-            Key::Kind,
-            Allowed {
-                common,
-                own: &[],
-                told: &[],
-                outcome: &[],
-            },
-        )
-    }
-
-    /// The flaw of an event.
-    fn event_flaw(self) -> Flaw<'a>
-        requires unread { ¬ HasJustNeeded self.form (view self.value.now) }
-        requires event { is_some (get (key_text Ev) (view self.value.now)) ≡ true }
-        ensures { (events : ℕ) → IsSoOfValue self.entry.form events (view self.entry.value.now) result }
-    {
-        let Some(word) = self.text_at(Key::Ev) else {
-            return self.wrong(Key::Ev);
-        };
-        let Some(kind) = EventKind::named(word) else {
-            return self.wrong(Key::Ev);
-        };
-        match self.form {
-            FileForm::Schedule => self.scheduled_flaw(kind),
-            FileForm::Transcript => self.told_flaw(kind),
-        }
-    }
-
-    /// The flaw of an event of a schedule.
-    fn scheduled_flaw(self, kind: EventKind) -> Flaw<'a>
-        requires unread { ¬ HasJustNeeded self.form (view self.value.now) }
-        requires form { self.form ≡ Schedule }
-        requires event { HasWanted (view self.value.now) Ev }
-        requires keys { needed_keys Schedule (view self.value.now) ≡ Some (Ev ∷ Node ∷ own_keys kind) }
-        ensures { (events : ℕ) → IsSoOfValue self.entry.form events (view self.entry.value.now) result }
-    {
-        if self.has(Key::Number) && self.has(Key::Out) {
-            return Flaw::HasOutcome;
-        }
-        self.flaw_of(
-            Key::Ev,
-            Allowed {
-                common: &[Key::Ev, Key::Node],
-                own: own_keys(kind),
-                told: &[],
-                outcome: &[],
-            },
-        )
-    }
-
-    /// The flaw of an event of a transcript.
-    fn told_flaw(self, kind: EventKind) -> Flaw<'a>
-        requires unread { ¬ HasJustNeeded self.form (view self.value.now) }
-        requires form { self.form ≡ Transcript }
-        requires event { HasWanted (view self.value.now) Ev }
-        requires keys { needed_keys Transcript (view self.value.now)
-            ≡ Some (Ev ∷ Node ∷ (own_keys kind ++ (told_keys (is_timed kind) ++ outcome_keys_in (view self.value.now)))) }
-        ensures { (events : ℕ) → IsSoOfValue self.entry.form events (view self.entry.value.now) result }
-    {
-        if !self.has(Key::Number) && !self.has(Key::Out) {
-            return Flaw::NoOutcome;
-        }
-        let allowed = Allowed {
-            common: &[Key::Ev, Key::Node],
-            own: own_keys(kind),
-            told: told_keys(kind),
-            outcome: &[],
-        };
-        let Some(out) = self.text_at(Key::Out) else {
-            return self.out_flaw(allowed);
-        };
-        let Some(outcome) = outcome_keys(out) else {
-            return self.wrong(Key::Out);
-        };
-        self.flaw_of(Key::Ev, Allowed { outcome, ..allowed })
-    }
-
-    /// The flaw of an `out` that is no text.
-    fn out_flaw(self, allowed: Allowed) -> Flaw<'a>
-        requires text { field as_str (key_text Out) (view self.value.now) ≡ None }
-        requires needed { IsNeeded self.form (view self.value.now) Out }
-        ensures { (events : ℕ) → IsSoOfValue self.entry.form events (view self.entry.value.now) result }
-    {
-        if self.has(Key::Out) {
-            self.wrong(Key::Out)
-        } else {
-            self.missing(Key::Out, allowed)
-        }
-    }
-
-    /// The first flaw of the values of these keys, which the line needs, and else that there are more.
-    fn flaw_of(self, kind: Key, allowed: Allowed) -> Flaw<'a>
-        requires unread { ¬ HasJustNeeded self.form (view self.value.now) }
-        requires keys { needed_keys self.form (view self.value.now)
-            ≡ Some (allowed.common.now ++ (allowed.own.now ++ (allowed.told.now ++ allowed.outcome.now))) }
-        ensures { (events : ℕ) → IsSoOfValue self.entry.form events (view self.entry.value.now) result }
-    {
-        if let Some(flaw) = self.flaw_among(allowed.common, allowed) {
-            return flaw;
-        }
-        if let Some(flaw) = self.flaw_among(allowed.own, allowed) {
-            return flaw;
-        }
-        if let Some(flaw) = self.flaw_among(allowed.told, allowed) {
-            return flaw;
-        }
-        if let Some(flaw) = self.flaw_among(allowed.outcome, allowed) {
-            return flaw;
-        }
-        self.too_much(kind, allowed)
-    }
-
-    /// The first flaw of the values of some keys, which the line needs.
-    fn flaw_among(self, keys: &'static [Key], allowed: Allowed) -> Option<Flaw<'a>>
-        requires { All (IsNeeded self.form (view self.value.now)) keys.now }
-        ensures { MatchOption result (All (HasWanted (view self.entry.value.now)) keys.now)
-            (λ flaw. (events : ℕ) → IsSoOfValue self.entry.form events (view self.entry.value.now) flaw) }
-    {
-        for key in keys {
-            if let Some(flaw) = self.key_flaw(*key, allowed) {
-                return Some(flaw);
             }
         }
-        None
     }
 
-    /// The flaw of a key that the line needs: it is missing, or its value isn't what is wanted.
-    fn key_flaw(self, key: Key, allowed: Allowed) -> Option<Flaw<'a>>
-        requires { IsNeeded self.form (view self.value.now) key }
-        ensures { MatchOption result (HasWanted (view self.entry.value.now) key)
-            (λ flaw. (events : ℕ) → IsSoOfValue self.entry.form events (view self.entry.value.now) flaw) }
+    /// The keys that the line needs.
+    fn allowed(self) -> Allowed
+        ensures { needed self.entry.form (view self.entry.value.now)
+            ≡ result.common.now ++ (result.own.now ++ (result.told.now ++ (result.outcome.now ++ result.number.now))) }
     {
-        match self.value.get(key.text()) {
-            Some(value) => self.value_flaw(key, value),
-            None => Some(self.missing(key, allowed)),
+        if !self.has(Key::Ev) {
+            return Allowed::only(self.node_keys());
         }
-    }
-
-    /// The flaw of a key's value.
-    fn value_flaw(self, key: Key, value: &Value) -> Option<Flaw<'a>>
-        requires value { get (key_text key) (view self.value.now) ≡ Some (view value.now) }
-        requires needed { IsNeeded self.form (view self.value.now) key }
-        ensures { MatchOption result (HasWanted (view self.entry.value.now) key)
-            (λ flaw. (events : ℕ) → IsSoOfValue self.entry.form events (view self.entry.value.now) flaw) }
-    {
-        if !Wanted::of(key).is_met(value) {
-            return Some(self.wrong(key));
-        }
-        match wrong_part(key, value) {
-            Some(part) => Some(self.wrong_at(key, part)),
-            None => None,
-        }
-    }
-
-    /// That a key's value isn't what is wanted.
-    fn wrong(self, key: Key) -> Flaw<'a>
-        requires value { wanted_at key (view self.value.now) ≡ Some false }
-        requires asked { IsAsked self.form (view self.value.now) key }
-        ensures { (events : ℕ) → IsSoOfValue self.entry.form events (view self.entry.value.now) result }
-    {
-        Flaw::Wrong {
-            key,
-            found: self.found(key),
-        }
-    }
-
-    /// That a part of a key's value isn't what is wanted.
-    fn wrong_at(self, key: Key, part: Part) -> Flaw<'a>
-        requires key { wanted_at key (view self.value.now) ≡ Some false }
-        requires part { HasWrongPart (view self.value.now) key part }
-        requires needed { IsNeeded self.form (view self.value.now) key }
-        ensures { (events : ℕ) → IsSoOfValue self.entry.form events (view self.entry.value.now) result }
-    {
-        Flaw::WrongPart {
-            key,
-            part,
-            found: item_text(self.found(key), part.place()),
-        }
-    }
-
-    /// That a key is missing, with the first near it that has no place.
-    fn missing(self, key: Key, allowed: Allowed) -> Flaw<'a>
-        requires missing { get (key_text key) (view self.value.now) ≡ None }
-        requires needed { IsNeeded self.form (view self.value.now) key }
-        ensures { (events : ℕ) → IsSoOfValue self.entry.form events (view self.entry.value.now) result }
-    {
-        Flaw::Missing {
-            key,
-            near: key_near(self.line, &[key], allowed),
-        }
-    }
-
-    /// That neither an event nor a node is named.
-    fn no_kind(self) -> Flaw<'a>
-        requires object { is_some (as_object (view self.value.now)) ≡ true }
-        requires event { is_some (get (key_text Ev) (view self.value.now)) ≡ false }
-        requires node { is_some (get (key_text Kind) (view self.value.now)) ≡ false }
-        ensures { (events : ℕ) → IsSoOfValue self.entry.form events (view self.entry.value.now) result }
-    {
-        let allowed = Allowed {
-            common: &[],
-            own: &[],
-            told: &[],
-            outcome: &[],
+        let Some(kind) = self.kind() else {
+            return Allowed::only(&[Key::Ev]);
         };
-        Flaw::NoKind {
-            near: key_near(self.line, &[Key::Ev, Key::Kind], allowed),
+        let scheduled = Allowed {
+            own: own_keys(kind),
+            ..Allowed::only(&[Key::Ev, Key::Node])
+        };
+        match self.form {
+            FileForm::Schedule => scheduled,
+            FileForm::Transcript => Allowed {
+                told: told_keys(kind),
+                outcome: self.outcome_keys(),
+                number: &[Key::Number],
+                ..scheduled
+            },
         }
     }
 
-    /// Whether a key of the line, without escapes, is one of the value that isn't allowed.
-    fn is_other(self, key: &[u8], allowed: Allowed) -> bool
-        requires { needed_keys self.form (view self.value.now)
-            ≡ Some (allowed.common.now ++ (allowed.own.now ++ (allowed.told.now ++ allowed.outcome.now))) }
+    /// The keys that a node needs.
+    fn node_keys(self) -> &'static [Key]
+        ensures { result.now ≡ needed_of_node (view self.entry.value.now) }
+    {
+        let keys = match self.text_at(Key::Kind) {
+            Some(kind) => node_keys(kind),
+            None => None,
+        };
+        keys.unwrap_or(&[Key::Kind])
+    }
+
+    /// The keys that tell what came of an event, beside `out`.
+    fn outcome_keys(self) -> &'static [Key]
+        ensures { result.now ≡ outcome_keys_in (view self.entry.value.now) }
+    {
+        let keys = match self.text_at(Key::Out) {
+            Some(out) => outcome_keys(out),
+            None => None,
+        };
+        keys.unwrap_or(&[])
+    }
+
+    /// Whether a key of the line, without escapes, is one of the value that the line doesn't need.
+    fn is_other(self, key: &[u8]) -> bool
         ensures { result ≡ true → IsOther self.entry.form (view self.entry.value.now) key.now }
     {
         let Some(name) = plain_name(key) else {
             return false;
         };
-        if allowed.has(name.as_bytes()) {
+        if self.allowed().has(name.as_bytes()) {
             return false;
         }
         self.value.get(name).is_some()
     }
 
-    /// The first key of the line, without escapes, that isn't allowed.
-    fn key_too_much(self, allowed: Allowed) -> Option<&'a [u8]>
-        requires { needed_keys self.form (view self.value.now)
-            ≡ Some (allowed.common.now ++ (allowed.own.now ++ (allowed.told.now ++ allowed.outcome.now))) }
+    /// The first key of the line, without escapes, that it doesn't need.
+    fn key_too_much(self) -> Option<&'a [u8]>
         ensures { IfSome result (λ key. IsOther self.entry.form (view self.entry.value.now) key.now) }
     {
         for member in Members::of(self.line) {
-            if self.is_other(member.key, allowed) {
+            if self.is_other(member.key) {
                 return Some(member.key);
             }
         }
         None
     }
 
-    /// That a key isn't allowed: the first without escapes, where there is one.
-    fn too_much(self, kind: Key, allowed: Allowed) -> Flaw<'a>
-        requires keys { needed_keys self.form (view self.value.now)
-            ≡ Some (allowed.common.now ++ (allowed.own.now ++ (allowed.told.now ++ allowed.outcome.now))) }
-        requires needed { HasNeeded self.form (view self.value.now) }
-        requires others { HasOthers self.form (view self.value.now) }
+    /// That a key isn't needed: the first without escapes, where there is one.
+    fn too_much(self) -> Flaw<'a>
+        requires { IsRefused (view self.value.now) (needed self.form (view self.value.now)) refusals.TooMuch }
         ensures { (events : ℕ) → IsSoOfValue self.entry.form events (view self.entry.value.now) result }
     {
-        let key: &'a [u8] = match self.key_too_much(allowed) {
+        let key: &'a [u8] = match self.key_too_much() {
             Some(key) => key,
             None => &[],
+        };
+        let kind = if self.has(Key::Ev) {
+            Key::Ev
+        } else {
+            Key::Kind
         };
         let out = if is_among(&OF_OUTCOMES, unquoted(key)) && self.has(Key::Out) {
             Some(self.found(Key::Out))
@@ -413,63 +299,6 @@ impl<'a, 'v> Search<'a, 'v> {
             out,
         }
     }
-}
-
-/// The first part of a key's value that isn't what is wanted, where that is an array.
-fn wrong_part(key: Key, value: &Value) -> Option<Part>
-    requires { is_met (wanted_of key) (view value.now) ≡ true }
-    ensures { MatchOption result (is_wanted key (view value.now) ≡ true) (λ part.
-        (is_wanted key (view value.now) ≡ false) × IsPartOf key part
-        × (has_items (part_count (wanted_of key)) (view value.now) ≡ true)
-        × (is_wanted_part part (view value.now) ≡ false)) }
-{
-    match key {
-        Key::At => wrong_in_moment(value),
-        Key::Reading => wrong_in_moment(value),
-        Key::Tags => wrong_in_tags(value),
-        _ => None,
-    }
-}
-
-/// The first part of an array of three that isn't what is wanted of a moment.
-fn wrong_in_moment(value: &Value) -> Option<Part>
-    requires { has_items 3 (view value.now) ≡ true }
-    ensures { MatchOption result (is_wanted At (view value.now) ≡ true) (λ part.
-        (is_wanted At (view value.now) ≡ false) × (array_of part ≡ wanteds.Moment)
-        × (is_wanted_part part (view value.now) ≡ false)) }
-{
-    if !Part::Seconds.is_in(value) {
-        return Some(Part::Seconds);
-    }
-    if !Part::Nanoseconds.is_in(value) {
-        return Some(Part::Nanoseconds);
-    }
-    if !Part::Fraction.is_in(value) {
-        return Some(Part::Fraction);
-    }
-    None
-}
-
-/// The first part of an array of four that isn't what is wanted of tags.
-fn wrong_in_tags(value: &Value) -> Option<Part>
-    requires { has_items 4 (view value.now) ≡ true }
-    ensures { MatchOption result (is_wanted Tags (view value.now) ≡ true) (λ part.
-        (is_wanted Tags (view value.now) ≡ false) × (array_of part ≡ wanteds.Tags)
-        × (is_wanted_part part (view value.now) ≡ false)) }
-{
-    if !Part::SyncTag.is_in(value) {
-        return Some(Part::SyncTag);
-    }
-    if !Part::FollowTag.is_in(value) {
-        return Some(Part::FollowTag);
-    }
-    if !Part::RequestTag.is_in(value) {
-        return Some(Part::RequestTag);
-    }
-    if !Part::ResponseTag.is_in(value) {
-        return Some(Part::ResponseTag);
-    }
-    None
 }
 
 /// The keys that tell an outcome, beside `out`.
