@@ -1,49 +1,65 @@
 //! What is told behind a finding: other readings and octets that are wrong, at the events that the exchange names.
 
-use crate::found::Found;
+use crate::reported::Case;
 use exchange_check::{Exchange, Finding, Leg, STAYS_MOST, Stay};
 use message_difference::Compared;
 use std::alloc::AllocError;
 
-impl Found<'_> {
-    /// Appends what is found, and of readings and octets what else is wrong in the exchange, in lines that begin with four blanks.
-    pub fn push(&self, text: &mut String) -> Result<(), AllocError> {
-        match (self.finding, self.case.exchange) {
-            (Finding::OtherResults, _) => Ok(()),
-            (Finding::WrongReading { .. } | Finding::Falls { .. }, Some(exchange)) => {
-                write!(text, "    {self}\n")?;
-                self.push_readings(text, &exchange.sync, "Sync")?;
-                self.push_readings(text, &exchange.request, "Delay_Req")
-            }
-            (Finding::OtherOctets { event }, Some(exchange)) => {
-                self.push_message(text, event)?;
-                self.push_others(text, event, exchange)
-            }
-            _ => write!(text, "    {self}\n"),
-        }
+impl Case<'_> {
+    /// Appends what else is wrong with readings of an exchange, in lines that begin with four blanks.
+    pub(crate) fn push_readings(
+        &self,
+        text: &mut String,
+        found: Finding,
+        exchange: &Exchange,
+    ) -> Result<(), AllocError> {
+        self.push_leg(text, found, &exchange.sync, "Sync")?;
+        self.push_leg(text, found, &exchange.request, "Delay_Req")
+    }
+
+    /// Appends how the message of an event and others of an exchange differ from those that ports and clocks write.
+    pub(crate) fn push_octets(
+        &self,
+        text: &mut String,
+        event: u64,
+        exchange: &Exchange,
+    ) -> Result<(), AllocError> {
+        self.push_message(text, event)?;
+        self.push_others(text, event, exchange)
     }
 
     /// Appends what else is wrong with readings of a journey.
-    fn push_readings(&self, text: &mut String, leg: &Leg, name: &str) -> Result<(), AllocError> {
-        self.push_reading(text, leg.arrived.number)?;
-        self.push_reading(text, leg.departed.number)?;
+    fn push_leg(
+        &self,
+        text: &mut String,
+        found: Finding,
+        leg: &Leg,
+        name: &str,
+    ) -> Result<(), AllocError> {
+        self.push_reading(text, found, leg.arrived.number)?;
+        self.push_reading(text, found, leg.departed.number)?;
         for Stay { entered, left } in leg.stays.iter().rev().flatten() {
-            self.push_reading(text, entered.number)?;
-            self.push_reading(text, left.number)?;
+            self.push_reading(text, found, entered.number)?;
+            self.push_reading(text, found, left.number)?;
             if left.reading < entered.reading {
                 let (entered, left) = (entered.number, left.number);
-                self.push_other(text, Finding::Falls { entered, left })?;
+                self.push_other(text, found, Finding::Falls { entered, left })?;
             }
         }
         push_cut(text, leg, name)
     }
 
     /// Appends what is wrong with the reading of an event, where something is.
-    fn push_reading(&self, text: &mut String, event: u64) -> Result<(), AllocError> {
-        let known = self.case.known;
-        match known.evidence.wrong_reading_at(event) {
+    fn push_reading(
+        &self,
+        text: &mut String,
+        found: Finding,
+        event: u64,
+    ) -> Result<(), AllocError> {
+        match self.known.evidence.wrong_reading_at(event) {
             Some(wrong) => self.push_other(
                 text,
+                found,
                 Finding::WrongReading {
                     event,
                     set: wrong.set,
@@ -54,15 +70,16 @@ impl Found<'_> {
     }
 
     /// Appends something else than is found.
-    fn push_other(&self, text: &mut String, finding: Finding) -> Result<(), AllocError> {
-        if finding == self.finding {
+    fn push_other(
+        &self,
+        text: &mut String,
+        found: Finding,
+        other: Finding,
+    ) -> Result<(), AllocError> {
+        if other == found {
             return Ok(());
         }
-        let other = Found {
-            case: self.case,
-            finding,
-        };
-        write!(text, "    {other}\n")
+        self.push_sentence(text, other)
     }
 
     /// Appends how messages of the exchange differ, but for that of an event.
@@ -97,7 +114,7 @@ impl Found<'_> {
 
     /// The same of an event.
     fn push_differing(&self, text: &mut String, but: u64, number: u64) -> Result<(), AllocError> {
-        let known = self.case.known;
+        let known = self.known;
         match known.checker.line_at(number) {
             Some(line) if number != but && !line.writes_right => self.push_message(text, number),
             _ => Ok(()),
@@ -106,7 +123,7 @@ impl Found<'_> {
 
     /// Appends how the message of an event differs from the one that its port or its clock writes.
     fn push_message(&self, text: &mut String, number: u64) -> Result<(), AllocError> {
-        let known = self.case.known;
+        let known = self.known;
         let named = known.named(number);
         let Some(octets) = known.evidence.octets_at(known.checker, number) else {
             return Ok(());

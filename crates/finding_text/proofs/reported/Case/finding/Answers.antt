@@ -1,0 +1,4 @@
+use Rattle.finding_text.proofs.reported.Case.finding.Goals as goal
+
+pub returns : goal.returns
+returns c noted = c.finding.ensures noted
