@@ -18,7 +18,7 @@ ghost use Rattle.exchange_explain.specs.Inner.Explaining.{IsExplaining, IsKeptAl
 
 use crate::flaws::{Flaws, push_foreign};
 use crate::found::push_found;
-use exchange_story::Story;
+use exchange_story::{Story, ToldReasons};
 use explain_input::{FoundInput, Input, Taken};
 use finding_text::Reported;
 use line_flaws::Foreign;
@@ -57,6 +57,8 @@ struct Explaining {
     first: bool,
     /// What was recorded of the lines, and what came of the reports.
     story: Story,
+    /// What was told of reasons.
+    told: ToldReasons,
     /// What is told of the last line, in the one text that all share.
     text: String,
     /// The kind of another input that the line begins with which can't be read.
@@ -232,7 +234,10 @@ impl Explaining {
             return Ok(());
         };
         match transcript.checker() {
-            Some(checker) => self.story.push_report(&mut self.text, checker, reported),
+            Some(checker) => {
+                let story = &self.story;
+                story.push_report(&mut self.told, &mut self.text, checker, reported)
+            }
             None => Ok(()),
         }
     }
@@ -384,6 +389,7 @@ pub fn explain<R: Read, W: Write>(
         flaws: None,
         first,
         story: Story::new(alloc),
+        told: ToldReasons::new(alloc),
         text: String::new(alloc),
         begins: None,
     };

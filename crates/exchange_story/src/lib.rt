@@ -8,6 +8,8 @@ mod refused;
 mod report;
 mod story;
 mod tally;
+mod told_reasons;
 mod wrong_value;
 
 pub use story::Story;
+pub use told_reasons::ToldReasons;

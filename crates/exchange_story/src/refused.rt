@@ -6,9 +6,10 @@ ghost use Rattle.exchange_story.specs.Report.{is_as_told, tells_otherwise, Tells
 
 use crate::past::Past;
 use crate::report::{is_as_told, push_begin, push_reason, push_results, tells_otherwise};
+use crate::told_reasons::ToldReasons;
 use exchange_check::{Results, Why};
 use exchange_table::push_exchange;
-use finding_text::{Case, Found, push_otherwise};
+use finding_text::{Case, push_otherwise};
 use std::alloc::AllocError;
 use story_words::push_lines;
 
@@ -25,19 +26,19 @@ pub(crate) struct Refused<'a> {
 impl Refused<'_> {
     /// Appends the reasons against the report, each with what it met, and then the report's lines and results, and which
     /// message tells otherwise than the readings.
-    pub(crate) fn push(&self, text: &mut String) -> Result<(), AllocError>
+    pub(crate) fn push(&self, before: &mut ToldReasons, text: &mut String) -> Result<(), AllocError>
         ensures { OnOk result ((told : List ℕ) × TellsRefused self.now.case.reported.now self.now.by_messages told
             × (string_bytes text.new ≡ string_bytes text.old ++ told)) }
     {
         push_begin(text, self.case.reported)?;
-        self.push_reasons(text)?;
+        self.push_reasons(before, text)?;
         self.push_moments(text)?;
         push_results(text, self.case.reported, self.by_messages)?;
         self.push_which(text)
     }
 
     /// Appends the reasons, each with what it met.
-    fn push_reasons(&self, text: &mut String) -> Result<(), AllocError>
+    fn push_reasons(&self, before: &mut ToldReasons, text: &mut String) -> Result<(), AllocError>
         ensures { OnOk result ((reasons : List ℕ)
             × TellsReasons (is_as_told self.now.case.reported.now.report self.now.by_messages) (codes "refused, ")
             self.now.case.reported.now.judgement.reasons reasons
@@ -52,6 +53,7 @@ impl Refused<'_> {
             lead = "  and ";
             met.clear();
             self.push_met(&mut met, *why)?;
+            before.keep(*why, self.case.reported.event, &mut met)?;
             push_lines(text, "    ", met.as_str())?;
         }
         Ok(())
@@ -92,9 +94,6 @@ impl Refused<'_> {
         if why == Why::WrongValue {
             return self.push_values(text);
         }
-        match Found::of(&self.case, why) {
-            Some(found) => found.push(text),
-            None => Ok(()),
-        }
+        self.case.push_met(text, why)
     }
 }

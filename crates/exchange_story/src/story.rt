@@ -12,6 +12,7 @@ use crate::past::Pasts;
 use crate::refused::Refused;
 use crate::report::is_sound;
 use crate::tally::Tally;
+use crate::told_reasons::ToldReasons;
 use exchange_check::{Checker, Evidence, KeptLine, TraceLine, TraceOut};
 use finding_text::{Case, Known, Reported, index_of};
 use message_difference::{Compared, Differing};
@@ -163,9 +164,10 @@ impl Story {
 
     /// Appends what is told of the report of the last event: nothing of a sound one; of one that is refused, what the reasons
     /// against it met, its exchange, and where the messages tell other results than the readings, these and which message
-    /// does.
+    /// does. Where a reason met just what was told of it last, that report is named in its place.
     pub fn push_report<'a>(
         &'a self,
+        before: &mut ToldReasons,
         text: &mut String,
         checker: &'a Checker,
         reported: &'a Reported,
@@ -193,7 +195,7 @@ impl Story {
                 None => None,
             },
         };
-        refused.push(text)
+        refused.push(before, text)
     }
 
     /// Appends what is told of all reports: how many there are, and how many fail which conditions. Where one isn't
