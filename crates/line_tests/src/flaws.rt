@@ -1,6 +1,6 @@
 //! What is said of lines that aren't ones, and of input of another kind.
 
-use line_flaws::{Flaw, FlawAt, Foreign, JsonFault, schedule_flaw, transcript_flaw};
+use line_flaws::{Flaw, FlawAt, Foreign, schedule_flaw, transcript_flaw};
 use std::alloc::{AllocError, Global};
 
 /// The whole sentence on the fourth line of a schedule, behind so many events.
@@ -22,13 +22,7 @@ fn sentence(alloc: Global, line: u64, flaw: Option<Flaw<'_>>) -> Result<String, 
 
 /// Whether it says why, as each flaw does but that of octets which are no JSON for a reason that isn't found.
 pub(crate) fn says_why(flaw: &Flaw<'_>) -> bool {
-    !matches!(
-        flaw,
-        Flaw::NoJson {
-            why: JsonFault::Other,
-            ..
-        }
-    )
+    !matches!(flaw, Flaw::NoJson { hint: None, .. })
 }
 
 /// What is said of a line of a schedule, and how many of its beginnings are no JSON, at an octet of theirs or at their end.
@@ -37,9 +31,13 @@ pub(crate) fn of_beginnings(alloc: Global, line: &[u8]) -> anyhow::Result<String
     let mut reasons = 0usize;
     for (count, _) in line.iter().enumerate() {
         let flaw = schedule_flaw(alloc, &line[..count], 0)?;
-        if let Some(Flaw::NoJson { octet, why }) = flaw
+        if let Some(
+            Flaw::NoJson {
+                octet,
+                hint: Some(_),
+            },
+        ) = flaw
             && octet <= count + 1
-            && why != JsonFault::Other
         {
             reasons = reasons.saturating_add(1);
         }

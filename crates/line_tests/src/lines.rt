@@ -16,9 +16,9 @@ const NO_JSON: &str = "no JSON";
 pub(crate) fn of_schedule(alloc: Global, line: &[u8]) -> anyhow::Result<String> {
     let what = match Value::from_slice(alloc, line) {
         Ok(value) => match Line::of(&value) {
-            Some(Line::Node(_)) => "node",
-            Some(Line::Event(_)) => "event",
-            None => "neither",
+            Ok(Line::Node(_)) => "node",
+            Ok(Line::Event(_)) => "event",
+            Err(_) => "neither",
         },
         Err(_) => NO_JSON,
     };
@@ -29,9 +29,9 @@ pub(crate) fn of_schedule(alloc: Global, line: &[u8]) -> anyhow::Result<String> 
 pub(crate) fn of_transcript(alloc: Global, line: &[u8]) -> anyhow::Result<String> {
     let what = match Value::from_slice(alloc, line) {
         Ok(value) => match TranscriptLine::of(&value) {
-            Some(TranscriptLine::Node(_)) => "node",
-            Some(TranscriptLine::Event { .. }) => "event",
-            None => "neither",
+            Ok(TranscriptLine::Node(_)) => "node",
+            Ok(TranscriptLine::Event { .. }) => "event",
+            Err(_) => "neither",
         },
         Err(_) => NO_JSON,
     };
@@ -62,7 +62,7 @@ fn reasoned(alloc: Global, what: &str, flaw: Option<Flaw<'_>>) -> Result<String,
 pub(crate) fn node_written(alloc: Global, line: &[u8]) -> anyhow::Result<String> {
     let value = Value::from_slice(alloc, line)?;
     let mut text = Vec::new(alloc);
-    if let Some(Line::Node(node)) = Line::of(&value) {
+    if let Ok(Line::Node(node)) = Line::of(&value) {
         push_node(&mut text, &node)?;
     }
     Ok(String::from_utf8(text)?)
@@ -72,7 +72,7 @@ pub(crate) fn node_written(alloc: Global, line: &[u8]) -> anyhow::Result<String>
 pub(crate) fn event_written(alloc: Global, line: &[u8]) -> anyhow::Result<String> {
     let value = Value::from_slice(alloc, line)?;
     let mut text = Vec::new(alloc);
-    if let Some(TranscriptLine::Event { number, line }) = TranscriptLine::of(&value) {
+    if let Ok(TranscriptLine::Event { number, line }) = TranscriptLine::of(&value) {
         push_event(&mut text, number, &line)?;
     }
     Ok(String::from_utf8(text)?)

@@ -31,8 +31,8 @@ pub fn read_entry(alloc: Global, line: &[u8]) -> Result<Line, TaskFault>
 {
     let value = read_value(alloc, line)?;
     match Line::of(&value) {
-        Some(entry) => Ok(entry),
-        None => Err(TaskFault::Field),
+        Ok(entry) => Ok(entry),
+        Err(_) => Err(TaskFault::Field),
     }
 }
 
@@ -45,7 +45,7 @@ pub fn read_recorded(alloc: Global, line: &[u8]) -> Result<TranscriptLine, TaskF
 {
     let value = read_value(alloc, line)?;
     match TranscriptLine::of(&value) {
-        Some(entry) => Ok(entry),
-        None => Err(TaskFault::Field),
+        Ok(entry) => Ok(entry),
+        Err(_) => Err(TaskFault::Field),
     }
 }

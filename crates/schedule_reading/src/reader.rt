@@ -38,7 +38,7 @@ impl LineReader {
         let alloc = self.alloc;
         let mut members = LineObject::new();
         if self.parse(line, &mut members)? {
-            if let Some(entry) = Line::of(&members) {
+            if let Ok(entry) = Line::of(&members) {
                 return Ok(entry);
             }
         }
@@ -54,7 +54,7 @@ impl LineReader {
         let alloc = self.alloc;
         let mut members = LineObject::new();
         if self.parse(line, &mut members)? {
-            if let Some(entry) = TranscriptLine::of(&members) {
+            if let Ok(entry) = TranscriptLine::of(&members) {
                 return Ok(entry);
             }
         }

@@ -1,4 +1,4 @@
-use Rattle.std.proofs.Common.{inr, refl}
+use Rattle.std.proofs.Common.{inr, refl, sym}
 use Rattle.std.proofs.lemmas.Result.{err_from_is_err_and}
 use Rattle.schedule_lines.specs.Line.{line_of}
 use Rattle.schedule_reading.proofs.Entries.{unread, was_read}
@@ -9,8 +9,8 @@ returns-in_err-value c =
     let e = err_from_is_err_and c.from_residual.result c.from_residual.ensures.1 in
     rw (e.1, e.2) (unread line_of c.args.line.now _ c.in_err-value.ensures)
 
-pub returns-in-Some : goal.returns-in-Some
-returns-in-Some c = was_read line_of c.args.line.now _ _ c.in_ok-value.ensures c.in-Some.ensures
+pub returns-in-Ok : goal.returns-in-Ok
+returns-in-Ok c = was_read line_of c.args.line.now _ _ c.in_ok-value.ensures (sym c.in-Ok.ensures.0)
 
 pub returns : goal.returns
-returns c = inr (inr refl, was_read line_of c.args.line.now _ _ c.in_ok-value.ensures c.in-None.ensures)
+returns c = inr (inr refl, was_read line_of c.args.line.now _ _ c.in_ok-value.ensures (sym c.in-Err.ensures.0))
