@@ -1,19 +1,19 @@
 """What `ptpx` answers to arguments and an input is what a row says, of each row in the files `*.rows`.
 
 A row has, with tabs between them, the arguments, of which the first is the program's own name, the input, the output, what is said on
-standard error, and the status. In a field
+standard error, and the status. ` | ` stands between arguments, and between inputs, that are answered alike. In a field
 
 - `%` and two hexadecimal digits stand for an octet that can't be seen, and for `%`, `*` and `@`; `%{4096 x}` for so many of one,
   and `%[d4c3 b2a1]` for octets in hexadecimal;
 - a star in what is wanted stands for any text;
 - `@exchange.schedule.jsonl` stands for that file beside this one or of examples/, or with `..4` behind it for its first four lines; with `5 => TEXT`
   for the file with this text as its line 5, and with `5 OLD => NEW` for the file with one text in the place of another in that line."""
+import itertools
 import re
-import subprocess
 import sys
 from pathlib import Path
 
-from program import EXAMPLES, PROGRAM
+from program import EXAMPLES, PROGRAM, ended_of
 
 HERE = Path(__file__).resolve().parent
 
@@ -57,6 +57,16 @@ def is_wanted(field, written):
     return re.fullmatch(b'.*'.join(re.escape(octets(part)) for part in field.split('*')), written, re.DOTALL) is not None
 
 
+def rows():
+    """Each row as it is of one call and one input, and where it stands."""
+    for file in sorted(HERE.glob('*.rows')):
+        for number, row in enumerate(file.read_text().splitlines(), 1):
+            if row and not row.startswith('#'):
+                calls, sent, rest = row.split('\t', 2)
+                for call, one in itertools.product(calls.split(' | '), sent.split(' | ')):
+                    yield f'{call}\t{one}\t{rest}', f'{file.name}:{number}'
+
+
 def flaws(row, output, errors, status):
     """What a row doesn't want of what a program wrote and of how it ended."""
     _, _, *wanted, wanted_status = row.split('\t')
@@ -70,20 +80,13 @@ def flaws(row, output, errors, status):
 def differences(row):
     """What comes of a row that it doesn't want."""
     arguments, sent, *_ = row.split('\t')
-    ended = subprocess.run(arguments.split(' '), executable=PROGRAM, input=given(sent), capture_output=True, timeout=60)
-    return flaws(row, ended.stdout, ended.stderr, ended.returncode)
+    ended = ended_of([octets(it) for it in arguments.split(' ')], given(sent), executable=PROGRAM)
+    return flaws(row, ended.output, ended.errors, ended.status)
 
 
 def main():
-    count, failed = 0, 0
-    for file in sorted(HERE.glob('*.rows')):
-        for number, row in enumerate(file.read_text().splitlines(), 1):
-            if not row or row.startswith('#'):
-                continue
-            count += 1
-            for difference in differences(row):
-                failed += 1
-                print(f'answers: {file.name}:{number}: {difference}, for {row}', file=sys.stderr)
-    if failed or not count:
-        sys.exit(1)
-    print(f'answers: {count} rows')
+    some = list(rows())
+    failed = [f'answers: {place}: {difference}, for {row}' for row, place in some for difference in differences(row)]
+    if failed or not some:
+        sys.exit('\n'.join(failed))
+    print(f'answers: {len(some)} calls')

@@ -80,39 +80,33 @@ class Recording:
         ahead, elapsed = (after[0][0] - before[-1][0]) % 2**16, after[0][1] - before[-1][1]
         return not (1 <= ahead <= REACH and (ahead <= LOST or ahead * SECOND <= 2 * elapsed * self.rate))
 
+    def live(self, first, second, silence, lost=lambda place, life: frozenset()):
+        """Exchanges with these numbers of Syncs in each life, and so many seconds between; of those of each place some messages are lost."""
+        for life, numbers in enumerate([first, second]):
+            self.time += life * silence * SECOND
+            for place, number in enumerate(numbers, life * len(first)):
+                self.exchange(life, number % 2**16, lost(place, life))
+        return self
+
 
 def short(rng, behind, begin, rate, two_step, losses):
     """A recording of a few Syncs, of which messages may be lost."""
-    made = Recording(rate, two_step)
-    first, made.request = rng.choice([0, 7, 65_500]), rng.choice([0, 65_000])
-    numbers = [(first + n) % 2**16 for n in range(behind)]
-    last = numbers[-1]
-    second = {'zero': 0, 'middle': 30_000, 'far behind': (last - 25_536) % 2**16, 'behind': last, 'earlier': (last - 10) % 2**16,
-              'on': (last + 1) % 2**16}[begin]
-    plan = [(0, number) for number in numbers] + [(1, (second + n) % 2**16) for n in range(SECOND_LIFE)]
-    for place, (life, number) in enumerate(plan):
-        if place == behind:
-            made.time += rng.choice([3, 20]) * SECOND
-        if losses == 'halves':
-            # the first life keeps Syncs without their Follow_Ups, or these without their Syncs, and the second the other half
-            lost = {'follow' if life == (place % 2) else 'sync'} if abs(place - behind) < 12 or place < 12 else set()
-        else:
-            lost = {kind for kind in ('sync', 'follow', 'request', 'response') if rng.random() < losses}
-        made.exchange(life, number, lost)
-    return made
+    made, first = Recording(rate, two_step), rng.choice([0, 7, 65_500])
+    made.request, last = rng.choice([0, 65_000]), first + behind - 1
+    second = {'zero': 0, 'middle': 30_000, 'far behind': last - 25_536, 'behind': last, 'earlier': last - 10, 'on': last + 1}[begin]
+
+    def lost(place, life):
+        if losses != 'halves':
+            return {kind for kind in ('sync', 'follow', 'request', 'response') if rng.random() < losses}
+        # the first life keeps Syncs without their Follow_Ups, or these without their Syncs, and the second the other half
+        return {'follow' if life == (place % 2) else 'sync'} if abs(place - behind) < 12 or place < 12 else set()
+    return made.live(range(first, last + 1), range(second, second + SECOND_LIFE), rng.choice([3, 20]), lost)
 
 
 def long(first, begin, rate, two_step, requests, follow_first):
     """A recording of 300 Syncs, and of as many behind 3 s without any."""
-    made = Recording(rate, two_step, requests, follow_first)
-    numbers = [(first + n) % 2**16 for n in range(300)]
-    second = {'0': 0, '1': 1, 'amid': numbers[150], 'ahead': (numbers[-1] + 5000) % 2**16}[begin]
-    for number in numbers:
-        made.exchange(0, number)
-    made.time += 3 * SECOND
-    for n in range(300):
-        made.exchange(1, (second + n) % 2**16)
-    return made
+    second = {'0': 0, '1': 1, 'amid': first + 150, 'ahead': first + 299 + 5000}[begin]
+    return Recording(rate, two_step, requests, follow_first).live(range(first, first + 300), range(second, second + 300), 3)
 
 
 def measured(lines):

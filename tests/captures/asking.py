@@ -1,6 +1,7 @@
 """Asks the reader and the program for a capture's lines, and says what is wrong with what they answer."""
 import collections
 import concurrent.futures
+import dataclasses
 import functools
 import itertools
 import re
@@ -34,9 +35,9 @@ class Case(typing.NamedTuple):
     is_timed: bool = True
 
 
-def is_asked(case):
-    """Whether the program is asked for a case."""
-    return not READER_ALONE and not (PCAP_ALONE and case.octets[:4] == reading.SECTION_TYPE)
+def is_asked(octets):
+    """Whether the program is asked for a capture."""
+    return not READER_ALONE and not (PCAP_ALONE and octets[:4] == reading.SECTION_TYPE)
 
 
 def misread(case, answer):
@@ -56,7 +57,7 @@ def misanswered(case, answer):
         yield difference(ended.output, owed)
     if ended.status != (3 if answer.fault else 0):
         yield f'status {ended.status}'
-    faults = [tuple(int(number) for number in it) for it in FAULT.findall(ended.errors)]
+    faults = [tuple(map(int, it)) for it in FAULT.findall(ended.errors)]
     if faults != ([answer.fault] if answer.fault else []):
         yield f'standard error has {ended.errors[:300]!r}, and the fault is {answer.fault}'
 
@@ -64,20 +65,22 @@ def misanswered(case, answer):
 def difference(written, owed):
     """Where two texts differ first."""
     pairs = enumerate(itertools.zip_longest(written.split(b'\n'), owed.split(b'\n')), 1)
-    place, (one, other) = next((place, pair) for place, pair in pairs if pair[0] != pair[1])
-    said = ['nothing' if line is None else repr(line[:200]) for line in (one, other)]
-    return f'line {place} is {said[0]}, and {said[1]} is owed'
+    place, pair = next((place, pair) for place, pair in pairs if pair[0] != pair[1])
+    one, other = ('nothing' if line is None else repr(line[:200]) for line in pair)
+    return f'line {place} is {one}, and {other} is owed'
 
 
-def answers(case):
-    """What is wrong with the answers to a case, in words, and what was seen."""
-    answer = reading.read(case.octets, None if case.interface is None else case.interface.encode())
-    wrong = list(misread(case, answer))
-    if is_asked(case) and not wrong:
-        wrong = list(misanswered(case, answer))
-    seen = collections.Counter(answer.counts)
-    seen[f'fault {answer.fault[0]}' if answer.fault else 'no fault'] += 1
-    return wrong, seen
+def hold(name, octets, arguments, owed):
+    """Ends where the program doesn't end as is owed over a capture."""
+    try:
+        ended = ask(octets, *arguments, timeout=600)
+    except subprocess.TimeoutExpired:
+        fail(f'{name}: no end', octets)
+    if ended.status != owed.status:
+        fail(f'{name}: status {ended.status}, and {owed.status} is owed', octets)
+    for what, one, other in [('standard output', ended.output, owed.output), ('standard error', ended.errors, owed.errors)]:
+        if one != other:
+            fail(f'{name}: {what}, {difference(one, other)}', octets)
 
 
 def fail(text, octets=None):
@@ -89,30 +92,53 @@ def fail(text, octets=None):
     program.fail(text)
 
 
-def try_one(see, make, number):
-    return see(*make(number))
-
-
-def try_kinds(kinds, what, wanted):
-    """Tries all cases of each kind, which has what sees a case, what makes one of its number, and how many there are; and says what they were. Ends where
-    one of these things was never seen."""
-    seen = collections.Counter()
-    with concurrent.futures.ProcessPoolExecutor(AT_ONCE) as pool:
-        for kind, (see_one, make, count) in kinds.items():
-            for one in pool.map(functools.partial(try_one, see_one, make), range(count()), chunksize=10):
-                seen += one
-            print(f'captures: {count()} {kind}, {what}')
-    missed = [name for name in wanted if name not in seen]
-    if missed:
-        fail(f'nothing {what} had {", ".join(missed)}')
-
-
-def see(name, case):
+def see(name, *case, **more):
     """Ends where the answers to a case are wrong. Else answers what was seen."""
+    case = Case(*case, **more)
+    answer = reading.read(case.octets, None if case.interface is None else case.interface.encode())
     try:
-        wrong, seen = answers(case)
+        wrong = [*misread(case, answer)] or ([*misanswered(case, answer)] if is_asked(case.octets) else [])
     except subprocess.TimeoutExpired:
-        wrong, seen = ['no end within a minute'], None
+        wrong = ['no end within a minute']
     if wrong:
         fail(f'{name}: {"; ".join(wrong)}', case.octets)
-    return seen
+    return answer.counts + collections.Counter([f'fault {answer.fault[0]}' if answer.fault else 'no fault'])
+
+
+@dataclasses.dataclass
+class Made:
+    """So many cases, each of which is made of its number."""
+    count: int
+    make: typing.Callable
+
+    def __call__(self):
+        return self
+
+    def __len__(self):
+        return self.count
+
+    def __getitem__(self, number):
+        return self.make(number)
+
+
+def try_one(module, kind, number):
+    """Sees a case, which a process makes that is given its number alone. It begins with its name, if it has one."""
+    see_one, cases = sys.modules[module].KINDS[kind]
+    case = cases()[number]
+    parts = case if isinstance(case, tuple) else (case,)
+    return see_one(*parts) if isinstance(parts[0], str) else see_one(f'{kind}, number {number}', *parts)
+
+
+def try_kinds(module, what):
+    """Tries all cases of each of a module's kinds, which has what sees a case, and what answers all of them; and says what they were. Ends where one of the
+    things that must have been seen never was."""
+    seen = collections.Counter()
+    with concurrent.futures.ProcessPoolExecutor(AT_ONCE) as pool:
+        for kind, (_, cases) in sys.modules[module].KINDS.items():
+            count = len(cases())
+            for one in pool.map(functools.partial(try_one, module, kind), range(count), chunksize=10):
+                seen += one
+            print(f'captures: {count} {kind}, {what}')
+    missed = [name for name in sys.modules[module].SEEN if name not in seen]
+    if missed:
+        fail(f'nothing {what} had {", ".join(missed)}')

@@ -14,13 +14,14 @@ import judges
 import making
 import measured
 import reading
+import shown
 import texts
 import unwrapping
 import worth
-from asking import EXAMPLE, difference, fail
-from program import ask
+from asking import EXAMPLE, fail, hold
+from program import Ended, ask
 
-SYNC, REQUEST, FOLLOW_UP, RESPONSE = 0, 1, 8, 9
+SYNC, REQUEST, FOLLOW_UP, RESPONSE = 'Sync', 'Delay_Req', 'Follow_Up', 'Delay_Resp'
 
 
 class Packet(typing.NamedTuple):
@@ -55,9 +56,12 @@ def message(packet):
     return unwrapping.unwrapped(making.ETHERNET, packet.octets[:packet.snap])[0] or b''
 
 
+def said_by(packet):
+    return shown.message(message(packet))
+
+
 def kind(packet):
-    octets = message(packet)
-    return octets[0] & 15 if len(octets) >= 34 else None
+    return getattr(said_by(packet), 'kind', None)
 
 
 def with_message(packet, octets):
@@ -69,15 +73,6 @@ def stamp(nanoseconds):
     return seconds.to_bytes(6, 'big') + rest.to_bytes(4, 'big')
 
 
-def stamped(octets):
-    return int.from_bytes(octets[34:40], 'big') * 10**9 + int.from_bytes(octets[40:44], 'big')
-
-
-def sequence(packet):
-    return int.from_bytes(message(packet)[30:32], 'big')
-
-
-# ---- what setups do
 def shifted(packets, by):
     return [it._replace(time=it.time + by) for it in packets]
 
@@ -88,21 +83,11 @@ def drifting(packets, parts):
     return [it._replace(time=it.time + (it.time - first) * parts // 10**9) for it in packets]
 
 
-def mirrored(packets, later):
-    """Each packet is there twice, as a mirror of both directions writes it."""
-    return [copy for it in packets for copy in (it, it._replace(time=it.time + later))]
-
-
-def cut(packets, most):
-    """A snap length."""
-    return [it._replace(snap=most) for it in packets]
-
-
 def at_master(packets):
     """At the master's own port, by its own stamps: Syncs leave when their Follow_Ups say, and requests come when their responses say."""
-    left = {sequence(it): stamped(message(it)) for it in packets if kind(it) == FOLLOW_UP}
-    came = {sequence(it): stamped(message(it)) for it in packets if kind(it) == RESPONSE}
-    times = [left.get(sequence(it)) if kind(it) == SYNC else came.get(sequence(it)) if kind(it) == REQUEST else None for it in packets]
+    left = {said_by(it).sequence: said_by(it).stamp // 2**16 for it in packets if kind(it) == FOLLOW_UP}
+    came = {said_by(it).sequence: said_by(it).stamp // 2**16 for it in packets if kind(it) == RESPONSE}
+    times = [left.get(said_by(it).sequence) if kind(it) == SYNC else came.get(said_by(it).sequence) if kind(it) == REQUEST else None for it in packets]
     return [it._replace(time=time or it.time) for it, time in zip(packets, times)]
 
 
@@ -113,83 +98,76 @@ def coarse(packets, step):
         octets = message(it)
         time = it.time // step * step
         if kind(it) in (FOLLOW_UP, RESPONSE):
-            it = with_message(it, octets[:34] + stamp(stamped(octets) // step * step) + octets[44:])
+            it = with_message(it, octets[:34] + stamp(said_by(it).stamp // 2**16 // step * step) + octets[44:])
         bent.append(it._replace(time=time))
     return bent
 
 
-def of_another(packets, kinds, place, octet):
-    """The messages of these kinds have another identity in this octet."""
-    return [with_message(it, message(it)[:place] + bytes([octet]) + message(it)[place + 1:]) if kind(it) in kinds else it for it in packets]
+def with_octet(packet, place, octet):
+    """The same, with another octet in its message."""
+    octets = message(packet)
+    return with_message(packet, octets[:place] + bytes([octet]) + octets[place + 1:])
 
 
-def another_master(packets):
-    """Half way another master takes over, to which the slave turns."""
+def of_another(packets, kinds, octet):
+    """The messages of these kinds are of another clock."""
+    return [with_octet(it, 27, octet) if kind(it) in kinds else it for it in packets]
+
+
+def of_kinds(packets, *kinds):
+    return [it for it in packets if kind(it) in kinds]
+
+
+def half_way(packets, change):
+    """From the middle on something changes."""
     half = len(packets) // 2
-    return packets[:half] + of_another(packets[half:], (SYNC, FOLLOW_UP, RESPONSE), 27, 0x99)
+    return packets[:half] + change(packets[half:])
 
 
-def another_slave(packets):
-    """Another slave sends requests too."""
-    others = [it._replace(time=it.time + 1000) for it in of_another(packets, (REQUEST,), 27, 0x77) if kind(it) == REQUEST]
+def together(packets, others):
     return sorted([*packets, *others], key=lambda it: it.time)
 
 
 def many_masters(packets):
     """Ten other masters send a Sync each, the first of them a Follow_Up as well."""
-    others = [with_message(it, message(it)[:27] + bytes([0x90 + at]) + message(it)[28:]) for at, it in enumerate(
-        [it for it in packets if kind(it) == SYNC][:10])]
-    others.append(next(of_another([it], (FOLLOW_UP,), 27, 0x90)[0] for it in packets if kind(it) == FOLLOW_UP))
-    return sorted([*packets, *(it._replace(time=it.time + 700) for it in others)], key=lambda it: it.time)
+    others = [with_octet(it, 27, 0x90 + at) for at, it in enumerate(of_kinds(packets, SYNC)[:10])]
+    return together(packets, shifted([*others, with_octet(of_kinds(packets, FOLLOW_UP)[0], 27, 0x90)], 700))
 
 
-def another_domain(packets):
+def other_domains(packets):
     """The same exchange goes on in domains 3 and 7, too."""
-    others = [with_message(it, message(it)[:4] + bytes([domain]) + message(it)[5:])._replace(time=it.time + 900 + domain)
-              for it in packets if kind(it) in (SYNC, FOLLOW_UP) for domain in (7, 3)]
-    return sorted([*packets, *others], key=lambda it: it.time)
+    return together(packets, [with_octet(it, 4, domain)._replace(time=it.time + 900 + domain) for it in of_kinds(packets, SYNC, FOLLOW_UP) for domain in (7, 3)])
 
 
-def without_master(packets):
-    """Half way the master falls silent; the slave goes on asking."""
-    half = len(packets) // 2
-    return packets[:half] + [it for it in packets[half:] if kind(it) == REQUEST]
-
-
-def without_slave(packets):
-    """Half way the slave falls silent."""
-    half = len(packets) // 2
-    return packets[:half] + [it for it in packets[half:] if kind(it) not in (REQUEST, RESPONSE, FOLLOW_UP)]
-
-
-def set_back(packets):
-    """The clock that stamps is set back by 2 s half way."""
-    half = len(packets) // 2
-    return packets[:half] + [it._replace(time=it.time - 2 * 10**9) for it in packets[half:]]
-
-
+# What setups do, and what is to be said of it.
 BENT = {
     'in UTC': (lambda it: shifted(it, -37 * 10**9), [r'all offsets are next to -37 s: .*editcap -t 37 ']),
     'ahead by 5 s': (lambda it: shifted(it, 5 * 10**9), [r'all offsets are next to 5 s: .*editcap -t -5 ']),
     'of a free clock': (lambda it: drifting(it, 20_000), [r'the offset runs away by (19|20)\.\d{3} ppm']),
     'of a slow clock': (lambda it: drifting(it, -5_000), [r'the offset runs away by -(4|5)\.\d{3} ppm']),
-    'mirrored': (lambda it: mirrored(it, 4500), [r'messages with a number that came before: 218, from 4500 to 4500 ns after the first;']),
-    'with a snap length': (lambda it: cut(it, 90), [r'datagrams that are cut short \(205\): 51;']),
+    # each packet is there twice, as a mirror of both directions writes it
+    'mirrored': (lambda it: [copy for one in it for copy in (one, *shifted([one], 4500))],
+                 [r'messages with a number that came before: 218, from 4500 to 4500 ns after the first;']),
+    'with a snap length': (lambda it: [one._replace(snap=90) for one in it], [r'datagrams that are cut short \(205\): 51;']),
     'at the master': (at_master, [r'all 51 requests arrive at the time at which they leave']),
     'with requests that are stamped late': (lambda it: [one._replace(time=one.time + 10**6) if kind(one) == REQUEST else one for one in it],
                             [r'51 of 51 path delays are below 0, the least -', r'times that are before that of the packet before: 51;']),
     'in steps of 0.1 ms': (lambda it: coarse(it, 10**5), [r'45 of 51 path delays are 0 exactly']),
-    'with another master': (another_master, [r'the Syncs of the master end \d+\.\d s before the recording does, and those of 020000fffe112299/1 begin at '
-                                             r'packet \d+; --master 020000fffe112299/1 measures by them',
-                                             r'messages of other masters of the domain: \d+ of 020000fffe112299/1; --master picks one']),
+    # the slave turns to it
+    'with another master': (lambda it: half_way(it, lambda rest: of_another(rest, (SYNC, FOLLOW_UP, RESPONSE), 0x99)),
+                            [r'the Syncs of the master end \d+\.\d s before the recording does, and those of 020000fffe112299/1 begin at '
+                             r'packet \d+; --master 020000fffe112299/1 measures by them',
+                             r'messages of other masters of the domain: \d+ of 020000fffe112299/1; --master picks one']),
     'with ten other masters': (many_masters, [r'messages of other masters of the domain: 2 of 020000fffe112290/1, 1 of 020000fffe112291/1, .*, '
                                               r'1 of 020000fffe112297/1, 2 of further ones; --master picks one']),
-    'with another slave': (another_slave, [r'Delay_Reqs of other slaves of the domain: 51 of 020000fffeaabb77/1; --slave picks one']),
-    'with other domains': (another_domain, [r'messages of other domains: 116 of domain 3, 116 of domain 7; --domain picks one']),
-    'without a master in the end': (without_master, [r'the Syncs of the master end \d+\.\d s before the recording does: it went away']),
-    'without a slave in the end': (without_slave, [r'no report is of the last \d+\.\d s: the slave went away']),
-    'set back': (set_back, [r'the offset runs away by -', r'messages with a number that came before: 1;',
-                            r'times that are before that of the packet before: 1;']),
+    'with another slave': (lambda it: together(it, shifted(of_another(of_kinds(it, REQUEST), (REQUEST,), 0x77), 1000)),
+                           [r'Delay_Reqs of other slaves of the domain: 51 of 020000fffeaabb77/1; --slave picks one']),
+    'with other domains': (other_domains, [r'messages of other domains: 116 of domain 3, 116 of domain 7; --domain picks one']),
+    # the slave goes on asking
+    'without a master in the end': (lambda it: half_way(it, lambda rest: of_kinds(rest, REQUEST)), [r'the Syncs of the master end \d+\.\d s before the recording does: it went away']),
+    'without a slave in the end': (lambda it: half_way(it, lambda rest: of_kinds(rest, SYNC, None)), [r'no report is of the last \d+\.\d s: the slave went away']),
+    'set back': (lambda it: half_way(it, lambda rest: shifted(rest, -2 * 10**9)),
+                 [r'the offset runs away by -', r'messages with a number that came before: 1;', r'times that are before that of the packet before: 1;']),
 }
 
 
@@ -197,15 +175,7 @@ def reads_of(packets):
     """The datagrams of PTP, each with its packet."""
     for place, it in enumerate(packets, 1):
         if message(it):
-            yield measured.Read(place, texts.seconds(it.time), it.time * 2**16, measured.message(message(it)))
-
-
-def said_of(octets, *options):
-    """The lines of the program over a capture with these options, and what it says."""
-    ended = ask(octets, 'measure', *options, timeout=600)
-    if ended.status:
-        fail(f'status {ended.status}: {ended.errors[-300:]!r}', octets)
-    return ended.output, ended.errors
+            yield measured.Read(place, texts.seconds(it.time), it.time * 2**16, said_by(it))
 
 
 def doubts(said):
@@ -220,12 +190,12 @@ def with_corrections(report, line):
 
 def try_good(name, octets):
     """Of a capture in any form: it has no line `beware`, and its statistics are those of its reports."""
-    output, said = said_of(octets, '--full')
-    said = [it.removeprefix('ptpx: ') for it in said.decode().splitlines()]
-    if doubts(said):
+    ended = ask(octets, 'measure', '--full', timeout=600)
+    said = [it.removeprefix('ptpx: ') for it in ended.errors.decode().splitlines()]
+    if ended.status or doubts(said):
         fail(f'{name}, which is good: {doubts(said)}')
     reports = []
-    for line in output.splitlines():
+    for line in ended.output.splitlines():
         it = json.loads(line)
         units = judges.nanoseconds(it['time']) * 2**16
         reports.append(with_corrections(worth.Report(it['line'], units, it['by'], int(it['offset2']), int(it['path2'])), it))
@@ -241,10 +211,7 @@ def try_bent(name, packets, owed):
     octets, reads = written(packets), list(reads_of(packets))
     expected = measured.reckoned(reads, unit='packet')
     heads = [f'{len(packets)} packets, of which {len(reads)} have PTP', f'{len(packets) - len(reads)} packets without PTP']
-    said = texts.told(expected.at_once + heads + expected.told).encode()
-    for one, other in zip(said_of(octets), (''.join(expected.written).encode(), said)):
-        if one != other:
-            fail(f'{name}: {difference(one, other)}', octets)
+    hold(name, octets, ['measure'], Ended(0, ''.join(expected.written).encode(), texts.told(expected.at_once + heads + expected.told).encode()))
     found = doubts(expected.told)
     if len(found) != len(owed) or not all(map(re.match, owed, found)):
         fail(f'{name}: {owed} are owed, and not {found}')

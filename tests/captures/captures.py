@@ -11,7 +11,6 @@ Compared are the lines, the status, and of a fault its number, its octet and the
 captures of that kind alone, and with `--reader` for none: that holds reading.py to the hand's, the maker's and tshark's answers."""
 import collections
 import concurrent.futures
-import functools
 import resource
 
 import cases
@@ -21,7 +20,7 @@ import making
 import pausing
 import reading
 import tables
-from asking import AT_ONCE, EXAMPLE, PCAP_ALONE, READER_ALONE, Case, fail, is_asked, see, try_kinds
+from asking import AT_ONCE, EXAMPLE, PCAP_ALONE, READER_ALONE, fail, is_asked, see, try_kinds
 from cases import SMALL
 from making import SECOND
 from unwrapping import unwrapped
@@ -39,7 +38,7 @@ def try_frames_of(link, rows):
         if of == link:
             capture.packet(place * SECOND, making.bare(packet))
     # what is owed for them is the reader's, which was held against each row
-    see(f'frames.tsv: link type {link}', Case(bytes(capture.octets)))
+    see(f'frames.tsv: link type {link}', bytes(capture.octets))
 
 
 def try_frames():
@@ -58,7 +57,7 @@ def try_frames():
         counts[outcome] += 1
         if datagram is not None:
             told.append((place * SECOND, datagram))
-    see('frames.tsv', Case(bytes(capture.octets), told, counts))
+    see('frames.tsv', bytes(capture.octets), told, counts)
     for link in links:
         try_frames_of(link, rows)
     return len(rows)
@@ -71,7 +70,7 @@ def try_captures():
         answer = reading.read(octets)
         if (answer.fault, answer.packets, answer.text()) != (fault, packets, text):
             fail(f'captures.tsv:{place}: the reader has {answer.fault}, {answer.packets} packets, {answer.text()}')
-        see(f'captures.tsv:{place}', Case(octets))
+        see(f'captures.tsv:{place}', octets)
     return len(rows)
 
 
@@ -82,36 +81,31 @@ def try_interfaces():
         found = [datagram for _, datagram in reading.read(octets, name.encode()).datagrams]
         if found != datagrams:
             fail(f'interfaces.tsv:{place}: the reader has {[datagram.hex() for datagram in found]}')
-        see(f'interfaces.tsv:{place}', Case(octets, interface=name, is_timed=False))
+        see(f'interfaces.tsv:{place}', octets, interface=name, is_timed=False)
     return len(rows)
 
 
 def try_example():
     """The example, of which tshark made the lines beside it."""
     lines = [line.split(' ') for line in EXAMPLE.with_suffix('.lines').read_text().splitlines()]
-    see(EXAMPLE.name, Case(EXAMPLE.read_bytes(), [(judges.nanoseconds(time), bytes.fromhex(octets)) for time, octets in lines]))
+    see(EXAMPLE.name, EXAMPLE.read_bytes(), [(judges.nanoseconds(time), bytes.fromhex(octets)) for time, octets in lines])
 
 
-def see_in_little_memory(name, case):
-    seen = see(name, case)
+def see_in_little_memory(name, *case):
+    seen = see(name, *case)
     # the most that any run took so far
     memory = resource.getrusage(resource.RUSAGE_CHILDREN).ru_maxrss
     if memory > pausing.MEMORY:
-        fail(f'{name}: a run took {memory} KiB', case.octets)
+        fail(f'{name}: a run took {memory} KiB', case[0])
     return seen
 
 
-def named(kind, number):
-    """The name of a case, and the case."""
-    return f'{kind}, number {number}', cases.KINDS[kind][0](number)
-
-
-KINDS = {kind: (see_in_little_memory, functools.partial(named, kind), count) for kind, (_, count) in cases.KINDS.items()}
+KINDS = {kind: (see_in_little_memory, those) for kind, those in cases.KINDS.items()}
 
 
 def compare_with_tshark(name, octets):
     """Compares the answers with what tshark finds in a capture, up to messageLength."""
-    see(name, Case(octets))
+    see(name, octets)
     found = [(time, judges.up_to_length(datagram)) for time, datagram in reading.read(octets).datagrams]
     if found != judges.tshark(octets):
         fail(f'{name}: tshark finds something else', octets)
@@ -125,7 +119,7 @@ def try_edited(name, octets):
     if judges.are_there('tshark'):
         compare_with_tshark(name, octets)
     else:
-        see(name, Case(octets))
+        see(name, octets)
 
 
 def try_others(pool):
@@ -144,7 +138,7 @@ def try_others(pool):
 
 
 def try_pipes():
-    small = [it for it in SMALL if is_asked(Case(bytes(it.octets)))]
+    small = [it for it in SMALL if is_asked(it.octets)]
     for capture in small:
         pausing.try_pauses(capture, ['extract'], reading.read(bytes(capture.octets)).text(), lambda packets, lines: lines)
         pausing.try_octet_by_octet(capture)
@@ -158,7 +152,7 @@ def main():
     count = try_frames(), try_captures() + try_interfaces()
     print('captures: %d packets and %d captures that were worked by hand' % count)
     try_example()
-    try_kinds(KINDS, 'extracted', SEEN)
+    try_kinds(__name__, 'extracted')
     with concurrent.futures.ProcessPoolExecutor(AT_ONCE) as pool:
         try_others(pool)
     if READER_ALONE:

@@ -1,4 +1,4 @@
-"""Cases by kind and number, which a process makes that is given these alone."""
+"""Cases of each kind."""
 import functools
 import random
 
@@ -7,7 +7,7 @@ import exchanging
 import made
 import making
 import reading
-from asking import EXAMPLE, Case
+from asking import EXAMPLE, Case, Made
 from choosing import Wanted
 from making import SECOND
 
@@ -67,53 +67,43 @@ def cut(capture, size):
     return Case(bytes(capture.octets[:size]), capture.lines()[:lines], fault=fault)
 
 
+def cuts_of(captures, make=cut):
+    """Each capture with each number of its octets."""
+    return [make(capture, size) for capture in captures for size in range(len(capture.octets) + 1)]
+
+
 @functools.cache
 def cuts():
-    """Each small capture with each number of its octets."""
-    return [cut(capture, size) for capture in SMALL for size in range(len(capture.octets) + 1)]
+    return cuts_of(SMALL)
 
 
 @functools.cache
 def lengths():
     """Each small capture with other values for each of its lengths."""
-    return [Case(octets) for capture in SMALL for octets in bending.all_lengths(capture)]
+    return [octets for capture in SMALL for octets in bending.all_lengths(capture)]
 
 
-# Of each kind how a case of `extract` is made of its number, and how many there are.
-KINDS = {
-    'made': (case_made, lambda: 600),
-    'cut': (lambda number: cuts()[number], lambda: len(cuts())),
-    'with another length': (lambda number: lengths()[number], lambda: len(lengths())),
-    'bent': (lambda number: Case(bending.bent(number)), lambda: 10_000),
-    f'of {BENT} bent packets each': (lambda number: Case(bending.bent_packets(number, BENT)), lambda: 100),
-}
+# Cases of `extract` of each kind.
+KINDS = {'made': Made(600, case_made), 'cut': cuts, 'with another length': lengths, 'bent': Made(10_000, bending.bent),
+         f'of {BENT} bent packets each': Made(100, lambda number: bending.bent_packets(number, BENT))}
 
 
 def of_every_form(number):
-    """The name and the octets of a capture of some form."""
-    return f'made, number {number}', bytes(made.capture(number).octets)
-
-
-def bent(number):
-    return f'bent, number {number}', bending.bent(number)
+    """A capture of some form."""
+    return bytes(made.capture(number).octets)
 
 
 @functools.cache
 def cuts_of_exchanges():
     """Small captures of exchanges, and of every block, with each number of their octets."""
     small = [exchanging.pcap(exchanging.talk(count=1)), exchanging.pcapng(['eth0', 'eth1'], exchanging.junk(0, 1), exchanging.talk(1, count=1)), SMALL[0], SMALL[2]]
-    return [bytes(capture.octets[:size]) for capture in small for size in range(len(capture.octets) + 1)]
-
-
-def cut_exchanges(number):
-    return f'cut, number {number}', cuts_of_exchanges()[number]
+    return cuts_of(small, lambda capture, size: bytes(capture.octets[:size]))
 
 
 @functools.cache
 def made_by_hand():
     """The captures of exchanging.py, and the example: the name, the octets and what is asked for, of each."""
-    return [('the example', EXAMPLE.read_bytes(), Wanted()),
-            *((name, bytes(capture.octets), wanted) for name, capture, wanted in exchanging.all_made())]
+    return [('the example', EXAMPLE.read_bytes(), Wanted()), *((name, bytes(capture.octets), wanted) for name, capture, wanted in exchanging.all_made())]
 
 
 def is_pcapng(octets):

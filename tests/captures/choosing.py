@@ -4,7 +4,7 @@ import collections
 import typing
 
 import measured
-import reading
+import shown
 from texts import counted, escaped, listed, port, seconds
 
 # How many datagrams are kept until it is known whom to watch, and how many interfaces are looked at.
@@ -30,50 +30,21 @@ class Datagram(typing.NamedTuple):
     """A datagram: the number and the time of its packet, and the message that it is, or the refusal in words."""
     number: int
     time: int
-    octets: bytes
-    said: measured.Message | str
+    said: shown.Message | str
 
     def is_message(self):
         return not isinstance(self.said, str)
 
-    def line(self):
-        return reading.line(self.time, self.octets)
-
-    def heard_by(self, measurer):
-        measurer.hear(measured.Read(self.number, seconds(self.time), self.time * 2**16, self.said))
+    def read(self):
+        return measured.Read(self.number, seconds(self.time), self.time * 2**16, self.said)
 
 
-class Told(typing.NamedTuple):
-    """Domain, slave and master, each with the packet that told it: 0 where it was asked for, and None for both where nothing tells it."""
-    given: Wanted
-    three: list
-
-    def told(self):
-        return self.three
-
-    def watched(self):
-        """The three, or None until all are known."""
-        values = [value for value, _ in self.three]
-        return None if None in values else values
-
-
-def renumbered(report, numbers):
-    """A report of lines as one of packets of these numbers."""
-    return {**report, 'line': numbers[report['line'] - 1], 'tags': [tag and numbers[tag - 1] for tag in report['tags']]}
-
-
-def told_by(wanted, datagrams):
+def watch_of(wanted, datagrams):
     """Whom datagrams are of."""
-    def first(asked, kind, value, is_of):
-        if asked is not None:
-            return asked, 0
-        return next(((value(it.said), it.number) for it in messages if it.said.kind == kind and is_of(it.said)), (None, None))
-
-    messages = [it for it in datagrams if it.is_message()]
-    domain = first(wanted.domain, 'Sync', lambda said: said.domain, lambda said: wanted.master in (None, said.source))
-    master = first(wanted.master, 'Sync', lambda said: said.source, lambda said: said.domain == domain[0])
-    slave = first(wanted.slave, 'Delay_Req', lambda said: said.source, lambda said: said.domain == domain[0])
-    return Told(wanted, [domain, slave, master])
+    watch = measured.Watch(measured.Options(wanted.slave, wanted.master, wanted.domain))
+    for it in datagrams:
+        watch.look(it.read())
+    return watch
 
 
 def is_met(wanted, datagrams):
@@ -88,11 +59,11 @@ class Choice:
     the interface that is measured, or None."""
 
     def __init__(self, wanted, rows):
-        self.wanted, self.looked, self.others, self.measured, self.told = wanted, {}, 0, None, None
+        self.wanted, self.looked, self.others, self.measured, self.watch = wanted, {}, 0, None, None
         # how many datagrams came before the one by which it was known whom to watch, with that one
         self.count = 0
         for row in rows:
-            self.take(row.interface.name, Datagram(row.number, row.time, row.datagram, measured.message(row.datagram)))
+            self.take(row.interface.name, Datagram(row.number, row.time, shown.message(row.datagram)))
 
     def take(self, place, datagram):
         if self.measured is None:
@@ -104,9 +75,9 @@ class Choice:
             return
         self.looked[place].append(datagram)
         if self.measured is None and datagram.is_message() and is_met(self.wanted, self.looked[place]):
-            told = told_by(self.wanted, self.looked[place])
-            if told.watched():
-                self.measured, self.told, self.teller = place, told, datagram.number
+            watch = watch_of(self.wanted, self.looked[place])
+            if watch.known():
+                self.measured, self.watch, self.teller = place, watch, datagram.number
 
     def parts(self):
         """The datagrams at the interface that is measured: those that came too early, and those that are heard."""
@@ -119,7 +90,7 @@ class Choice:
 
     def at_once(self):
         """What is told as soon as it is known whom to watch."""
-        return list(measured.whom(self.told, 'packet')) if self.measured else []
+        return list(measured.whom(self.watch, 'packet')) if self.measured else []
 
     def sentences(self):
         """What is told at the end, but for the packets."""
@@ -128,7 +99,7 @@ class Choice:
             if are_several:
                 yield f'measured at {escaped(self.measured)}'
             early, heard = self.parts()
-            yield from summary(self.told.watched(), early, heard)
+            yield from summary(self.watch.known(), early, heard)
             for place, datagrams in self.looked.items():
                 if place != self.measured:
                     yield f'{counted(len(datagrams), "datagram")} at {escaped(place)}, which isn\'t measured'
@@ -136,7 +107,7 @@ class Choice:
             for place, datagrams in self.looked.items():
                 if are_several:
                     yield f'at {escaped(place)}:'
-                yield from measured.whom(told_by(self.wanted, datagrams), 'packet')
+                yield from measured.whom(watch_of(self.wanted, datagrams), 'packet')
                 yield from summary(None, datagrams, [])
                 yield from callers(self.wanted, datagrams)
         if self.others:
@@ -157,7 +128,7 @@ def summary(watched, early, heard):
     """What is told of datagrams that came too early, and of those that were heard."""
     measurer = measured.Measurer(watched, False)
     for it in heard:
-        it.heard_by(measurer)
+        measurer.hear(it.read())
     counts = measurer.counts
     counts.update(f'{it.said.kind} too early' if it.is_message() else it.said for it in early)
     reads = [(it.time * 2**16, it.said) for it in [*early, *heard]]

@@ -10,11 +10,12 @@ import collections
 import functools
 import random
 
+import bending
 import cases
 import exchanging
 import making
 import reading
-from asking import EXAMPLE, difference, fail, try_kinds
+from asking import EXAMPLE, Made, fail, hold, try_kinds
 from listing import Listing
 from program import ask, ask_to_full_device
 
@@ -56,6 +57,7 @@ def messages(number):
     return bytes(capture.octets)
 
 
+@functools.cache
 def many_interfaces():
     """A message at each of more interfaces than a table has rows, and one more at each of the first."""
     (_, time, sync), capture = next(exchanging.talk()), making.Pcapng()
@@ -80,11 +82,7 @@ def see(name, octets, interface=None):
     """Ends where an answer is wrong. Else answers what was seen."""
     text, seen = owed(octets, interface)
     of_interface = [] if interface is None else ['--interface', interface]
-    said, extracted = (ask(octets, 'extract', *form, *of_interface) for form in (['--list'], []))
-    if said.output != text:
-        fail(f'{name}: {difference(said.output, text)}', octets)
-    if (said.status, said.errors) != (extracted.status, extracted.errors):
-        fail(f'{name}: status {said.status}, standard error {said.errors[:300]!r}, and without --list {extracted.status}, {extracted.errors[:300]!r}', octets)
+    hold(name, octets, ['extract', '--list', *of_interface], ask(octets, 'extract', *of_interface)._replace(output=text))
     return collections.Counter(seen)
 
 
@@ -100,36 +98,18 @@ def see_interfaces(name, octets):
 
 @functools.cache
 def made_by_hand():
-    return [('many interfaces', many_interfaces()), *((name, octets) for name, octets, _ in cases.made_by_hand())]
+    return [(name, octets) for name, octets, _ in cases.made_by_hand()]
 
 
-@functools.cache
-def with_interfaces():
-    """Those that describe interfaces, but for that of very many."""
-    return [(name, octets) for name, octets in made_by_hand()[1:] if cases.is_pcapng(octets)]
-
-
-def of_exchanges(number):
-    return made_by_hand()[number]
-
-
-def of_exchanges_with_interfaces(number):
-    return with_interfaces()[number]
-
-
-def of_messages(number):
-    return f'of messages, number {number}', messages(number)
-
-
-# Of each kind what sees a case, what makes one of its number, and how many there are.
+# Of each kind what sees a case, and the cases. Interfaces are asked for where they are described.
 KINDS = {
-    'of exchanges': (see, of_exchanges, lambda: len(made_by_hand())),
-    'of exchanges at one interface': (see_interfaces, of_exchanges_with_interfaces, lambda: len(with_interfaces())),
-    'of messages by a seed': (see, of_messages, lambda: 200),
-    'of messages at one interface': (see_interfaces, of_messages, lambda: 40),
-    'cut': (see, cases.cut_exchanges, lambda: len(cases.cuts_of_exchanges())),
-    'of every form': (see, cases.of_every_form, lambda: 100),
-    'bent': (see, cases.bent, lambda: 200),
+    'of exchanges': (see, lambda: [('many interfaces', many_interfaces()), *made_by_hand()]),
+    'of exchanges at one interface': (see_interfaces, lambda: [it for it in made_by_hand() if cases.is_pcapng(it[1])]),
+    'of messages by a seed': (see, Made(200, messages)),
+    'of messages at one interface': (see_interfaces, Made(40, messages)),
+    'cut': (see, cases.cuts_of_exchanges),
+    'of every form': (see, Made(100, cases.of_every_form)),
+    'bent': (see, Made(200, bending.bent)),
 }
 
 
@@ -143,5 +123,5 @@ def try_devices():
 
 
 def main():
-    try_kinds(KINDS, 'listed', SEEN)
+    try_kinds(__name__, 'listed')
     try_devices()

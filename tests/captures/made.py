@@ -45,43 +45,26 @@ def tags(rng):
     return [(tag, rng.randbytes(TAGS[tag])) for tag in rng.choices(list(TAGS), k=rng.choice([0, 0, 0, 1, 2, 5]))]
 
 
+def oddity(rng, odd, oddities):
+    """What is odd of a header, as arguments of its maker: nothing as a rule."""
+    return rng.choice(oddities) if odd and rng.random() < 0.2 else {}
+
+
 def udp(rng, piece, odd):
-    oddity = rng.choice(['port', 'source', 'shorter', 'longer', 'tiny']) if odd and rng.random() < 0.2 else ''
-    there = len(piece.octets)
-    if oddity == 'port':
-        return making.udp(piece, port=rng.choice([0, 318, 321, 0x3f01, 65535]))
-    if oddity == 'source':
-        return making.udp(piece, source=rng.randrange(2**16), port=rng.choice([319, 320]))
-    if oddity == 'shorter':
-        return making.udp(piece, length=8 + rng.randint(0, there))
-    if oddity == 'longer':
-        return making.udp(piece, length=rng.choice([8 + there + 1, 65535]))
-    if oddity == 'tiny':
-        return making.udp(piece, length=rng.randrange(8))
-    return making.udp(piece, port=rng.choice([319, 320]))
+    size = 8 + len(piece.octets)
+    it = oddity(rng, odd, [{'port': rng.choice([0, 318, 321, 0x3f01, 65535])}, {'source': rng.randrange(2**16)}, {'length': rng.randint(8, size)},
+                           {'length': rng.choice([size + 1, 65535])}, {'length': rng.randrange(8)}])
+    return making.udp(piece, **{'port': rng.choice([319, 320]), **it})
 
 
 def ipv4(rng, piece, odd):
     options = rng.randbytes(4 * rng.choice([1, 2, 10])) if odd and rng.random() < 0.3 else b''
-    size = 20 + len(options) + len(piece.octets)
-    oddity = rng.choice(['all', 'shorter', 'longer', 'tiny', 'fragment', 'flags', 'protocol', 'version']) if odd and rng.random() < 0.2 else ''
-    if oddity == 'all':
-        return making.ipv4(piece, options, total=0)
-    if oddity == 'shorter' and piece.why == 'datagram':
-        return making.ipv4(piece, options, total=rng.randint(20 + len(options), size))
-    if oddity == 'longer':
-        return making.ipv4(piece, options, total=rng.choice([size + 1, 65535]))
-    if oddity == 'tiny':
-        return making.ipv4(piece, options, total=rng.randrange(1, 20 + len(options)))
-    if oddity == 'fragment':
-        return making.ipv4(piece, options, fragment=rng.choice([0x2000, 0x0001, 0x3fff, 0x1000, 0x6000]))
-    if oddity == 'flags':
-        return making.ipv4(piece, options, fragment=rng.choice([0, 0x8000, 0xc000]))
-    if oddity == 'protocol':
-        return making.ipv4(piece, options, protocol=rng.choice([0, 1, 6, 16, 18, 41, 47, 255]))
-    if oddity == 'version':
-        return making.ipv4(piece, options, version=rng.choice([0, 5, 15]))
-    return making.ipv4(piece, options)
+    head = 20 + len(options)
+    size = head + len(piece.octets)
+    it = oddity(rng, odd, [{'total': 0}, {'total': rng.randint(head, size) if piece.why == 'datagram' else size}, {'total': rng.choice([size + 1, 65535])},
+                           {'total': rng.randrange(1, head)}, {'fragment': rng.choice([0x2000, 0x0001, 0x3fff, 0x1000, 0x6000])},
+                           {'fragment': rng.choice([0, 0x8000, 0xc000])}, {'protocol': rng.choice([0, 1, 6, 16, 18, 41, 47, 255])}, {'version': rng.choice([0, 5, 15])}])
+    return making.ipv4(piece, options, **it)
 
 
 def extensions(rng, odd):
@@ -102,18 +85,9 @@ def extensions(rng, odd):
 def ipv6(rng, piece, odd):
     kinds = extensions(rng, odd)
     size = len(piece.octets) + sum(len(octets) for _, octets in kinds)
-    oddity = rng.choice(['none', 'shorter', 'longer', 'protocol', 'version']) if odd and not kinds and rng.random() < 0.2 else ''
-    if oddity == 'none':
-        return making.ipv6(piece, kinds, length=0)
-    if oddity == 'shorter' and piece.why == 'datagram':
-        return making.ipv6(piece, kinds, length=rng.randint(1, size))
-    if oddity == 'longer':
-        return making.ipv6(piece, kinds, length=rng.choice([size + 1, 65535]))
-    if oddity == 'protocol':
-        return making.ipv6(piece, kinds, protocol=rng.choice([6, 50, 51, 58, 59, 135, 255]))
-    if oddity == 'version':
-        return making.ipv6(piece, kinds, version=rng.choice([0, 5, 7]))
-    return making.ipv6(piece, kinds)
+    it = oddity(rng, odd and not kinds, [{'length': 0}, {'length': rng.randint(1, size) if piece.why == 'datagram' else size}, {'length': rng.choice([size + 1, 65535])},
+                                         {'protocol': rng.choice([6, 50, 51, 58, 59, 135, 255])}, {'version': rng.choice([0, 5, 7])}])
+    return making.ipv6(piece, kinds, **it)
 
 
 def internet(rng, piece, odd):

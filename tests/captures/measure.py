@@ -1,6 +1,6 @@
-"""Holds what `ptpx measure` writes of captures against what it writes of lines: those of the datagrams that are owed at one interface. Which interface
-that is, which of its datagrams are heard, and what is told at the end, says choosing.py over what reading.py finds; of the packets `ptpx extract` tells
-the same.
+"""Holds what `ptpx measure` writes of captures to the reports that the reader of tests/hostile has of the datagrams that are owed at one interface. Which
+interface that is, which of its datagrams are heard, and what is told at the end, says choosing.py over what reading.py finds; of the packets `ptpx extract`
+tells the same.
 
 - Captures of exchanges at one interface and at several, with options and without, are made by exchanging.py.
 - Captures of every form, without exchanges, are those of captures.py, also cut at each octet, bent and broken.
@@ -10,7 +10,6 @@ the same.
 - Ctrl-C in a pipe that keeps it from the program ends a capture as it comes, and what came is told."""
 import collections
 import functools
-import json
 import os
 import random
 import signal
@@ -28,9 +27,9 @@ import measured
 import pausing
 import reading
 import texts
-from asking import EXAMPLE, PCAP_ALONE, difference, fail, try_kinds
+from asking import EXAMPLE, PCAP_ALONE, Made, fail, hold, try_kinds
 from choosing import Wanted
-from program import PROGRAM, TOP, Ended, ask, ask_to_full_device
+from program import PROGRAM, TOP, Ended, ask, ask_to_full_device, begin, lines_from, write
 
 HEAD = b'time,offset_ns,path_ns,by,line\n'
 WHOLE = b'ptpx: all times are of whole microseconds\n'
@@ -49,26 +48,10 @@ class Case(typing.NamedTuple):
     wanted: Wanted = Wanted()
 
 
-def renumbered(line, numbers, is_csv):
-    """The text of a report of lines as one of packets of these numbers."""
-    if is_csv:
-        fields = line.split(',')
-        return ','.join([*fields[:-1], str(numbers[int(fields[-1]) - 1])])
-    return json.dumps(choosing.renumbered(json.loads(line), numbers), separators=(',', ':'))
-
-
 def reports(choice, is_csv):
-    """The reports that are owed: those of the datagrams that are heard, as lines."""
-    head, heard = HEAD if is_csv else b'', choice.heard()
-    if not heard:
-        return head
-    domain, slave, master = choice.told.watched()
-    form = ['--csv'] if is_csv else []
-    said = ask(''.join(it.line() for it in heard).encode(), 'measure', *form, *Wanted(domain, master, slave).arguments())
-    if said.status or not said.output.startswith(head):
-        fail(f'measure of {len(heard)} lines: status {said.status}, {said.errors[:300]!r}')
-    numbers = [it.number for it in heard]
-    return head + ''.join(renumbered(line, numbers, is_csv) + '\n' for line in said.output[len(head):].decode().splitlines()).encode()
+    """The reports that are owed, of the datagrams that are heard."""
+    measurer = choice.watch and measured.Measurer(choice.watch.known(), is_csv)
+    return (HEAD if is_csv else b'') + ''.join(measurer.hear(it.read()) for it in choice.heard()).encode()
 
 
 def fault_text(fault):
@@ -119,41 +102,25 @@ def see(name, octets, wanted=Wanted(), forms=(True,)):
     for is_csv in forms:
         answer, seen = owed(case, is_csv)
         arguments = ['measure', *(['--csv'] if is_csv else []), *wanted.arguments()]
-        try:
-            said = ask(octets, *arguments)
-        except subprocess.TimeoutExpired:
-            fail(f'{name}: no end within a minute', octets)
-        named = f'{name}: {arguments}'
-        if said.status != answer.status:
-            fail(f'{named}: status {said.status}, and {answer.status} is owed', octets)
-        for what, one, other in [('standard output', said.output, answer.output), ('standard error', said.errors, answer.errors)]:
-            if one != other:
-                fail(f'{named}: {what}, {difference(one, other)}', octets)
+        hold(f'{name}: {arguments}', octets, arguments, answer)
         counts.update(seen)
     return counts
 
 
-BOTH = True, False
+def see_both(*case):
+    """The same as a table and as JSON."""
+    return see(*case, forms=(True, False))
 
 
-def of_exchanges(number):
-    return *cases.made_by_hand()[number], BOTH
-
-
-@functools.cache
 def at_one_interface():
     """The captures that are made by hand, each with what its interfaces are called, and with a name that none has."""
-    return [(f'{name} at {one!r}', octets, wanted._replace(interface=one), BOTH)
+    return [(f'{name} at {one!r}', octets, wanted._replace(interface=one))
             for name, octets, wanted in cases.made_by_hand() if cases.is_pcapng(octets) for one in cases.interfaces(octets)]
-
-
-def of_exchanges_at_one(number):
-    return at_one_interface()[number]
 
 
 def taped(number):
     capture, wanted = exchanging.taped(number)
-    return f'taped, number {number}', bytes(capture.octets), wanted, [number % 2 == 0]
+    return bytes(capture.octets), wanted, [number % 2 == 0]
 
 
 def of_bent_exchanges(number):
@@ -163,7 +130,7 @@ def of_bent_exchanges(number):
     octets = bytes(capture.octets)
     for _ in range(rng.choice([1, 1, 2])):
         octets = rng.choice([bending.set_number, inputs.change_octets])(rng, octets)
-    return f'bent exchanges, number {number}', octets
+    return octets
 
 
 # Inputs that begin with no magic: of no octet, of fewer than four, with an LF among these, and with octets that are nearly a magic.
@@ -172,41 +139,31 @@ LINES = [b'', b'\n', b'\n\n', b'\n\n\n\n', b'1\n', b'12\n', b'123\n', b'1 \n\n1 
          b'\n1 00\n1 00\n', b'1.000000000 00\n2 00\nx\n']
 
 
-@functools.cache
 def inputs_of_lines():
-    magics = reading.MAGICS
-    near = [magic[:place] + bytes([magic[place] ^ 1 << bit]) + magic[place + 1:] for magic in magics for place in range(4) for bit in range(8)]
-    rest = {magic: EXAMPLE.read_bytes()[4:400] for magic in near if magic not in magics}
+    """Inputs that are no captures; for an interface one in four is asked."""
+    near = [magic[:place] + bytes([magic[place] ^ 1 << bit]) + magic[place + 1:] for magic in reading.MAGICS for place in range(4) for bit in range(8)]
+    rest = EXAMPLE.read_bytes()[4:400]
     messages = ''.join(reading.line(time, octets) for _, time, octets in exchanging.talk()).encode()
-    return [*LINES, messages, messages[:-1], *(magic + octets for magic, octets in rest.items())]
+    those = [*LINES, messages, messages[:-1], *(magic + rest for magic in dict.fromkeys(near) if magic not in reading.MAGICS)]
+    return [(octets, Wanted(interface=b'eth0' if number % 4 == 0 else None)) for number, octets in enumerate(those)]
 
 
-def of_lines(number):
-    octets = inputs_of_lines()[number]
-    return f'no capture, {octets[:40]!r}', octets, Wanted(interface=b'eth0') if number % 4 == 0 else Wanted(), BOTH
-
-
-@functools.cache
 def edited():
     """What other programs make of the example, where they are there."""
     return list(judges.edited(EXAMPLE)) if judges.are_there('editcap', 'mergecap') else []
 
 
-def of_other_programs(number):
-    return *edited()[number], Wanted(), BOTH
-
-
-# Of each kind what sees a case, what makes one of its number, and how many there are.
+# Of each kind what sees a case, and the cases.
 KINDS = {
-    'of exchanges': (see, of_exchanges, lambda: len(cases.made_by_hand())),
-    'of exchanges at one interface': (see, of_exchanges_at_one, lambda: len(at_one_interface())),
-    'of exchanges by a seed': (see, taped, lambda: 300),
-    'cut': (see, cases.cut_exchanges, lambda: len(cases.cuts_of_exchanges())),
-    'of every form': (see, cases.of_every_form, lambda: 200),
-    'bent': (see, cases.bent, lambda: 400),
-    'of exchanges, bent': (see, of_bent_exchanges, lambda: 500),
-    'that are none, but lines': (see, of_lines, lambda: len(inputs_of_lines())),
-    'by editcap and mergecap': (see, of_other_programs, lambda: len(edited())),
+    'of exchanges': (see_both, cases.made_by_hand),
+    'of exchanges at one interface': (see_both, functools.cache(at_one_interface)),
+    'of exchanges by a seed': (see, Made(300, taped)),
+    'cut': (see, cases.cuts_of_exchanges),
+    'of every form': (see, Made(200, cases.of_every_form)),
+    'bent': (see, Made(400, bending.bent)),
+    'of exchanges, bent': (see, Made(500, of_bent_exchanges)),
+    'that are none, but lines': (see_both, functools.cache(inputs_of_lines)),
+    'by editcap and mergecap': (see_both, functools.cache(edited)),
 }
 
 
@@ -251,11 +208,11 @@ def try_interrupted():
     capture = exchanging.pcap(exchanging.talk(count=3))
     octets, end = bytes(capture.octets), capture.ends[8][0]
     owed_lines = owed(Case(octets[:end]), False)[0].output
-    with subprocess.Popen(['sh', '-c', LIVE, PROGRAM], stdin=subprocess.PIPE, stdout=subprocess.PIPE, stderr=subprocess.PIPE, bufsize=0, start_new_session=True) as process:
-        for begin in range(0, end, 100):
-            pausing.write(process, octets[begin:min(begin + 100, end)])
+    with begin(command=('sh', '-c', LIVE, PROGRAM), errors=subprocess.PIPE, start_new_session=True) as process:
+        for place in range(0, end, 100):
+            write(process, octets[place:min(place + 100, end)])
             time.sleep(0.01)
-        answered = pausing.lines_from(process, owed_lines.count(b'\n'))
+        answered = lines_from(process, owed_lines.count(b'\n'))
         os.killpg(process.pid, signal.SIGINT)
         rest, told = process.communicate(timeout=60)
     if answered + rest != owed_lines or b'ptpx: offsets at a Sync: ' not in told:
@@ -263,7 +220,7 @@ def try_interrupted():
 
 
 def main():
-    try_kinds(KINDS, 'measured', SEEN)
+    try_kinds(__name__, 'measured')
     try_devices()
     try_pipes()
     try_interrupted()

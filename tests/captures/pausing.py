@@ -2,7 +2,6 @@
 import functools
 import itertools
 import os
-import select
 import subprocess
 import tempfile
 
@@ -11,38 +10,10 @@ import reading
 from asking import fail
 from cases import FRAME
 from making import SECOND
-from program import PROGRAM
+from program import PROGRAM, begin, lines_from, write
 
 # No run takes more, in KiB.
 MEMORY = 64 * 1024
-
-# How long a line may take, in seconds.
-PATIENCE = 20
-
-
-def begin(*arguments):
-    return subprocess.Popen([PROGRAM, *arguments], stdin=subprocess.PIPE, stdout=subprocess.PIPE, stderr=subprocess.DEVNULL, bufsize=0)
-
-
-def write(process, octets):
-    """Writes to the program. Where it has ended, its answer shows that."""
-    try:
-        process.stdin.write(octets)
-    except BrokenPipeError:
-        pass
-
-
-def lines_from(process, count):
-    """What the program writes until these are so many lines, or until nothing comes any more."""
-    answered = b''
-    while answered.count(b'\n') < count:
-        ready, _, _ = select.select([process.stdout], [], [], PATIENCE)
-        more = os.read(process.stdout.fileno(), 2**16) if ready else b''
-        if not more:
-            process.kill()
-            break
-        answered += more
-    return answered
 
 
 def try_pauses(capture, arguments, owed, lines_of):

@@ -27,9 +27,11 @@ TOLD = SYNC, SYNC_LEFT, FOLLOW_UP, DELAY_REQ, DELAY_REQ_LEFT, DELAY_RESP
 TYPES = {0: 'Sync', 1: 'Delay_Req', 8: 'Follow_Up', 9: 'Delay_Resp'}
 TIMES = {0: 'originTimestamp', 1: 'originTimestamp', 8: 'preciseOriginTimestamp', 9: 'receiveTimestamp'}
 
-# The fields in which nobody here reads anything: where each begins, and how it is called.
-UNREAD = [(0, 'majorSdoId and messageType'), (1, 'minorVersionPTP and versionPTP'), (2, 'messageLength'), (5, 'minorSdoId'), (6, 'flagField'),
-          (16, 'messageTypeSpecific'), (32, 'controlField'), (33, 'logMessageInterval'), (34, 'the timestamp'), (44, 'the suffix')]
+# The fields in which nobody here reads anything, or not in each message: where each begins, and how it is called. Of two with one octet the first is told.
+UNREAD = [(0, 'majorSdoId'), (0, 'messageType'), (1, 'minorVersionPTP'), (1, 'versionPTP'), (2, 'messageLength'), (5, 'minorSdoId'), (6, 'twoStepFlag'),
+          (6, 'flagField'), (16, 'messageTypeSpecific'), (32, 'controlField'), (33, 'logMessageInterval'), (34, 'the timestamp'), (44, 'the suffix')]
+# The bits of an octet that the first of its two fields has.
+FIRST_OF_TWO = {0: 0xf0, 1: 0xf0, 6: 0x02}
 
 # Why a message can't be read.
 OLD_VERSION, NO_TIME = "202: versionPTP isn't 2", '206: the nanoseconds of the timestamp are 10^9 or more'
@@ -334,11 +336,19 @@ def with_read(found, wanted):
     return bytes(octets)
 
 
+def unread_field(found, wanted, place):
+    """The field that an octet is of, the first that differs there where it has two."""
+    begin = max(it for it, _ in UNREAD if it <= place)
+    names = [name for it, name in UNREAD if it == begin]
+    is_second = place in FIRST_OF_TWO and (found[place] ^ wanted[place]) & FIRST_OF_TWO[place] == 0
+    return names[-1] if is_second or place not in FIRST_OF_TWO and len(names) > 1 else names[0]
+
+
 def rest(found, wanted):
     """What is said of a message that differs in a field that nobody reads."""
     places = [place for place, pair in enumerate(zip(found, wanted)) if pair[0] != pair[1]]
     first = places[0]
-    name = [name for begin, name in UNREAD if begin <= first][-1]
+    name = unread_field(found, wanted, first)
     if name == 'the timestamp':
         name = TIMES[wanted[0] % 16]
     more = f', and {len(places) - 1} more differ' if places[1:] else ''
@@ -622,8 +632,8 @@ def other_octets(messages):
         if unreadable(found) or wrong_fields(found, wanted):
             continue
         first = [place for place, pair in enumerate(zip(found, wanted)) if pair[0] != pair[1]][0]
-        begins[max(place for place, _ in UNREAD if place <= first)] += 1
-    return ''.join([*lines, *(f'  from {name} on: {begins[place]}\n' for place, name in UNREAD if begins[place])])
+        begins[unread_field(found, wanted, first)] += 1
+    return ''.join([*lines, *(f'  from {name} on: {begins[name]}\n' for _, name in UNREAD if begins[name])])
 
 
 def end(bent):

@@ -539,9 +539,9 @@ READ = [
 
 # The same of fields that nobody here reads: a place, and what is replaced in it by what.
 UNREAD = [
-    (5, '"hex":"0012', '"hex":"1012', 'octet 0 from 0, in majorSdoId and messageType, is 10; wanted is 00'),
+    (5, '"hex":"0012', '"hex":"1012', 'octet 0 from 0, in majorSdoId, is 10; wanted is 00'),
     (5, '002c0000', '002c0001', 'octet 5 from 0, in minorSdoId, is 01; wanted is 00'),
-    (9, '002c00000000', '002c00000200', 'octet 6 from 0, in flagField, is 02; wanted is 00'),
+    (9, '002c00000000', '002c00000200', 'octet 6 from 0, in twoStepFlag, is 02; wanted is 00'),
     (5, '00000000001122fffe', '00000001001122fffe', 'octet 19 from 0, in messageTypeSpecific, is 01; wanted is 00'),
     (9, '00010000020000', '00010000030000', 'octet 32 from 0, in controlField, is 03; wanted is 02'),
     (11, '017f00', '017e00', 'octet 33 from 0, in logMessageInterval, is 7e; wanted is 7f'),
@@ -782,6 +782,15 @@ other octets than a port or a clock writes: 2 of 6 messages
 verdict: refused event 13: 708
 """)
 
+    def test_tells_octets_behind_a_message_as_read_by_nobody(self):
+        longer = '017f00000000000000000000"', '017f000000000000000000000000"'
+        # padding, and a part of the message by its messageLength
+        for changes in [longer], [longer, ('"hex":"0112002c', '"hex":"0112002e')]:
+            with self.subTest(changes=changes):
+                text = changed(TRANSCRIPT, *changes, place=11)
+                self.assertIn('"octets":"other"', explain(text, '--json').output)
+                self.assertIn('it has 46 octets; wanted are 44', explain(text).output)
+
     def test_tells_by_how_much_fields_that_are_read_differ(self):
         for place, old, new, said, counted in READ:
             with self.subTest(old=old, new=new):
@@ -866,8 +875,18 @@ can't be followed back to where it was sent, or a stay on it was left twice
                     self.assertRegex(output, f'    the {message} entered a clock by event [0-9]+, .*, and left it twice: '
                                              'by event [0-9]+, line [0-9]+ and by event [0-9]+, line [0-9]+, a leave at T\n')
 
+    def test_tells_once_what_is_behind_several_reports(self):
+        network = (EXAMPLES / 'network.transcript.jsonl').read_text().splitlines(True)
+        # the clock of S1 as it sends the Delay_Req on which three reports rest
+        ended = explain(changed(network, ('"reading":[10,5001000,0]', '"reading":[10,5001005,0]'), place=16))
+        self.assertEqual(ended.status, 1)
+        self.assertEqual(ended.output.count('    event 11, line 17, a request at S1: read is 10.005001005, '), 1)
+        told = [line for line in ended.output.splitlines() if line.startswith(('event ', '    as told'))]
+        self.assertEqual([line.partition(',')[0] for line in told],
+                         ['event 16', 'event 17', '    as told of the report of event 16', 'event 24', '    as told of the report of event 16'])
+
     def test_tells_what_is_wrong_first_before_the_stays_that_are_looked_at(self):
-        octets = 'octet 0 from 0, in majorSdoId and messageType, is {}; wanted is {}'
+        octets = 'octet 0 from 0, in majorSdoId, is {}; wanted is {}'
         reading = 'read is {0}.000000005, the true moment is {0}.000000000, and they differ by 5 ns; wanted is 0 ns, since no event set the clock'
         for lines, message, event, old, new, said in [
             (staying(300, 1), 'Sync', 11, '"hex":"0012', '"hex":"1012', octets.format('10', '00')),

@@ -13,7 +13,6 @@ from told import compact
 
 SYNC, DELAY_REQ, FOLLOW_UP, DELAY_RESP = 0, 1, 8, 9
 UNITS = 2**16
-TOO_BIG = 2**63 - 1
 
 # How many messages are kept until all is known, how many Syncs of a tap are looked at, and how many records count.
 KEPT, LOOKED_AT, RECORDS = 1024, 256, 256
@@ -53,33 +52,8 @@ class Message(typing.NamedTuple):
     def kind(self):
         return self.octets[0] % 16
 
-    @property
-    def domain(self):
-        return self.octets[4]
-
-    @property
-    def is_two_step(self):
-        return bool(self.octets[6] & 2)
-
-    @property
-    def correction(self):
-        return int.from_bytes(self.octets[8:16], 'big', signed=True)
-
-    @property
-    def source(self):
-        return self.octets[20:30]
-
-    @property
-    def number(self):
-        return int.from_bytes(self.octets[30:32], 'big')
-
-    @property
-    def timestamp(self):
-        return self.octets[34:44]
-
-    @property
-    def requesting(self):
-        return self.octets[44:54]
+    def __getattr__(self, field):
+        return getattr(shown.message(self.octets), field)
 
 
 def spread(units):
@@ -198,10 +172,10 @@ class Watch:
             return
         here = self.taps.index(message.tap)
         if self.first is None:
-            other = next((time for number, time in reversed(self.syncs[1 - here]) if number == message.number), None)
+            other = next((time for number, time in reversed(self.syncs[1 - here]) if number == message.sequence), None)
             if other is not None:
                 self.first = here if message.time < other else 1 - here
-        self.syncs[here] = [*self.syncs[here], (message.number, message.time)][-LOOKED_AT:]
+        self.syncs[here] = [*self.syncs[here], (message.sequence, message.time)][-LOOKED_AT:]
 
     def is_known(self):
         return None not in (self.domain, self.master, self.first, *self.taps)
@@ -255,21 +229,21 @@ def needs(kind):
             return None
         if kind == 'delay_req':
             return ['first', 'second', 'from', 'to']
-        if not places['second'].is_two_step:
+        if not places['second'].two_step:
             return ['first', 'second']
-        return ['first', 'second', *(['from'] if places['first'].is_two_step else []), 'to']
+        return ['first', 'second', *(['from'] if places['first'].two_step else []), 'to']
     return complete
 
 
 def why_none(kind, places):
     """Why a closed record is no crossing, or None where it is one."""
     first, second, at_from, at_to = places
-    if any(it is not None and it.correction == TOO_BIG for it in places):
+    if any(it is not None and it.correction == shown.TOO_BIG for it in places):
         return 'too big'
-    if kind == 'sync' and first.is_two_step and not second.is_two_step:
+    if kind == 'sync' and first.two_step and not second.two_step:
         return 'two-step'
     event_from, event_to = (first, second) if kind == 'sync' else (second, first)
-    return 'timestamp' if (at_from or event_from).timestamp != (at_to or event_to).timestamp else None
+    return 'timestamp' if (at_from or event_from).stamp != (at_to or event_to).stamp else None
 
 
 # The fields that are compared, by the octets in which they are, each with the bits that count.
@@ -324,14 +298,14 @@ class Follower:
         if placed is None:
             return
         kind, place = placed
-        closed = self.records[kind].take(place, message, message.number, needs(kind))
+        closed = self.records[kind].take(place, message, message.sequence, needs(kind))
         if closed is None:
             return
         why = why_none(kind, closed)
         if why:
             self.untold[kind].append(why)
         else:
-            self.crossings.append(crossing_of(kind, message.number, closed) | {'from': self.start.decode(), 'to': self.end.decode()})
+            self.crossings.append(crossing_of(kind, message.sequence, closed) | {'from': self.start.decode(), 'to': self.end.decode()})
 
 
 def were(count, word, rest_of_one, rest_of_more):

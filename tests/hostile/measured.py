@@ -10,6 +10,8 @@ from fractions import Fraction
 import shown
 import texts
 import worth
+from shown import message
+from told import compact
 from worth import nanoseconds
 
 # How many lines wait until it is known whom to watch, how many of each kind of message a port holds, and of how many of the master's
@@ -33,8 +35,7 @@ LINE = re.compile(rb'(0|[1-9][0-9]{0,14})(?:\.([0-9]{1,9}))? ((?:[0-9a-fA-F]{2})
 IDENTITIES = [re.compile(form) for form in (
     r'([0-9a-fA-F]{16})/([0-9]{1,5})', r'([0-9a-fA-F]{6}\.[0-9a-fA-F]{4}\.[0-9a-fA-F]{6})-([0-9]{1,5})')]
 
-# A message; a line with what it said; and what completed on either side, with the tick at which it did, when it left and came, and its corrections.
-Message = collections.namedtuple('Message', 'kind domain two_step unicast correction source sequence stamp requesting log')
+# A line with what it said; and what completed on either side, with the tick at which it did, when it left and came, and its corrections.
 Read = collections.namedtuple('Read', 'place time units said')
 Completed = collections.namedtuple('Completed', 'tick bracket tags sequence left came correction')
 
@@ -114,18 +115,6 @@ def options(arguments):
             return None
         said[name[2:]] = value
     return Options(**said)
-
-
-def message(octets):
-    """What a datagram says: a message, or the refusal in words."""
-    refused = shown.refusal(octets)
-    if refused:
-        return refused
-    kind, least = shown.TYPES[octets[0] % 16]
-    correction, sequence = shown.number(octets[8:16], signed=True), shown.number(octets[30:32])
-    stamp = (shown.number(octets[34:40]) * 10**9 + shown.number(octets[40:44])) * 2**16
-    requesting = octets[44:54] if least == 54 else None
-    return Message(kind, octets[4], bool(octets[6] & 2), bool(octets[6] & 4), correction, octets[20:30], sequence, stamp, requesting, shown.number(octets[33:34], signed=True))
 
 
 def seconds(units):
@@ -389,28 +378,17 @@ class Measurer:
         correction = self.port.answered.correction if by == 'response' else self.port.synced.correction
         self.reports.append(worth.Report(read.place, read.units, by, offset2, path2, correction))
         if self.csv:
-            return f'{read.time},{nanoseconds(offset2)},{nanoseconds(path2)},{by},{read.place}{self.columns() if self.full else ""}\n'
-        tags = ','.join('null' if tag is None else str(tag) for tag in tags)
-        if self.full:
-            told = {'by': f'"{by}"', 'line': read.place, 'offset': f'"{nanoseconds(offset2)}"', 'offset2': f'"{offset2}"', 'path': f'"{nanoseconds(path2)}"',
-                    'path2': f'"{path2}"', 'tags': f'[{tags}]', 'time': f'"{read.time}"'} | self.exchange()
-            return '{' + ','.join(f'"{name}":{told[name]}' for name in sorted(told)) + '}\n'
-        return (f'{{"by":"{by}","line":{read.place},"offset":"{nanoseconds(offset2)}","offset2":"{offset2}",'
-                f'"path":"{nanoseconds(path2)}","path2":"{path2}","tags":[{tags}],"time":"{read.time}"}}\n')
-
+            columns = ''.join(f',{it}' for it in self.exchange().values()) if self.full else ''
+            return f'{read.time},{nanoseconds(offset2)},{nanoseconds(path2)},{by},{read.place}{columns}\n'
+        told = {'by': by, 'line': read.place, 'offset': nanoseconds(offset2), 'offset2': str(offset2), 'path': nanoseconds(path2), 'path2': str(path2), 'tags': tags, 'time': read.time}
+        return compact(told | (self.exchange() if self.full else {})) + '\n'
 
     def exchange(self):
-        """What the last report was made of, in full."""
+        """What the last report was made of, in full, in the order of columns."""
         sync, answer = self.port.synced, self.port.answered
-        return {'t1': f'"{seconds(sync.left)}"', 't2': f'"{seconds(sync.came)}"', 't3': f'"{seconds(answer.left)}"', 't4': f'"{seconds(answer.came)}"',
-                'sync_correction': f'"{nanoseconds(2 * sync.correction)}"', 'delay_correction': f'"{nanoseconds(2 * answer.correction)}"',
-                'sync_number': sync.sequence, 'request_number': answer.sequence, 't2_to_t3': f'"{nanoseconds(2 * abs(sync.came - answer.left))}"'}
-
-    def columns(self):
-        """The same as columns."""
-        told = self.exchange()
-        names = ['t1', 't2', 't3', 't4', 'sync_correction', 'delay_correction', 'sync_number', 'request_number', 't2_to_t3']
-        return ''.join(f',{str(told[name]).strip(chr(34))}' for name in names)
+        return {'t1': seconds(sync.left), 't2': seconds(sync.came), 't3': seconds(answer.left), 't4': seconds(answer.came),
+                'sync_correction': nanoseconds(2 * sync.correction), 'delay_correction': nanoseconds(2 * answer.correction),
+                'sync_number': sync.sequence, 'request_number': answer.sequence, 't2_to_t3': nanoseconds(2 * abs(sync.came - answer.left))}
 
 
 def read(place, line):

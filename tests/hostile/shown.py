@@ -1,7 +1,10 @@
 """A reader of datagrams that was written apart from the program: what `show` owes for an input."""
+import collections
+import functools
 import re
+import struct
 
-from texts import fault_at_line, port
+from texts import fault_at_line, port, seconds
 
 # What each message type is called, and how long its fields are.
 TYPES = {0: ('Sync', 44), 1: ('Delay_Req', 44), 8: ('Follow_Up', 44), 9: ('Delay_Resp', 54)}
@@ -10,14 +13,19 @@ TYPES = {0: ('Sync', 44), 1: ('Delay_Req', 44), 8: ('Follow_Up', 44), 9: ('Delay
 TOO_BIG = 2**63 - 1
 
 
+# A message, with its kind, its timestamp in units of 2^-16 ns, and how many octets stand behind its fields; and where its fields stand.
+Message = collections.namedtuple('Message', 'kind domain two_step unicast correction source sequence stamp requesting log suffix')
+HEAD = struct.Struct('>BBHBBHqI10sHBbHII')
+
+
 def lines_of(text):
     """The lines of an input, without their ends."""
     lines = text.split(b'\n')
     return lines if lines[-1] else lines[:-1]
 
 
-def number(octets, signed=False):
-    return int.from_bytes(octets, 'big', signed=signed)
+def number(octets):
+    return int.from_bytes(octets, 'big')
 
 
 def refusal(octets):
@@ -36,15 +44,27 @@ def refusal(octets):
     return 'refused 206' if number(octets[40:44]) >= 10**9 else None
 
 
+@functools.lru_cache(2**16)
+def message(octets):
+    """What a datagram says: a message, or the refusal in words."""
+    refused = refusal(octets)
+    if refused:
+        return refused
+    kind, least = TYPES[octets[0] % 16]
+    _, _, length, domain, _, flags, correction, _, source, sequence, _, log, high, low, nanoseconds = HEAD.unpack_from(octets)
+    stamp = ((high * 2**32 + low) * 10**9 + nanoseconds) * 2**16
+    requesting = octets[44:54] if least == 54 else None
+    return Message(kind, domain, bool(flags & 0x200), bool(flags & 0x400), correction, source, sequence, stamp, requesting, log, length - least)
+
+
 def fields(octets):
-    """The fields of a datagram that isn't refused."""
-    name, least = TYPES[octets[0] % 16]
-    length, correction = number(octets[2:4]), number(octets[8:16], signed=True)
-    requesting = f' requesting={port(octets[44:54])}' if least == 54 else ''
-    return (f'{name} sdo={octets[0] // 16:x}{octets[5]:02x} version=2.{octets[1] // 16} domain={octets[4]} flags={octets[6:8].hex()}'
-            f' correction={"too-big" if correction == TOO_BIG else correction} specific={octets[16:20].hex()}'
-            f' source={port(octets[20:30])} seq={number(octets[30:32])} control={octets[32]} log={number(octets[33:34], signed=True)}'
-            f' stamp={number(octets[34:40])}.{number(octets[40:44]):09}{requesting} suffix={length - least} used={length}')
+    """The fields of a datagram that isn't refused, as they are printed."""
+    said = message(octets)
+    requesting = f' requesting={port(said.requesting)}' if said.requesting else ''
+    return (f'{said.kind} sdo={octets[0] // 16:x}{octets[5]:02x} version=2.{octets[1] // 16} domain={said.domain} flags={octets[6:8].hex()}'
+            f' correction={"too-big" if said.correction == TOO_BIG else said.correction} specific={octets[16:20].hex()}'
+            f' source={port(said.source)} seq={said.sequence} control={octets[32]} log={said.log}'
+            f' stamp={seconds(said.stamp // 2**16)}{requesting} suffix={said.suffix} used={number(octets[2:4])}')
 
 
 def read(line, form):
