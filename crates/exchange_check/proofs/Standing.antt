@@ -1,8 +1,9 @@
 -- What is kept after lines is what the lines say, and so is the verdict.
 use Rattle.std.proofs.Common.{◌≡◌, ◌∙◌, ℕ, suc, ◌<◌, ◌≤◌, Bool, true, false, ◌&&◌, cond}
-use Rattle.std.proofs.Common.{eqb, slice_get, [], ◌∷◌, length, Option, Some, None, refl, sym, ap, arith}
+use Rattle.std.proofs.Common.{eqb, slice_get, [], ◌∷◌, length, Option, Some, None, Result, Ok, Err, refl, sym, ap, arith}
 use Rattle.std.specs.Prelude.{option_map, option_and_then, nat_lt}
 use Rattle.std.specs.Option.{option_map_or}
+use Rattle.std.specs.Result.{result_ok}
 use Rattle.std.proofs.lemmas.Bool.{ltb-true}
 use Rattle.std.proofs.lemmas.Bool.Decides.{nat_tests}
 use Rattle.slave_port.specs.declared.heard.Report.{Report}
@@ -23,9 +24,13 @@ use Rattle.trace_model.specs.Sound.{where_passes, below, Exchange, line_of, sync
 use Rattle.trace_model.specs.Sound.{follow_lines, arrival_line, is_of_line, is_stamped_between, unbroken, is_followed}
 use Rattle.trace_model.specs.Sound.{are_paired, are_later, is_domain, is_of_master, are_readings, fits}
 use Rattle.trace_model.specs.Sound.{results_of, are_results, are_octets, Conditions, needs, failing, reason, judgement}
+use Rattle.exchange_check.specs.declared.facts.FoundJourney.{FoundJourney}
+use Rattle.exchange_check.specs.declared.ways.Unfollowed.{Unfollowed}
+use Rattle.exchange_check.specs.declared.ways.Unfollowed.TheVariants.{Stops, LeftTwice}
+use Rattle.trace_model.specs.declared.finding.Lack.TheVariants.{NotBefore, OtherEvent}
 use Rattle.exchange_check.specs.Inner.Kept.{Facts}
 use Rattle.exchange_check.specs.Inner.Judged.{line_of_by, sync_by, follows_by, arrival_by, found_journey_at}
-use Rattle.exchange_check.specs.Inner.Judged.{found_journey_from, found_journey_to, is_told}
+use Rattle.exchange_check.specs.Inner.Judged.{followed_from, followed_heard, found_journey_to, is_told}
 use Rattle.exchange_check.specs.Inner.Judged.{both_journeys, found_judgement, judgement_by}
 use Rattle.exchange_check.proofs.Noted.{site_at, leaves_at, firsts_at, stamps_at, told_master}
 use Rattle.exchange_check.proofs.Told.{fact_of, facts_at}
@@ -92,16 +97,21 @@ module _ (network : Network) (line : TraceLine) (earlier : Lines) where
   abbrev pub slave : NodeName
   slave = site_of line.event
 
-  if_way : (b : Bool) (j : LineJourney)
-      → cond b (Some (found_journey_of network j)) None ≡ option_map (found_journey_of network) (cond b (Some j) None)
-  if_way true j = refl
-  if_way false j = refl
+  -- a journey that begins at a line of its kind, and whose stays were left once
+  abbrev tested : (limit copy : ℕ) (begun once : Bool) → LineJourney → Result FoundJourney Unfollowed
+  tested limit copy begun once j = cond begun (cond once (Ok (found_journey_of network j)) (Err (LeftTwice copy)))
+      (Err (Stops limit (OtherEvent (line_number j.origin))))
 
-  two_tests : (a : Bool) (j : LineJourney)
-      → cond (a && left_once (events network earlier) j) (Some (found_journey_of network j)) None
+  if_once : (limit copy : ℕ) (b : Bool) (j : LineJourney) → result_ok (tested limit copy true b j)
+      ≡ option_map (found_journey_of network) (cond b (Some j) None)
+  if_once limit copy true j = refl
+  if_once limit copy false j = refl
+
+  two_tests : (limit copy : ℕ) (a : Bool) (j : LineJourney)
+      → result_ok (tested limit copy a (left_once (events network earlier) j) j)
       ≡ option_map (found_journey_of network) (where_passes (left_once (events network earlier)) (cond a (Some j) None))
-  two_tests true j = if_way (left_once (events network earlier) j) j
-  two_tests false j = refl
+  two_tests limit copy true j = if_once limit copy (left_once (events network earlier) j) j
+  two_tests limit copy false j = refl
 
   -- whether each stay of a copy's journey was left once, as what is kept says it
   abbrev pub IsFollowed : Once → Type 0
@@ -118,35 +128,34 @@ module _ (network : Network) (line : TraceLine) (earlier : Lines) where
   before_here copy limit within fits = grind (arith, nat_tests)
 
   module _ (kept_once : Once) (follows : IsFollowed kept_once) where
-    found_journey_found : (kind : Event → Bool) (copy : ℕ) (o : Option LineJourney)
+    found_journey_found : (kind : Event → Bool) (limit copy : ℕ) (o : Option LineJourney)
         → line_journey_of network earlier copy ≡ o
-        → where_passes (λ found_journey. kind found_journey.origin.event && kept_once copy)
-        (option_map (found_journey_of network) o)
+        → result_ok (followed_from kept_once kind limit copy (option_map (found_journey_of network) o))
         ≡ option_map (found_journey_of network)
         (where_passes (left_once (events network earlier))
         (where_passes (λ journey. kind (event_of journey.origin)) o))
-    found_journey_found kind copy None h = refl
-    found_journey_found kind copy (Some j) h =
-        (λ i. cond (kind (event_of j.origin) && follows copy j h i) (Some (found_journey_of network j)) None)
-        ∙ two_tests (kind (event_of j.origin)) j
+    found_journey_found kind limit copy None h = refl
+    found_journey_found kind limit copy (Some j) h =
+        (λ i. result_ok (tested limit copy (kind (event_of j.origin)) (follows copy j h i) j))
+        ∙ two_tests limit copy (kind (event_of j.origin)) j
 
     found_journey_below : (kind : Event → Bool) (limit copy : ℕ) (b : Bool) → limit ≤ length earlier
         → nat_lt copy limit ≡ b
-        → cond b (where_passes (λ found_journey. kind found_journey.origin.event && kept_once copy)
-        (found_journey_at facts copy)) None
+        → result_ok (cond b (followed_from kept_once kind limit copy (found_journey_at facts copy))
+        (Err (Stops limit (NotBefore copy))))
         ≡ option_map (found_journey_of network)
         (where_passes (left_once (events network earlier))
         (where_passes (λ journey. kind (event_of journey.origin))
         (cond b (line_journey_of network (line ∷ earlier) copy) None)))
     found_journey_below kind limit copy true fits h =
-        ap (where_passes (λ found_journey. kind found_journey.origin.event && kept_once copy))
+        ap (λ (o : Option FoundJourney). result_ok (followed_from kept_once kind limit copy o))
         (found_journey_is network (line ∷ earlier) copy)
-        ∙ found_journey_found kind copy (line_journey_of network (line ∷ earlier) copy)
+        ∙ found_journey_found kind limit copy (line_journey_of network (line ∷ earlier) copy)
         (before_here copy limit (ltb-true copy limit h) fits)
     found_journey_below kind limit copy false fits h = refl
 
     found_journey_heard : (kind : Event → Bool) (limit : ℕ) (o : Option ℕ) → limit ≤ length earlier
-        → option_and_then (found_journey_from facts kept_once kind limit) o
+        → result_ok (followed_heard facts kept_once kind limit o)
         ≡ option_map (found_journey_of network)
         (where_passes (left_once (events network earlier))
         (where_passes (λ journey. kind (event_of journey.origin))

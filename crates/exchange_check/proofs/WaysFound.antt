@@ -21,15 +21,16 @@ use Rattle.trace_model.specs.declared.verdict.Why.TheVariants as whys
 use Rattle.trace_model.specs.Line.{Lines, counts}
 use Rattle.trace_model.specs.Record.{LinePlace, line_place, line_number, event_of, line_at, events}
 use Rattle.trace_model.specs.Journey.{LineStay, LineJourney, line_journey_of, left_once}
-use Rattle.trace_model.specs.Sound.{Exchange as Lined, where_passes, below}
+use Rattle.trace_model.specs.Sound.{Exchange as Lined, where_passes}
 use Rattle.trace_model.specs.Finding.{Stop, stop, passing, way_of, way_below, way_to, left_twice, way_finding, ways_finding}
-use Rattle.trace_model.proofs.FindingParts.{way_to_ok}
+use Rattle.trace_model.proofs.FindingParts.{way_ok}
 use Rattle.trace_model.proofs.LeftTwice.{twice_or_once}
-use Rattle.trace_model.proofs.OctetsOfExchanges.{passed}
 use Rattle.exchange_check.specs.declared.exceptions.Exceptions.{Exceptions}
 use Rattle.exchange_check.specs.declared.exchange.Stay.{Stay}
 use Rattle.exchange_check.specs.declared.facts.FoundJourney.{FoundJourney}
 use Rattle.exchange_check.specs.declared.kept.Kept.{Kept}
+use Rattle.exchange_check.specs.declared.ways.Unfollowed.{Unfollowed}
+use Rattle.exchange_check.specs.declared.ways.Unfollowed.TheVariants.{Stops, LeftTwice}
 use Rattle.exchange_check.specs.Evidence.{noted, told_by, last_finding, second_leaves, stops_at, stops_in, stop_made}
 use Rattle.exchange_check.specs.Exchange.{stay_told}
 use Rattle.exchange_check.specs.Inner.Found.{of_report}
@@ -39,8 +40,9 @@ use Rattle.copy_stays.specs.Leaves.{Once, once_of}
 use Rattle.exchange_check.specs.Inner.Stays.{last_stays}
 use Rattle.copy_stays.specs.Stays.{once_in}
 use Rattle.exchange_check.specs.Inner.Telling.{last_stay_by}
-use Rattle.exchange_check.specs.Inner.WayFinding.{origin_stop, heard_stop, stay_before, twice_at, earlier_twice, first_twice_of}
-use Rattle.exchange_check.specs.Inner.WayFinding.{first_twice, twice_finding_by, copy_finding_by, stop_finding, way_finding_by}
+use Rattle.exchange_check.specs.Inner.Judged.{found_journey_at, followed_from, followed_heard, followed_to}
+use Rattle.exchange_check.specs.Inner.WayFinding.{stay_before, twice_at, earlier_twice, first_twice_of}
+use Rattle.exchange_check.specs.Inner.WayFinding.{first_twice, twice_finding_by, stop_finding, way_finding_by}
 use Rattle.exchange_check.specs.Inner.WayFinding.{ways_finding_by}
 use Rattle.exchange_check.proofs.Exchanges.{found_of, found_journey_of, found_journey_is}
 use Rattle.exchange_check.proofs.Following.{once_is, followed_is}
@@ -114,9 +116,9 @@ module _ (network : Network) (line : TraceLine) (earlier : Lines) where
   abbrev once_now : Once
   once_now = once_of (last_stays (facts_at network fed)) (leaves_at network fed)
 
-  abbrev copy_found : Part → ℕ → Option Finding
-  copy_found part copy = copy_finding_by (facts_at network fed) (firsts_at network fed) once_now
-      (second_leaves network fed) part copy
+  abbrev way_found : Part → Result FoundJourney Unfollowed → Option Finding
+  way_found part followed = way_finding_by (facts_at network fed) (firsts_at network fed) (second_leaves network fed)
+      (stops_at network fed) part followed
 
   -- the stays of a journey that can be followed
   module _ (part : Part) (copy : ℕ) (j : LineJourney) (h : line_journey_of network fed copy ≡ Some j) where
@@ -131,12 +133,13 @@ module _ (network : Network) (line : TraceLine) (earlier : Lines) where
         (walked network fed (copy + 1) copy j j.stays h refl (omega arith))
         ∙ sym (left-twice network part j fed)
 
-    copy_same : copy_found part copy ≡ left_twice network part j fed
+    abbrev tested : Bool → Result FoundJourney Unfollowed
+    tested b = cond b (Ok (found_journey_of network j)) (Err (LeftTwice copy))
+
+    copy_same : way_found part (tested (once_now copy)) ≡ left_twice network part j fed
     copy_same = by (once_now copy) refl
       where
-        by : (b : Bool) → once_now copy ≡ b
-            → cond b None (option_and_then (twice_finding_by (firsts_at network fed) part)
-            (first_twice (facts_at network fed) (second_leaves network fed) copy)) ≡ left_twice network part j fed
+        by : (b : Bool) → once_now copy ≡ b → way_found part (tested b) ≡ left_twice network part j fed
         by false is = first_same
         by true is = sym (none_of (left_twice network part j fed)
             (twice_or_once network part fed copy j h ∙ ap not (sym once_same ∙ is)))
@@ -147,50 +150,9 @@ module _ (network : Network) (line : TraceLine) (earlier : Lines) where
     abbrev by : ℕ
     by = line_number arrival
 
-    abbrev followed : Result LineJourney Stop → Result LineJourney Stop
-    followed r = passing (λ j. kind (event_of j.origin)) (λ j. stop by (OtherEvent (line_number j.origin))) r
-
-    abbrev any : Result LineJourney Stop → Result LineJourney Stop
-    any r = passing (λ j. true) (λ j. stop by (OtherEvent (line_number j.origin))) r
-
     abbrev by_lines : Result LineJourney Stop → Option Finding
-    by_lines r = way_finding network e part (followed r)
-
-    abbrev by_kept : Option ℕ → Option Stop → Option Finding
-    by_kept heard o = option_or (option_map (stop_finding part) o) (option_and_then (copy_found part) heard)
-
-    -- a journey that is followed is that of the copy
-    of_copy : (copy : ℕ) (j : LineJourney) → heard_copy (event_of arrival) ≡ Some copy → nat_lt copy by ≡ true
-        → way_of network fed by copy ≡ Ok j → line_journey_of network fed copy ≡ Some j
-    of_copy copy j heard small way = (passed (λ (x : LineJourney). true) (line_journey_of network fed copy) ok).0
-      where
-        ok : where_passes (λ (x : LineJourney). true) (line_journey_of network fed copy) ≡ Some j
-        ok =
-            sym ((λ i. where_passes (λ (x : LineJourney). true)
-            (option_and_then (below (line_journey_of network fed) by) (heard i)))
-            ∙ (λ i. where_passes (λ (x : LineJourney). true) (cond (small i) (line_journey_of network fed copy) None)))
-            ∙ sym (way_to_ok network fed (λ (event : Event). true) arrival)
-            ∙ (λ i. result_ok (any (way_below network fed by (heard i))))
-            ∙ (λ i. result_ok (any (cond (small i) (way_of network fed by copy) (Err (stop by (NotBefore copy))))))
-            ∙ (λ i. result_ok (any (way i)))
-
-    -- where it stops, or where it begins
-    at_way : (copy : ℕ) (r : Result LineJourney Stop) → heard_copy (event_of arrival) ≡ Some copy
-        → nat_lt copy by ≡ true → way_of network fed by copy ≡ r
-        → by_kept (Some copy) (option_or (result_err r) (origin_stop (facts_at network fed) kind by copy)) ≡ by_lines r
-    at_way copy (Err s) heard small way = refl
-    at_way copy (Ok j) heard small way =
-        let there = of_copy copy j heard small way in
-        ap (λ (o : Option FoundJourney). by_kept (Some copy) (option_and_then
-        (λ journey. cond (kind journey.origin.event) None (Some (stop by (OtherEvent journey.origin.line)))) o))
-        (found_journey_is network fed copy ∙ ap (λ (o : Option LineJourney). option_map (found_journey_of network) o) there)
-        ∙ begun (kind (event_of j.origin)) there
-      where
-        begun : (b : Bool) → line_journey_of network fed copy ≡ Some j
-            → by_kept (Some copy) (cond b None (Some (stop by (OtherEvent (line_number j.origin)))))
-            ≡ way_finding network e part (cond b (Ok j) (Err (stop by (OtherEvent (line_number j.origin)))))
-        begun true there = copy_same part copy j there ∙ left-quiet network line earlier part j quiet
-        begun false there = refl
+    by_lines r = way_finding network e part
+        (passing (λ j. kind (event_of j.origin)) (λ j. stop by (OtherEvent (line_number j.origin))) r)
 
     -- by what is noted
     stop_same : (copy : ℕ) → copy < length fed
@@ -204,27 +166,40 @@ module _ (network : Network) (line : TraceLine) (earlier : Lines) where
             (option_and_then (stop_made network) (is i))
             (cond (draws_sync (event_of x) || is_request (event_of x)) None (Some (stop by (OtherEvent copy))))
 
-    at_copy : (copy : ℕ) (b : Bool) → heard_copy (event_of arrival) ≡ Some copy → nat_lt copy by ≡ b
-        → by_kept (Some copy) (cond b (option_or (stop_of_copy (stops_at network fed) by copy (facts_at network fed copy))
-        (origin_stop (facts_at network fed) kind by copy)) (Some (stop by (NotBefore copy))))
+    -- where it stops, or where it begins
+    at_way : (copy : ℕ) (r : Result LineJourney Stop) → copy < length fed → way_of network fed by copy ≡ r
+        → way_found part (followed_from once_now kind by copy (option_map (found_journey_of network) (result_ok r)))
+        ≡ by_lines r
+    at_way copy (Err s) low way = ap (option_map (stop_finding part)) (stop_same copy low ∙ ap result_err way)
+    at_way copy (Ok j) low way = begun (kind (event_of j.origin)) (sym (way_ok network fed by copy) ∙ ap result_ok way)
+      where
+        begun : (b : Bool) → line_journey_of network fed copy ≡ Some j
+            → way_found part (cond b (cond (once_now copy) (Ok (found_journey_of network j)) (Err (LeftTwice copy)))
+            (Err (Stops by (OtherEvent (line_number j.origin)))))
+            ≡ way_finding network e part (cond b (Ok j) (Err (stop by (OtherEvent (line_number j.origin)))))
+        begun true there = copy_same part copy j there ∙ left-quiet network line earlier part j quiet
+        begun false there = refl
+
+    at_copy : (copy : ℕ) (b : Bool) → nat_lt copy by ≡ b
+        → way_found part (cond b (followed_from once_now kind by copy (found_journey_at (facts_at network fed) copy))
+        (Err (Stops by (NotBefore copy))))
         ≡ by_lines (cond b (way_of network fed by copy) (Err (stop by (NotBefore copy))))
-    at_copy copy false heard small = refl
-    at_copy copy true heard small =
+    at_copy copy false small = refl
+    at_copy copy true small =
         let low : copy < by = ltb-true copy by small in
-        ap (λ (o : Option Stop). by_kept (Some copy) (option_or o (origin_stop (facts_at network fed) kind by copy)))
-        (stop_same copy (omega (arith, low, within)))
-        ∙ at_way copy (way_of network fed by copy) heard small refl
+        (λ i. way_found part (followed_from once_now kind by copy (found_journey_is network fed copy i)))
+        ∙ sym (λ i. way_found part (followed_from once_now kind by copy
+        (option_map (found_journey_of network) (way_ok network fed by copy i))))
+        ∙ at_way copy (way_of network fed by copy) (omega (arith, low, within)) refl
 
-    at_heard : (o : Option ℕ) → heard_copy (event_of arrival) ≡ o
-        → by_kept o (heard_stop (facts_at network fed) (stops_at network fed) kind by o)
-        ≡ by_lines (way_below network fed by o)
-    at_heard None heard = refl
-    at_heard (Some copy) heard = at_copy copy (nat_lt copy by) heard refl
+    at_heard : (o : Option ℕ)
+        → way_found part (followed_heard (facts_at network fed) once_now kind by o) ≡ by_lines (way_below network fed by o)
+    at_heard None = refl
+    at_heard (Some copy) = at_copy copy (nat_lt copy by) refl
 
-    way_same : way_finding_by (facts_at network fed) (firsts_at network fed) once_now (second_leaves network fed)
-        (stops_at network fed) part kind (fact_of network arrival)
+    way_same : way_found part (followed_to (facts_at network fed) once_now kind (fact_of network arrival))
         ≡ way_finding network e part (way_to network fed kind arrival)
-    way_same = at_heard (heard_copy (event_of arrival)) refl
+    way_same = at_heard (heard_copy (event_of arrival))
 
   ways_same : (report : Report) (x : Lined) → all_lines network line earlier report ≡ Some x → IsSilent line.event
       → ways_finding_by (facts_at network fed) (firsts_at network fed) once_now (second_leaves network fed)

@@ -223,7 +223,7 @@ fn journeys_told(
     let sync = kept.journey_to(LineKind::DrawsSync, &found.sync_arrival);
     let request = kept.journey_to(LineKind::Request, &found.request_arrival);
     match (sync, request) {
-        (Some(_), Some(_)) => results_told(exceptions, nodes, kept, found),
+        (Ok(_), Ok(_)) => results_told(exceptions, nodes, kept, found),
         _ => None,
     }
 }

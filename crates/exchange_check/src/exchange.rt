@@ -192,8 +192,12 @@ impl Kept {
         let Ok(found) = self.found(fact, report) else {
             return None;
         };
-        let sync = self.journey_to(LineKind::DrawsSync, &found.sync_arrival)?;
-        let request = self.journey_to(LineKind::Request, &found.request_arrival)?;
+        let sync = self
+            .journey_to(LineKind::DrawsSync, &found.sync_arrival)
+            .ok()?;
+        let request = self
+            .journey_to(LineKind::Request, &found.request_arrival)
+            .ok()?;
         Some(self.exchange_with(&found, &sync, &request))
     }
 }

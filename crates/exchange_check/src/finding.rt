@@ -4,7 +4,7 @@
 ghost use Rattle.std.specs.Prelude.{◌≡◌, ◌&&◌, true, nat_lt, reverse, is_none};
 ghost use Rattle.std.specs.BTreeMap.{get};
 ghost use Rattle.std.specs.Ordering.{nat_cmp};
-ghost use Rattle.std.specs.Option.{option_or, option_map_or};
+ghost use Rattle.std.specs.Option.{option_map_or};
 ghost use Rattle.network_model.specs.Run.{site_of};
 ghost use Rattle.trace_model.specs.declared.finding.Finding.TheVariants as findings;
 ghost use Rattle.trace_model.specs.Finding.{broken, early_finding};
@@ -86,16 +86,6 @@ fn early(part: Part, set: u64, later: bool) -> Option<Finding>
     broken(later, Finding::Early { part, set })
 }
 
-/// The first of two findings.
-pub(crate) fn or(one: Option<Finding>, other: Option<Finding>) -> Option<Finding>
-    ensures { result ≡ option_or one other }
-{
-    match one {
-        Some(found) => Some(found),
-        None => other,
-    }
-}
-
 /// Whether the Follow_Up, if any, is later than the line of this number.
 fn is_follow_later(set: u64, report: &Report) -> bool
     ensures { result ≡ option_map_or (λ hearing. nat_lt set hearing) report.now.follow_tag true }
@@ -107,6 +97,7 @@ fn is_follow_later(set: u64, report: &Report) -> bool
 }
 
 /// The first line of a report that isn't later than the line of this number.
+#[tactic(auto, using(crate::proofs::Options::or_none))]
 fn early_finding(set: u64, report: &Report) -> Option<Finding>
     ensures { result ≡ early_finding set report.now }
 {
@@ -114,7 +105,7 @@ fn early_finding(set: u64, report: &Report) -> Option<Finding>
     let follow = early(Part::FollowUp, set, is_follow_later(set, report));
     let request = early(Part::DelayReq, set, set < report.request_tag);
     let response = early(Part::DelayResp, set, set < report.response_tag);
-    or(sync, or(follow, or(request, or(response, None))))
+    sync.or(follow.or(request.or(response)))
 }
 
 /// 703: what the slave was told of its master.
@@ -122,10 +113,10 @@ fn told_finding(set: &Option<(Name, u64)>, master: &Name, report: &Report) -> Op
     ensures { result ≡ told_finding_by set.now master.now report.now }
 {
     match set {
-        Some((told, number)) => or(
-            broken(*told == *master, Finding::ToldOther { set: *number }),
-            early_finding(*number, report),
-        ),
+        Some((told, number)) => {
+            let other = broken(*told == *master, Finding::ToldOther { set: *number });
+            other.or(early_finding(*number, report))
+        }
         None => Some(Finding::NoMaster),
     }
 }
@@ -154,10 +145,14 @@ pub(crate) fn master_finding(
         is_domain(&slave_at(nodes, slave), &master_at(nodes, &master)),
         Finding::OtherDomain,
     );
-    or(
-        told_finding(&at.set_master, &master, report),
-        or(answers, domain),
-    )
+    told_finding(&at.set_master, &master, report).or(answers.or(domain))
+}
+
+/// 707: that a message was too long in clocks.
+fn too_long(part: Part, journey: &FoundJourney) -> Option<Finding>
+    ensures { result ≡ broken (fits_by journey.now) (findings.TooLong part) }
+{
+    broken(fits(journey), Finding::TooLong { part })
 }
 
 /// 707: a message that was too long in clocks.
@@ -166,15 +161,7 @@ pub(crate) fn size_finding(sync: &FoundJourney, request: &FoundJourney) -> Optio
     ensures finding { result ≡ size_finding_by sync.now request.now }
     ensures holds { is_none result ≡ (fits_by sync.now && fits_by request.now) }
 {
-    or(
-        broken(fits(sync), Finding::TooLong { part: Part::Sync }),
-        broken(
-            fits(request),
-            Finding::TooLong {
-                part: Part::DelayReq,
-            },
-        ),
-    )
+    too_long(Part::Sync, sync).or(too_long(Part::DelayReq, request))
 }
 
 /// 706: other results than these.
@@ -331,7 +318,7 @@ fn found_finding(
     let sync = kept.journey_to(LineKind::DrawsSync, &found.sync_arrival);
     let request = kept.journey_to(LineKind::Request, &found.request_arrival);
     match (sync, request) {
-        (Some(sync), Some(request)) => journeys_finding(
+        (Ok(sync), Ok(request)) => journeys_finding(
             evidence, nodes, kept, fact, report, found, &sync, &request, why,
         ),
         _ => None,

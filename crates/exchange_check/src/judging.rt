@@ -7,7 +7,7 @@ ghost use Rattle.ptp_units.specs.Exchange.{offset2, path2};
 ghost use Rattle.trace_model.specs.Sound.{is_of_line, is_domain};
 ghost use Rattle.exchange_check.specs.Inner.Kept.{port_setup};
 ghost use Rattle.copy_stays.specs.Stays.{once_in};
-ghost use Rattle.exchange_check.specs.Inner.Judged.{is_of_kind, found_journey_at, found_journey_to, is_followed_by};
+ghost use Rattle.exchange_check.specs.Inner.Judged.{is_of_kind, found_journey_at, followed_to, is_followed_by};
 ghost use Rattle.exchange_check.specs.Inner.Judged.{fraction_by, fits_by};
 ghost use Rattle.exchange_check.specs.Inner.Judged.{bracket_by, results_of_by, results_by, IsElapsed};
 ghost use Rattle.exchange_check.specs.Inner.Judged.{journeys_judgement_by, alone, found_judgement, judgement_by};
@@ -21,9 +21,10 @@ use crate::kept::Kept;
 use crate::lookup::Lookup;
 use crate::octets::Port;
 use crate::residence::Residence;
+use crate::ways::Unfollowed;
 use network_model::{Event, Name, Report};
 use ptp_units::ScaledTime;
-use trace_model::{Judgement, Reasons, Results, Why};
+use trace_model::{Judgement, Lack, Reasons, Results, Why};
 
 /// Whether a report is of the line of this number.
 pub(crate) fn is_of_line(number: u64, report: &Report) -> bool
@@ -216,19 +217,34 @@ impl Kept {
         Some(FoundJourney { kept, origin })
     }
 
-    /// The journey of the copy that arrives at a line, where it begins at an event of this kind.
-    pub(crate) fn journey_to(&self, kind: LineKind, arrival: &Fact) -> Option<FoundJourney>
-        ensures { result ≡ found_journey_to (facts_of self.now) (once_in self.now.stays) (is_of_kind kind) arrival.now }
+    /// 704: the journey of the copy that arrives at a line, where it begins at an event of this kind and no stay was left twice.
+    pub(crate) fn journey_to(
+        &self,
+        kind: LineKind,
+        arrival: &Fact,
+    ) -> Result<FoundJourney, Unfollowed>
+        ensures { result ≡ followed_to (facts_of self.now) (once_in self.now.stays) (is_of_kind kind) arrival.now }
     {
-        let copy = arrival.event.heard_copy()?;
-        if copy >= arrival.line {
-            return None;
+        let by = arrival.line;
+        let Some(copy) = arrival.event.heard_copy() else {
+            let lack = Lack::OtherEvent(by);
+            return Err(Unfollowed::Stops { by, lack });
+        };
+        if copy >= by {
+            let lack = Lack::NotBefore(copy);
+            return Err(Unfollowed::Stops { by, lack });
         }
-        let journey = self.found_journey_at(copy)?;
-        if kind.is_of(&journey.origin.event) && self.stays.once(copy) {
-            Some(journey)
+        let Some(journey) = self.found_journey_at(copy) else {
+            return Err(Unfollowed::Lost { by, copy });
+        };
+        if !kind.is_of(&journey.origin.event) {
+            let lack = Lack::OtherEvent(journey.origin.line);
+            return Err(Unfollowed::Stops { by, lack });
+        }
+        if self.stays.once(copy) {
+            Ok(journey)
         } else {
-            None
+            Err(Unfollowed::LeftTwice(copy))
         }
     }
 
@@ -243,10 +259,10 @@ impl Kept {
         ensures { result ≡ found_judgement nodes.now (facts_of self.now) (once_in self.now.stays)
             (sites_of nodes.now self.now slave.now) slave.now report.now (Some found.now) }
     {
-        let Some(sync) = self.journey_to(LineKind::DrawsSync, &found.sync_arrival) else {
+        let Ok(sync) = self.journey_to(LineKind::DrawsSync, &found.sync_arrival) else {
             return alone(Why::BrokenJourney);
         };
-        let Some(request) = self.journey_to(LineKind::Request, &found.request_arrival) else {
+        let Ok(request) = self.journey_to(LineKind::Request, &found.request_arrival) else {
             return alone(Why::BrokenJourney);
         };
         let at = self.site(nodes, slave);

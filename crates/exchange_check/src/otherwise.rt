@@ -15,7 +15,6 @@ use crate::checker::Checker;
 use crate::evidence::Evidence;
 use crate::exceptions::Exceptions;
 use crate::facts::{Fact, Found};
-use crate::finding::or;
 use crate::judging::LineKind;
 use crate::kept::Kept;
 use network_model::Report;
@@ -59,7 +58,7 @@ impl Exceptions {
         let follow = self.follow_otherwise(&found.follow);
         let request = self.copy_otherwise(&found.request_arrival);
         let response = self.otherwise_at(found.request_arrival.line);
-        or(sync, or(follow, or(request, response)))
+        sync.or(follow.or(request.or(response)))
     }
 
     /// The same, where both journeys can be followed.
@@ -70,7 +69,7 @@ impl Exceptions {
         let sync = kept.journey_to(LineKind::DrawsSync, &found.sync_arrival);
         let request = kept.journey_to(LineKind::Request, &found.request_arrival);
         match (sync, request) {
-            (Some(_), Some(_)) => self.exchange_otherwise(found),
+            (Ok(_), Ok(_)) => self.exchange_otherwise(found),
             _ => None,
         }
     }

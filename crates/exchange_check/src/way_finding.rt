@@ -5,16 +5,17 @@ ghost use Rattle.std.specs.BTreeMap.{get};
 ghost use Rattle.std.specs.Ordering.{nat_cmp};
 ghost use Rattle.exchange_check.specs.Evidence.{stops_in};
 ghost use Rattle.exchange_check.specs.Inner.Found.{of_report};
-ghost use Rattle.exchange_check.specs.Inner.Judged.{is_of_kind};
+ghost use Rattle.exchange_check.specs.Inner.Judged.{is_of_kind, followed_to};
 ghost use Rattle.exchange_check.specs.Inner.Machine.{facts_of, firsts_of, stamps_of};
 ghost use Rattle.copy_stays.specs.Stays.{once_in};
 ghost use Rattle.exchange_check.specs.Inner.WayFinding.{earlier_twice, twice_at, stay_before, first_twice};
-ghost use Rattle.exchange_check.specs.Inner.WayFinding.{twice_finding_by, copy_finding_by, way_finding_by, ways_finding_by};
+ghost use Rattle.exchange_check.specs.Inner.WayFinding.{twice_finding_by, unfollowed_finding, way_finding_by, ways_finding_by};
 
 use crate::exceptions::Exceptions;
 use crate::facts::{Fact, Found};
 use crate::judging::LineKind;
 use crate::kept::Kept;
+use crate::ways::{Stop, Unfollowed};
 use network_model::Report;
 use trace_model::{Finding, Part};
 
@@ -94,17 +95,21 @@ impl Exceptions {
         first
     }
 
-    /// What is found of the stays on the journey of a copy.
-    fn copy_finding(&self, kept: &Kept, part: Part, copy: u64) -> Option<Finding>
-        ensures { result ≡ copy_finding_by (facts_of kept.now) (firsts_of kept.now) (once_in kept.now.stays)
-            (get nat_cmp self.now.seconds) part copy }
+    /// What is found of a journey that can't be followed.
+    fn unfollowed_finding(&self, kept: &Kept, part: Part, why: Unfollowed) -> Option<Finding>
+        ensures { result ≡ unfollowed_finding (facts_of kept.now) (firsts_of kept.now) (get nat_cmp self.now.seconds)
+            (stops_in (get nat_cmp self.now.stops)) part why }
     {
-        if kept.stays.once(copy) {
-            return None;
-        }
-        match self.first_twice(kept, copy) {
-            Some(twice) => twice_finding(kept, part, &twice),
-            None => None,
+        match why {
+            Unfollowed::Stops { by, lack } => Some(Finding::Stops { part, by, lack }),
+            Unfollowed::Lost { by, copy } => {
+                let Stop { by, lack } = kept.stop_of(&self.stops, by, copy)?;
+                Some(Finding::Stops { part, by, lack })
+            }
+            Unfollowed::LeftTwice(copy) => {
+                let twice = self.first_twice(kept, copy)?;
+                twice_finding(kept, part, &twice)
+            }
         }
     }
 
@@ -116,19 +121,13 @@ impl Exceptions {
         kind: LineKind,
         arrival: &Fact,
     ) -> Option<Finding>
-        ensures { result ≡ way_finding_by (facts_of kept.now) (firsts_of kept.now) (once_in kept.now.stays)
-            (get nat_cmp self.now.seconds) (stops_in (get nat_cmp self.now.stops)) part (is_of_kind kind) arrival.now }
+        ensures { result ≡ way_finding_by (facts_of kept.now) (firsts_of kept.now) (get nat_cmp self.now.seconds)
+            (stops_in (get nat_cmp self.now.stops)) part
+            (followed_to (facts_of kept.now) (once_in kept.now.stays) (is_of_kind kind) arrival.now) }
     {
-        if let Some(stop) = kept.arrival_stop(&self.stops, kind, arrival) {
-            return Some(Finding::Stops {
-                part,
-                by: stop.by,
-                lack: stop.lack,
-            });
-        }
-        match arrival.event.heard_copy() {
-            Some(copy) => self.copy_finding(kept, part, copy),
-            None => None,
+        match kept.journey_to(kind, arrival) {
+            Ok(_) => None,
+            Err(why) => self.unfollowed_finding(kept, part, why),
         }
     }
 

@@ -6,12 +6,9 @@ ghost use Rattle.std.specs.Ordering.{nat_cmp};
 ghost use Rattle.network_model.specs.Kinds.{entered_copy};
 ghost use Rattle.exchange_check.specs.Inner.Machine.{facts_of};
 ghost use Rattle.exchange_check.specs.Evidence.{stop_told, stops_in};
-ghost use Rattle.exchange_check.specs.Inner.Judged.{is_of_kind};
 ghost use Rattle.exchange_check.specs.Inner.Noting.{stop_of_copy, entered_stop, left_stop, stop_entry};
-ghost use Rattle.exchange_check.specs.Inner.WayFinding.{origin_stop, arrival_stop};
 
 use crate::facts::Fact;
-use crate::judging::LineKind;
 use crate::kept::Kept;
 use std::collections::BTreeMap;
 use trace_model::Lack;
@@ -23,6 +20,17 @@ pub(crate) struct Stop {
     pub(crate) by: u64,
     /// What that lacks.
     pub(crate) lack: Lack,
+}
+
+/// Why the journey to an arrival isn't one of a sound report.
+#[derive(Clone, Copy)]
+pub(crate) enum Unfollowed {
+    /// The line of the number `by` asks for what isn't there.
+    Stops { by: u64, lack: Lack },
+    /// The journey of this copy, which the line `by` names, can't be followed.
+    Lost { by: u64, copy: u64 },
+    /// On the journey of this copy a stay was left twice.
+    LeftTwice(u64),
 }
 
 impl Kept {
@@ -105,51 +113,6 @@ impl Kept {
         match fact.event.named_transit() {
             Some(transit) => self.left_stop(stops, fact, transit),
             None => None,
-        }
-    }
-
-    /// Where the journey stops of the copy of this number, which the line `by` names, where it begins at a line of
-    /// another kind.
-    fn origin_stop(&self, kind: LineKind, by: u64, copy: u64) -> Option<Stop>
-        ensures { option_map stop_told result ≡ origin_stop (facts_of self.now) (is_of_kind kind) by copy }
-    {
-        let origin = self.found_journey_at(copy)?.origin;
-        if kind.is_of(&origin.event) {
-            return None;
-        }
-        Some(Stop {
-            by,
-            lack: Lack::OtherEvent(origin.line),
-        })
-    }
-
-    /// Where the journey stops of the copy that arrives at a line; none where it can be followed to a line of this
-    /// kind.
-    pub(crate) fn arrival_stop(
-        &self,
-        stops: &BTreeMap<u64, Stop>,
-        kind: LineKind,
-        arrival: &Fact,
-    ) -> Option<Stop>
-        ensures { option_map stop_told result
-            ≡ arrival_stop (facts_of self.now) (stops_in (get nat_cmp stops.now)) (is_of_kind kind) arrival.now }
-    {
-        let by = arrival.line;
-        let Some(copy) = arrival.event.heard_copy() else {
-            return Some(Stop {
-                by,
-                lack: Lack::OtherEvent(by),
-            });
-        };
-        if copy >= by {
-            return Some(Stop {
-                by,
-                lack: Lack::NotBefore(copy),
-            });
-        }
-        match self.stop_of(stops, by, copy) {
-            Some(stop) => Some(stop),
-            None => self.origin_stop(kind, by, copy),
         }
     }
 }

@@ -2,8 +2,9 @@
 -- by the lines alone. A definition `x_by` is `x`, `x_line` or `are_x` of trace_model's `Sound` by what is kept, and
 -- `found_by` and `found_journey_to` are its `exchange_of` and `unbroken`: proofs/Exchanges and proofs/Standing show it.
 use Rattle.std.specs.Prelude.{ℕ, ◌+◌, ◌-◌, ◌^◌, ℤ, pos, negsuc, ◌-ℤ◌, ◌<ℤ◌, Bool, true, false, ◌&&◌, ◌||◌}
-use Rattle.std.specs.Prelude.{nat_lt, ◌==◌, is_some, is_none, if◌then◌else◌, [], ◌∷◌, Option, Some, None, option_map, option_and_then}
+use Rattle.std.specs.Prelude.{nat_lt, ◌==◌, is_some, is_none, if◌then◌else◌, [], ◌∷◌, Option, Some, None, Result, Ok, Err, option_map, option_and_then}
 use Rattle.std.specs.Option.{option_map_or}
+use Rattle.std.specs.Result.{result_ok}
 use Rattle.std.specs.Ordering.{int_eq}
 use Rattle.ptp_units.specs.Exchange.{offset2, path2}
 use Rattle.ptp_units.specs.Moment.{fraction_of}
@@ -19,6 +20,9 @@ use Rattle.exchange_check.specs.declared.facts.Found.{Found}
 use Rattle.exchange_check.specs.declared.facts.Site.{Site}
 use Rattle.exchange_check.specs.declared.facts.FoundJourney.{FoundJourney}
 use Rattle.exchange_check.specs.declared.judging.LineKind.{LineKind}
+use Rattle.exchange_check.specs.declared.ways.Unfollowed.{Unfollowed}
+use Rattle.exchange_check.specs.declared.ways.Unfollowed.TheVariants.{Stops, Lost, LeftTwice}
+use Rattle.trace_model.specs.declared.finding.Lack.TheVariants.{NotBefore, OtherEvent}
 use Rattle.exchange_check.specs.declared.judging.LineKind.TheVariants.{DrawsSync, Request, Arrival, Hearing}
 use Rattle.trace_model.specs.declared.judgement.Judgement.{Judgement}
 use Rattle.trace_model.specs.declared.judgement.Results.{Results}
@@ -91,16 +95,24 @@ found_journey_at facts copy = option_and_then
     (λ kept. option_map (λ origin. record { kept = kept; origin = origin }) (facts kept.origin))
     (kept_journey_at facts copy)
 
-abbrev pub found_journey_from : Facts → Once → (Event → Bool) → (limit copy : ℕ) → Option FoundJourney
-found_journey_from facts once kind limit copy =
-    if nat_lt copy limit
-    then where_passes (λ journey. kind journey.origin.event && once copy) (found_journey_at facts copy)
-    else None
+-- the journey of the copy of a number, which the line `by` names
+abbrev pub followed_from : Once → (Event → Bool) → (by copy : ℕ) → Option FoundJourney → Result FoundJourney Unfollowed
+followed_from once kind by copy None = Err (Lost by copy)
+followed_from once kind by copy (Some journey) =
+    if kind journey.origin.event then (if once copy then Ok journey else Err (LeftTwice copy))
+    else Err (Stops by (OtherEvent journey.origin.line))
+
+abbrev pub followed_heard : Facts → Once → (Event → Bool) → (by : ℕ) → Option ℕ → Result FoundJourney Unfollowed
+followed_heard facts once kind by None = Err (Stops by (OtherEvent by))
+followed_heard facts once kind by (Some copy) =
+    if nat_lt copy by then followed_from once kind by copy (found_journey_at facts copy) else Err (Stops by (NotBefore copy))
 
 -- the journey of the copy that arrives at a line, where it begins at a line of this kind and no stay was left twice
+abbrev pub followed_to : Facts → Once → (Event → Bool) → Fact → Result FoundJourney Unfollowed
+followed_to facts once kind arrival = followed_heard facts once kind arrival.line (heard_copy arrival.event)
+
 abbrev pub found_journey_to : Facts → Once → (Event → Bool) → Fact → Option FoundJourney
-found_journey_to facts once kind arrival =
-    option_and_then (found_journey_from facts once kind arrival.line) (heard_copy arrival.event)
+found_journey_to facts once kind arrival = result_ok (followed_to facts once kind arrival)
 
 abbrev pub is_followed_by : Option Fact → Fact → Bool
 is_followed_by None origin = is_one_step_sync origin.event
