@@ -89,7 +89,7 @@ event_counted _ = refl
 
 out_counted : (out : TraceOut)
     → one_if (option_map whole (out_code out)) + one_if (option_map octets_data (made_octets out)) + one_if (option_map (λ r. difference_data r.offset2) (out_report out))
-    + one_if (option_map (λ r. difference_data r.path2) (out_report out)) + one_if (option_map tags_data (out_report out)) + 1 ≡ out_keys out
+    + one_if (option_map (λ r. difference_data r.path2) (out_report out)) + one_if (option_map tags_data (out_report out)) ≡ out_keys out
 out_counted (outs.Refused reason) = refl
 out_counted _ = refl
 
