@@ -55,11 +55,6 @@ event_in d =
     option_and_then (λ kind. option_and_then (λ node. event_at kind node d) (node_in d))
     (option_and_then kind_of (field as_str (codes "ev") d))
 
--- one key where there is a value
-abbrev pub one_if : {X : Type 0} → Option X → ℕ
-one_if None = 0
-one_if (Some x) = 1
-
 -- how many keys an event has
 abbrev pub event_keys : Event → ℕ
 event_keys event = length (keys_of_event (Some (kind_of_event event)))

@@ -10,8 +10,9 @@ use Rattle.trace_model.specs.declared.line.TraceLine.{TraceLine}
 use Rattle.trace_model.specs.declared.line.TraceOut.{TraceOut}
 use Rattle.schedule_lines.specs.Json.{field, has_keys, has_items, item_at, moment_in, whole_in, whole_below}
 use Rattle.schedule_lines.specs.Json.{octets_in, difference_in}
-use Rattle.schedule_lines.specs.Line.{event_in, event_keys, node_spec_in, one_if}
-use Rattle.schedule_lines.specs.Needed.{outcome_keys}
+use Rattle.schedule_lines.specs.Line.{event_in, event_keys, node_spec_in}
+use Rattle.schedule_lines.specs.EventKind.{kind_of_event}
+use Rattle.schedule_lines.specs.Needed.{outcome_keys, reading_keys}
 use Rattle.schedule_lines.specs.Written.{out_text}
 use Rattle.schedule_lines.specs.declared.reading.transcript.TranscriptLine.{TranscriptLine}
 use Rattle.trace_model.specs.declared.line.TraceOut.TheVariants as outs
@@ -88,7 +89,7 @@ reading_in (Some at) d = option_map Some (field moment_in (codes "reading") d)
 
 -- how many keys the line of an event has, `out` and `n` among them
 abbrev pub line_keys : TraceLine → ℕ
-line_keys line = event_keys line.event + one_if line.reading + out_keys line.out + 2
+line_keys line = event_keys line.event + length (reading_keys (kind_of_event line.event)) + out_keys line.out + 2
 
 -- what was recorded of an event, whatever keys stand beside those that tell it
 abbrev pub trace_line_in : Data → Option TraceLine

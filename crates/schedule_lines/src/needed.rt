@@ -1,12 +1,12 @@
 //! Which keys a line has: the one table of them.
-ghost use Rattle.std.specs.Prelude.{◌≡◌, ◌∷◌, ◌++◌, ◌+◌, ℕ, [], length, option_map};
+ghost use Rattle.std.specs.Prelude.{◌≡◌, ◌∷◌, ◌++◌, [], option_map};
 ghost use Rattle.schedule_lines.specs.Needed.{node_keys, outcome_keys, own_keys, reading_keys};
-ghost use Rattle.schedule_lines.specs.TranscriptLine.{out_keys};
+ghost use Rattle.schedule_lines.specs.TranscriptLine.{line_keys, out_keys};
 ghost use Rattle.line_object.specs.declared.key.Key.TheVariants.{Out};
 
 use crate::event_kind::EventKind;
 use line_object::Key;
-use trace_model::TraceOut;
+use trace_model::{TraceLine, TraceOut};
 
 /// The keys of a node that has a port.
 pub(crate) const OF_PORTS: [Key; 7] = [
@@ -104,9 +104,10 @@ fn out_keys(out: &TraceOut) -> usize
     }
 }
 
-/// How many keys the line of an event of a kind has in a transcript: `ev`, `node`, `n`, and those of the kind and of the outcome.
-pub(crate) fn line_keys(kind: EventKind, out: &TraceOut) -> usize
-    ensures { result ≡ 4 + length (own_keys kind) + length (reading_keys kind) + out_keys out.now }
+/// How many keys the line of an event has in a transcript: `ev`, `node`, `n`, and those of the event's kind and of its outcome.
+pub(crate) fn line_keys(line: &TraceLine) -> usize
+    ensures { result ≡ line_keys line.now }
 {
-    3 + kind.own_keys().len() + kind.told_keys().len() + out_keys(out)
+    let kind = EventKind::of(&line.event);
+    3 + kind.own_keys().len() + kind.told_keys().len() + out_keys(&line.out)
 }

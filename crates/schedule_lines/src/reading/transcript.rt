@@ -13,7 +13,6 @@ ghost use Rattle.schedule_lines.specs.Refusal.{Answers, HasEach, IsSoOf};
 ghost use Rattle.schedule_lines.specs.Inner.Asked.{Asks, reading_key};
 ghost use Rattle.schedule_lines.specs.Wanted.{array_of, is_wanted_part, part_wanted, place_of, HasWrong};
 
-use crate::event_kind::EventKind;
 use crate::needed::line_keys;
 use crate::reading::asked::{below_at, difference_at, moment_at, octets_at, value_at, whole_at};
 use crate::reading::schedule::{event_in, just, node_spec_in};
@@ -63,12 +62,12 @@ fn traced_in<M: LineMembers>(ev: &M::Value, members: &M) -> Result<TranscriptLin
     let reading = reading_in(event.true_moment(), members)?;
     let out = out_in(members)?;
     let number = whole_at(members, Key::Number)?;
-    let count = line_keys(EventKind::of(&event), &out);
     let line = TraceLine {
         event,
         reading,
         out,
     };
+    let count = line_keys(&line);
     just(members, count, TranscriptLine::Event { number, line })
 }
 
