@@ -9,7 +9,7 @@ use line_object::Key;
 use trace_model::{TraceLine, TraceOut};
 
 /// The keys of a node that has a port.
-pub(crate) const OF_PORTS: [Key; 7] = [
+pub(crate) const OF_PORTS: &[Key] = &[
     Key::Kind,
     Key::Node,
     Key::Id,
@@ -20,24 +20,24 @@ pub(crate) const OF_PORTS: [Key; 7] = [
 ];
 
 /// The keys of a clock.
-pub(crate) const OF_CLOCKS: [Key; 2] = [Key::Kind, Key::Node];
+pub(crate) const OF_CLOCKS: &[Key] = &[Key::Kind, Key::Node];
 
 /// The key of a message that was made.
-const OF_MESSAGES: [Key; 1] = [Key::Hex];
+const OF_MESSAGES: &[Key] = &[Key::Hex];
 
 /// The keys of a report.
-const OF_REPORTS: [Key; 3] = [Key::Offset2, Key::Path2, Key::Tags];
+const OF_REPORTS: &[Key] = &[Key::Offset2, Key::Path2, Key::Tags];
 
 /// The key of a reason or a refusal.
-const OF_REASONS: [Key; 1] = [Key::Code];
+const OF_REASONS: &[Key] = &[Key::Code];
 
 /// The keys of a kind of node, by its word at `kind`; None where it names none.
 pub fn node_keys(kind: &str) -> Option<&'static [Key]>
     ensures { option_map (λ keys. keys.now) result ≡ node_keys kind.now }
 {
     match kind {
-        "master" | "slave" => Some(&OF_PORTS),
-        "clock" => Some(&OF_CLOCKS),
+        "master" | "slave" => Some(OF_PORTS),
+        "clock" => Some(OF_CLOCKS),
         _ => None,
     }
 }
@@ -85,9 +85,9 @@ pub fn outcome_keys(out: &str) -> Option<&'static [Key]>
 {
     match out {
         "done" | "entered" | "held" | "completed" => Some(&[]),
-        "made" => Some(&OF_MESSAGES),
-        "report" => Some(&OF_REPORTS),
-        "ignored" | "refused" => Some(&OF_REASONS),
+        "made" => Some(OF_MESSAGES),
+        "report" => Some(OF_REPORTS),
+        "ignored" | "refused" => Some(OF_REASONS),
         _ => None,
     }
 }
@@ -104,7 +104,8 @@ fn out_keys(out: &TraceOut) -> usize
     }
 }
 
-/// How many keys the line of an event has in a transcript: `ev`, `node`, `n`, and those of the event's kind and of its outcome.
+/// How many keys the line of an event has in a transcript: `ev`, `node`, `n`, and those of the
+/// event's kind and of its outcome.
 pub(crate) fn line_keys(line: &TraceLine) -> usize
     ensures { result ≡ line_keys line.now }
 {
