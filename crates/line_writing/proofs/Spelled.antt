@@ -1,5 +1,5 @@
 -- The texts of lines, read again.
-use Rattle.std.proofs.Common.{◌≡◌, ◌<◌, ◌≤◌, ℕ, length, zero, suc, true, nat_lt, List, [], ◌∷◌, Option, Some, None, arith, refl}
+use Rattle.std.proofs.Common.{◌≡◌, ◌<◌, ◌≤◌, ℕ, length, zero, suc, true, nat_lt, List, [], ◌∷◌, Some, arith, refl}
 use Rattle.std.specs.List.{list_all}
 use Rattle.std.specs.Str.{IsAscii}
 use Rattle.std.proofs.lemmas.Bool.{and_parts}
@@ -21,7 +21,7 @@ use Rattle.serde_json.specs.Data.{string}
 use Rattle.schedule_lines.specs.Ranges.{IsShort, IsTag}
 use Rattle.schedule_lines.proofs.Compact.{IsReadable, AreReadableFields, read_object, text_readable, whole_readable}
 use Rattle.schedule_lines.proofs.Compact.{field_readable, members_readable, members_ascending}
-use Rattle.schedule_lines.proofs.Keys.{Field, members_of, event_fields}
+use Rattle.schedule_lines.proofs.Keys.{members_of, event_fields}
 use Rattle.schedule_lines.proofs.LineTexts.{event_fits, node_fits, fits_event, shown_difference, shown_moment, shown_name}
 use Rattle.schedule_lines.proofs.LineTexts.{shown_string, shown_whole}
 use Rattle.schedule_lines.proofs.Lookup.{count_fields, members_len-members_of}
