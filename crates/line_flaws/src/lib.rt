@@ -7,7 +7,6 @@ mod excerpt;
 mod flaw;
 mod foreign;
 mod json_fault;
-mod keys;
 mod line;
 mod pieces;
 mod search;

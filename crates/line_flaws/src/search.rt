@@ -14,10 +14,9 @@ ghost use Rattle.line_flaws.specs.Needed.{needed};
 ghost use Rattle.line_flaws.specs.Truth.{IsOther, IsSoOfValue};
 
 use crate::flaw::{FileForm, Flaw};
-use crate::keys::{node_keys, outcome_keys, own_keys, told_keys};
 use crate::pieces::{Members, item_text, plain_name, unquoted, value_text};
 use line_object::Key;
-use schedule_lines::{EventKind, Refusal};
+use schedule_lines::{EventKind, Refusal, node_keys, outcome_keys};
 use serde_json::Value;
 
 /// A line, the value that it is, and the form that it isn't a line of.
@@ -213,13 +212,13 @@ impl<'a, 'v> Search<'a, 'v> {
             return Allowed::only(&[Key::Ev]);
         };
         let scheduled = Allowed {
-            own: own_keys(kind),
+            own: kind.own_keys(),
             ..Allowed::only(&[Key::Ev, Key::Node])
         };
         match self.form {
             FileForm::Schedule => scheduled,
             FileForm::Transcript => Allowed {
-                told: told_keys(kind),
+                told: kind.told_keys(),
                 outcome: self.outcome_keys(),
                 number: &[Key::Number],
                 ..scheduled

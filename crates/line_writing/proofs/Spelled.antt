@@ -1,5 +1,5 @@
 -- The texts of lines, read again.
-use Rattle.std.proofs.Common.{◌≡◌, ◌<◌, ◌≤◌, ℕ, length, zero, suc, true, nat_lt, List, [], ◌∷◌, Option, Some, None, arith, refl}
+use Rattle.std.proofs.Common.{◌≡◌, ◌<◌, ◌≤◌, ℕ, length, zero, suc, true, nat_lt, List, [], ◌∷◌, Some, arith, refl}
 use Rattle.std.specs.List.{list_all}
 use Rattle.std.specs.Str.{IsAscii}
 use Rattle.std.proofs.lemmas.Bool.{and_parts}
@@ -18,14 +18,13 @@ use Rattle.schedule_lines.specs.declared.reading.transcript.TranscriptLine.TheVa
 use Rattle.schedule_lines.specs.Json.{value_in}
 use Rattle.schedule_lines.specs.Written.{whole, moment_data, difference_data, scheduled_data}
 use Rattle.serde_json.specs.Data.{string}
-use Rattle.schedule_lines.specs.Line.{one_if}
 use Rattle.schedule_lines.specs.Ranges.{IsShort, IsTag}
 use Rattle.schedule_lines.proofs.Compact.{IsReadable, AreReadableFields, read_object, text_readable, whole_readable}
 use Rattle.schedule_lines.proofs.Compact.{field_readable, members_readable, members_ascending}
-use Rattle.schedule_lines.proofs.Keys.{Field, members_of, event_fields}
+use Rattle.schedule_lines.proofs.Keys.{members_of, event_fields}
 use Rattle.schedule_lines.proofs.LineTexts.{event_fits, node_fits, fits_event, shown_difference, shown_moment, shown_name}
 use Rattle.schedule_lines.proofs.LineTexts.{shown_string, shown_whole}
-use Rattle.schedule_lines.proofs.Lookup.{count, members_len-members_of}
+use Rattle.schedule_lines.proofs.Lookup.{count_fields, members_len-members_of}
 use Rattle.schedule_lines.proofs.Nodes.{nodes_back}
 use Rattle.schedule_lines.proofs.Printed.{event_texts_back, node_texts_back, moment_readable}
 use Rattle.schedule_lines.proofs.ReadBack.{always, reads_back, scheduled_reads_back}
@@ -93,14 +92,6 @@ scheduled_shown event h =
     (pair (field_shown string (named_master event) IsName shown_name h.in_range.master)
     (pair (shown_name _ h.in_range.node)
     (pair (field_shown whole (named_transit event) IsTag shown_whole h.transit) tt))))))
-
-one_or_none : (o : Option Data) → one_if o ≤ 1
-one_or_none None = omega arith
-one_or_none (Some d) = omega arith
-
-count_fields : (fs : List Field) → count fs ≤ length fs
-count_fields [] = omega arith
-count_fields (f ∷ fs) = omega (arith, one_or_none f.1, count_fields fs)
 
 scheduled_fits : (event : Event) → IsScheduled event → Fits 4096 (compact_text (scheduled_data event))
 scheduled_fits event h =

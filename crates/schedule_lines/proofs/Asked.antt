@@ -1,5 +1,5 @@
 -- What a refusal is so of: one of some keys, and so of more.
-use Rattle.std.proofs.Common.{◌≡◌, ◌||◌, ◌++◌, ◌+◌, ℕ, Bool, true, false, List, [], ◌∷◌, length, codes, bytes_eq, refl, Err}
+use Rattle.std.proofs.Common.{◌≡◌, ◌||◌, ◌++◌, ℕ, Bool, true, false, List, [], ◌∷◌, codes, bytes_eq, refl, Err}
 use Rattle.std.proofs.Common.{Option, Some, None, option_map, option_and_then, if◌then◌else◌}
 use Rattle.event_codec.specs.declared.port.PortConfig.{PortConfig}
 use Rattle.ptp_units.specs.declared.sequence.Seq.{Seq}
@@ -15,9 +15,10 @@ use Rattle.network_model.specs.Run.{true_moment}
 use Rattle.network_model.specs.declared.event.Event.{Event}
 use Rattle.network_model.specs.declared.event.Event.TheVariants as events
 use Rattle.schedule_lines.specs.EventKind.{kind_of_event}
-use Rattle.schedule_lines.specs.Line.{event_keys, node_in, config_in, first_in, node_kind, node_spec_in, port_in}
-use Rattle.schedule_lines.specs.Needed.{needed_of_node, node_keys, own_keys, port_keys, reading_keys}
-use Rattle.schedule_lines.specs.Refusal.{Answers, HasEach, IsRefused, IsSoOf, is_one_of, port_parts, reading_key}
+use Rattle.schedule_lines.specs.Line.{node_in, config_in, first_in, node_kind, node_spec_in, port_in}
+use Rattle.schedule_lines.specs.Needed.{needed_of_node, node_keys, port_keys, reading_keys}
+use Rattle.schedule_lines.specs.Refusal.{Answers, HasEach, IsRefused, IsSoOf, is_one_of}
+use Rattle.schedule_lines.specs.Inner.Asked.{port_parts, reading_key}
 use Rattle.schedule_lines.specs.declared.refusal.Refusal.{Refusal}
 use Rattle.schedule_lines.specs.declared.refusal.Refusal.TheVariants.{NoKind, Missing, Wrong, WrongPart, TooMuch}
 
@@ -66,35 +67,10 @@ pub has_append : (d : Data) (ks ls : List Key) → HasEach d ks → HasEach d ls
 has_append d [] ls h g = g
 has_append d (k ∷ ks) ls h g = (h.0, has_append d ks ls h.1 g)
 
--- an event has as many keys as its kind
-pub counted : (event : Event) → event_keys event ≡ 2 + length (own_keys (kind_of_event event))
-counted (events.Sync node at) = refl
-counted (events.SyncOne node at) = refl
-counted (events.Follow node) = refl
-counted (events.Enter node copy at) = refl
-counted (events.Leave node transit at) = refl
-counted (events.Arrive node copy at) = refl
-counted (events.Hear node copy) = refl
-counted (events.Request node at) = refl
-counted (events.Stamped node) = refl
-counted (events.Tick node) = refl
-counted (events.SetMaster node master) = refl
-counted (events.StepClock node diff) = refl
-
--- and a reading where it has a true moment
+-- an event has a reading where it has a true moment
 pub timed : (event : Event) → reading_key (true_moment event) ≡ reading_keys (kind_of_event event)
-timed (events.Sync node at) = refl
-timed (events.SyncOne node at) = refl
-timed (events.Follow node) = refl
-timed (events.Enter node copy at) = refl
-timed (events.Leave node transit at) = refl
-timed (events.Arrive node copy at) = refl
-timed (events.Hear node copy) = refl
-timed (events.Request node at) = refl
-timed (events.Stamped node) = refl
-timed (events.Tick node) = refl
-timed (events.SetMaster node master) = refl
 timed (events.StepClock node diff) = refl
+timed _ = refl
 
 abbrev node_made : List ℕ → NodeKind → NodeSpec
 node_made name kind = record { name = name; kind = kind }

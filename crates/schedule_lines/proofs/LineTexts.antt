@@ -7,7 +7,7 @@ use Rattle.std.proofs.lemmas.Bool.Decides.{nat_tests}
 use Rattle.std.proofs.lemmas.Int.{ints}
 use Rattle.std.proofs.lemmas.List.Sums.{list_all-from_AllPass}
 use Rattle.hex.specs.Hex.{IsBytes}
-use Rattle.serde_json.specs.Data.{Data, number, string}
+use Rattle.serde_json.specs.Data.{number, string}
 use Rattle.serde_json.specs.Find.{of_integer}
 use Rattle.serde_json.specs.Written.{compact_text}
 use Rattle.event_codec.specs.declared.port.PortConfig.{PortConfig}
@@ -24,8 +24,7 @@ use Rattle.network_model.specs.declared.node.NodeSpec.{NodeSpec}
 use Rattle.trace_model.specs.declared.line.TraceLine.{TraceLine}
 use Rattle.trace_model.specs.declared.line.TraceOut.{TraceOut}
 use Rattle.schedule_lines.proofs.Keys.{Field, members_of, line_fields}
-use Rattle.schedule_lines.specs.Line.{one_if}
-use Rattle.schedule_lines.proofs.Lookup.{count, members_len-members_of}
+use Rattle.schedule_lines.proofs.Lookup.{count_fields, members_len-members_of}
 use Rattle.schedule_lines.specs.Written.{whole, moment_data, difference_data, octets_data, port_data, kind_data}
 use Rattle.schedule_lines.specs.Written.{node_data, event_text, out_text, made_octets, out_code}
 use Rattle.schedule_lines.specs.Written.{out_report, follow_data, tags_data, event_data}
@@ -140,14 +139,6 @@ fields_shown n line h tagged =
     (pair (field_shown (λ r. difference_data r.offset2) (out_report line.out) IsShortReport (λ r short. shown_difference r.offset2 short.0) short)
     (pair (field_shown (λ r. difference_data r.path2) (out_report line.out) IsShortReport (λ r short. shown_difference r.path2 short.1) short)
     (pair (field_shown tags_data (out_report line.out) HasTags shown_tags tagged.report) tt))))))))))))))
-
-one_or_none : (o : Option Data) → one_if o ≤ 1
-one_or_none None = omega arith
-one_or_none (Some d) = omega arith
-
-count_fields : (fs : List Field) → count fs ≤ length fs
-count_fields [] = omega arith
-count_fields (f ∷ fs) = omega (arith, one_or_none f.1, count_fields fs)
 
 -- the text of an event's line
 pub event_fits : (n : ℕ) (line : TraceLine) → IsRecorded line → IsTagged n line → Fits 4096 (compact_text (event_data n line))

@@ -1,5 +1,5 @@
 -- What stands at a key of a line, and how many keys there are.
-use Rattle.std.proofs.Common.{◌≡◌, ℕ, suc, ◌+◌, List, [], ◌∷◌, Bool, true, false, ◌&&◌, not, Option, Some, None}
+use Rattle.std.proofs.Common.{◌≡◌, ◌≤◌, ℕ, suc, ◌+◌, List, [], ◌∷◌, length, Bool, true, false, ◌&&◌, not, Option, Some, None}
 use Rattle.std.proofs.Common.{if◌then◌else◌, Ordering, Less, Equal, Greater, nat_cmp, bytes_eq, refl, ap, ◌∙◌, arith}
 use Rattle.std.specs.Option.{option_or}
 use Rattle.std.specs.Cmp.Lexicographic.{slice_cmp}
@@ -9,7 +9,6 @@ use Rattle.serde_json.specs.Data.{Data, Members, no_members, member, put}
 use Rattle.serde_json.specs.Events.{members_len}
 use Rattle.serde_json.specs.Find.{get_member}
 use Rattle.serde_json.proofs.Views.{get_member-put, get_member-put_other}
-use Rattle.schedule_lines.specs.Line.{one_if}
 use Rattle.schedule_lines.proofs.Keys.{Field, members_of}
 use Rattle.schedule_lines.specs.Written.{with_some}
 
@@ -47,9 +46,22 @@ pub option_or-none : (o : Option Data) → option_or o None ≡ o
 option_or-none None = refl
 option_or-none (Some d) = refl
 
+-- one where there is a value
+abbrev pub one_if : {X : Type 0} → Option X → ℕ
+one_if None = 0
+one_if (Some x) = 1
+
 abbrev pub count : List Field → ℕ
 count [] = 0
 count (f ∷ fs) = one_if f.1 + count fs
+
+one_or_none : (o : Option Data) → one_if o ≤ 1
+one_or_none None = omega arith
+one_or_none (Some d) = omega arith
+
+pub count_fields : (fs : List Field) → count fs ≤ length fs
+count_fields [] = omega arith
+count_fields (f ∷ fs) = omega (arith, one_or_none f.1, count_fields fs)
 
 abbrev pub is_absent : List ℕ → List Field → Bool
 is_absent q [] = true

@@ -12,8 +12,7 @@ use Rattle.serde_json.specs.Find.{get, get_member}
 use Rattle.schedule_lines.specs.Keys.{HaveSameKeys}
 use Rattle.schedule_lines.specs.Json.{has_keys}
 use Rattle.schedule_lines.proofs.Keys.{Field, members_of}
-use Rattle.schedule_lines.specs.Line.{one_if}
-use Rattle.schedule_lines.proofs.Lookup.{find, get_member-members_of, count, is_absent, are_distinct, both, or_same}
+use Rattle.schedule_lines.proofs.Lookup.{find, get_member-members_of, one_if, count, is_absent, are_distinct, both, or_same}
 
 -- ---- members without a key
 

@@ -1,6 +1,6 @@
 -- Each line that is read has just the keys of what is written of it.
 use Rattle.std.proofs.Common.{◌≡◌, ◌∙◌, ℕ, true, false, List, [], codes, Option, Some, None, IfSome, is_some}
-use Rattle.std.proofs.Common.{option_map, option_and_then, bytes_eq, refl, sym, ap}
+use Rattle.std.proofs.Common.{option_map, option_and_then, bytes_eq, refl, sym, subst, ap}
 use Rattle.serde_json.specs.Data.{Data}
 use Rattle.serde_json.specs.Find.{get, as_str}
 use Rattle.slave_port.specs.declared.heard.Report.{Report}
@@ -32,7 +32,9 @@ use Rattle.schedule_lines.specs.declared.reading.transcript.TranscriptLine.{Tran
 use Rattle.schedule_lines.specs.TranscriptLine.{report_of, report_in, out_of, reading_in, trace_line_in, line_keys}
 use Rattle.schedule_lines.specs.Written.{node_data, kind_data, port_data, scheduled_data, made_octets}
 use Rattle.schedule_lines.specs.Written.{out_code, out_report}
-use Rattle.network_model.proofs.Options.{mapped, weaker, then_also, either}
+use Rattle.schedule_lines.specs.Ranges.{IsRecorded}
+use Rattle.schedule_lines.proofs.Ranges.{recorded_read}
+use Rattle.network_model.proofs.Options.{if_some, mapped, weaker, then_also, either}
 use Rattle.schedule_lines.proofs.ReadBack.{event_count, line_count}
 use Rattle.network_model.specs.declared.event.Event.TheVariants as events
 use Rattle.network_model.specs.declared.node.NodeKind.TheVariants as kinds
@@ -295,9 +297,10 @@ pub transcript_lines_have_own_keys : TranscriptLinesHaveOwnKeys
 transcript_lines_have_own_keys d =
     let P : TranscriptLine → Type 0 = λ line. HaveSameKeys d (transcript_line_data line) in
     either P (is_some (get (codes "ev") d)) _ _
-    (λ _. then_also (HasRecorded d) P _ (trace_line_in d) (has_recorded d) (λ line h.
+    (λ _. then_also (λ line. HasRecorded d line × IsRecorded line) P _ (trace_line_in d) (if_some _ (trace_line_in d) (λ line is.
+    (subst (λ o. IfSome o (HasRecorded d)) is (has_recorded d), subst (λ o. IfSome o IsRecorded) is (recorded_read d)))) (λ line (h, r).
     then_field P _ whole_in (codes "n") d (λ n number.
     either P (has_keys (line_keys line) d) (Some (lines.Event n line)) None
-    (λ keys. own_keys d (line_fields n line) (line_keys line) refl (line_count n line) keys
+    (λ keys. own_keys d (line_fields n line) (line_keys line) refl (line_count n line r) keys
     (event_has_fields d line.event (answer_fields n line) h.event (answer_has_fields d n line h number))) (λ _. tt))))
     (λ _. mapped P lines.Node (node_spec_in d) (has_node d))

@@ -188,7 +188,7 @@ reading_read (Some at) d =
     mapped (IsReading (Some at)) Some shown
     (weaker (λ time. time < bound) (λ time. IsReading (Some at) (Some time)) shown (and_then (λ time. time < bound) moment_in (get (codes "reading") d) moment_read) (λ time x. (refl, x)))
 
-recorded_read : (d : Data) → IfSome (trace_line_in d) IsRecorded
+pub recorded_read : (d : Data) → IfSome (trace_line_in d) IsRecorded
 recorded_read d =
     then_also IsEvent IsRecorded _ (event_in d) (event_read d) (λ event x.
     then_also (IsReading (true_moment event)) IsRecorded _ (reading_in (true_moment event) d) (reading_read (true_moment event) d) (λ reading y.

@@ -1,5 +1,5 @@
 -- A written line, read again.
-use Rattle.std.proofs.Common.{◌≡◌, ◌==◌, ℕ, ℤ, ◌+◌, ◌<◌, List, [], codes, Option, Some, None, true, is_some, IfSome}
+use Rattle.std.proofs.Common.{◌≡◌, ◌==◌, ℕ, ℤ, ◌+◌, ◌<◌, List, [], length, codes, Option, Some, None, true, is_some, IfSome}
 use Rattle.std.proofs.Common.{option_map, option_and_then, refl, ap, ◌∙◌, arith}
 use Rattle.std.specs.Option.{option_or}
 use Rattle.std.proofs.lemmas.Bool.Decides.{nat_tests}
@@ -17,10 +17,15 @@ use Rattle.trace_model.specs.declared.line.TraceLine.{TraceLine}
 use Rattle.trace_model.specs.declared.line.TraceOut.{TraceOut}
 use Rattle.schedule_lines.specs.Json.{field, has_keys, moment_in, name_in, whole_in, whole_below, octets_in}
 use Rattle.schedule_lines.specs.Json.{difference_in}
-use Rattle.schedule_lines.specs.Line.{event_in, event_keys, node_in, at_in, copy_in, line_of, one_if}
+use Rattle.schedule_lines.specs.Line.{event_in, event_keys, node_in, at_in, copy_in, line_of}
 use Rattle.schedule_lines.specs.TranscriptLine.{trace_line_in}
+use Rattle.line_object.specs.declared.key.Key.{Key}
+use Rattle.schedule_lines.specs.EventKind.{kind_of_event}
+use Rattle.schedule_lines.specs.Inner.Asked.{reading_key}
+use Rattle.schedule_lines.specs.Needed.{reading_keys}
+use Rattle.schedule_lines.proofs.Asked.{timed}
 use Rattle.schedule_lines.proofs.Keys.{Field, members_of, event_fields, answer_fields, line_fields}
-use Rattle.schedule_lines.proofs.Lookup.{find, get_member-members_of, option_or-none, count, members_len-members_of}
+use Rattle.schedule_lines.proofs.Lookup.{find, get_member-members_of, option_or-none, one_if, count, members_len-members_of}
 use Rattle.schedule_lines.proofs.Texts.{name_back, below_back, octets_back, moment_back, difference_back, report_back}
 use Rattle.schedule_lines.specs.TranscriptLine.{transcript_line_of, trace_line_in, reading_in, out_of}
 use Rattle.schedule_lines.specs.TranscriptLine.{out_keys, line_keys, code_in, report_in}
@@ -89,25 +94,31 @@ event_counted _ = refl
 
 out_counted : (out : TraceOut)
     → one_if (option_map whole (out_code out)) + one_if (option_map octets_data (made_octets out)) + one_if (option_map (λ r. difference_data r.offset2) (out_report out))
-    + one_if (option_map (λ r. difference_data r.path2) (out_report out)) + one_if (option_map tags_data (out_report out)) + 1 ≡ out_keys out
+    + one_if (option_map (λ r. difference_data r.path2) (out_report out)) + one_if (option_map tags_data (out_report out)) ≡ out_keys out
 out_counted (outs.Refused reason) = refl
 out_counted _ = refl
 
-reading_counted : (reading : Option ℕ) → one_if (option_map moment_data reading) ≡ one_if reading
-reading_counted None = refl
-reading_counted (Some time) = refl
+reading_counted : (event : Event) (reading : Option ℕ) → is_some reading ≡ is_some (true_moment event)
+    → one_if (option_map moment_data reading) ≡ length (reading_keys (kind_of_event event))
+reading_counted event reading h = one (true_moment event) reading h ∙ ap (λ (ks : List Key). length ks) (timed event)
+  where
+    one : (at reading : Option ℕ) → is_some reading ≡ is_some at → one_if (option_map moment_data reading) ≡ length (reading_key at)
+    one None None e = refl
+    one None (Some time) e = absurd (cc)
+    one (Some at) None e = absurd (cc)
+    one (Some at) (Some time) e = refl
 
 pub event_count : (event : Event) → count (event_fields event []) ≡ event_keys event
 event_count event = omega (arith, event_counted event)
 
-pub line_count : (n : ℕ) (line : TraceLine) → count (line_fields n line) ≡ line_keys line
-line_count n line = omega (arith, event_counted line.event, out_counted line.out, reading_counted line.reading)
+pub line_count : (n : ℕ) (line : TraceLine) → IsRecorded line → count (line_fields n line) ≡ line_keys line
+line_count n line h = omega (arith, event_counted line.event, out_counted line.out, reading_counted line.event line.reading h.timed)
 
 same_count : (m k : ℕ) → m ≡ k → (m == k) ≡ true
 same_count m k e = grind (arith, nat_tests)
 
-keys_back : (n : ℕ) (line : TraceLine) → has_keys (line_keys line) (event_data n line) ≡ true
-keys_back n line = same_count _ _ (members_len-members_of (line_fields n line) refl ∙ line_count n line)
+keys_back : (n : ℕ) (line : TraceLine) → IsRecorded line → has_keys (line_keys line) (event_data n line) ≡ true
+keys_back n line h = same_count _ _ (members_len-members_of (line_fields n line) refl ∙ line_count n line h)
 
 -- ---- what stands at its keys
 
@@ -218,4 +229,4 @@ reads_back n line h =
     (told (line_fields n line) (codes "out") as_str string (Some (out_text line.out)) (λ _. Unit {0}) refl (λ _ _. refl) tt)
     (read_out n line h))
     (told (line_fields n line) (codes "n") whole_in whole (Some n) (λ _. Unit {0}) refl (λ _ _. refl) tt)
-    (keys_back n line)
+    (keys_back n line h)

@@ -1,5 +1,5 @@
 -- What a line of a transcript is, or why it is refused, from what is read of its keys.
-use Rattle.std.proofs.Common.{◌≡◌, ◌∙◌, ◌++◌, ◌+◌, ℕ, true, false, List, [], ◌∷◌, length, codes, refl, sym, subst, arith, length-append}
+use Rattle.std.proofs.Common.{◌≡◌, ◌++◌, ℕ, true, false, List, [], ◌∷◌, length, codes, refl, sym, subst, arith, length-append}
 use Rattle.std.proofs.Common.{Option, Some, None, is_some, option_map, option_and_then, Result, Ok, Err}
 use Rattle.std.specs.Prelude.{MatchOption, MatchResult}
 use Rattle.serde_json.specs.Data.{Data}
@@ -11,26 +11,22 @@ use Rattle.network_model.specs.declared.event.Event.{Event}
 use Rattle.trace_model.specs.declared.line.TraceLine.{TraceLine}
 use Rattle.trace_model.specs.declared.line.TraceOut.{TraceOut}
 use Rattle.schedule_lines.specs.EventKind.{kind_of_event}
-use Rattle.schedule_lines.specs.Json.{field, has_keys, moment_in, whole_in}
-use Rattle.schedule_lines.specs.Line.{event_in, one_if}
+use Rattle.schedule_lines.specs.Json.{field, has_keys, whole_in}
+use Rattle.schedule_lines.specs.Line.{event_in}
 use Rattle.schedule_lines.specs.Needed.{keys_of_event, kind_in, outcome_keys, outcome_keys_in, own_keys, reading_keys, recorded_keys}
-use Rattle.schedule_lines.specs.Refusal.{Answers, Asks, HasEach, IsRefused, IsSoOf, reading_key}
+use Rattle.schedule_lines.specs.Refusal.{Answers, HasEach, IsRefused, IsSoOf}
+use Rattle.schedule_lines.specs.Inner.Asked.{Asks, reading_key}
 use Rattle.schedule_lines.specs.TranscriptLine.{line_keys, out_keys, out_of, reading_in, trace_line_in, traced_in}
 use Rattle.schedule_lines.specs.declared.reading.transcript.TranscriptLine.{TranscriptLine}
 use Rattle.schedule_lines.specs.declared.reading.transcript.TranscriptLine.TheVariants as lines
 use Rattle.schedule_lines.specs.declared.refusal.Refusal.{Refusal}
 use Rattle.schedule_lines.specs.declared.refusal.Refusal.TheVariants.{TooMuch, Wrong}
-use Rattle.schedule_lines.proofs.Asked.{counted, has_append, of_later, of_left, of_right, refused, timed}
+use Rattle.schedule_lines.proofs.Asked.{has_append, of_later, of_left, of_right, refused, timed}
 
 at_out : (o : Option Data) (text : List ℕ) (ks : Option (List Key)) → option_and_then as_str o ≡ Some text → outcome_keys text ≡ ks
     → option_map (λ v. is_some (option_and_then outcome_keys (as_str v))) o ≡ Some (is_some ks)
 at_out None text ks said tells = absurd (cc)
 at_out (Some v) text ks said tells = rw (said, tells) refl
-
--- a reading, where there is a true moment
-abbrev read_as : Option ℕ → Option ℕ → Option (Option ℕ)
-read_as None o = Some None
-read_as (Some at) o = option_map Some o
 
 module _ (d : Data) where
   abbrev OutFound : Option TraceOut
@@ -96,35 +92,18 @@ module _ (d : Data) where
         of_recorded r (of_later d r keys.Out (outcome_keys_in d ++ (keys.Number ∷ [])) (of_right d r (outcome_keys_in d) (keys.Number ∷ []) h.1)),
       )
 
-      reading_count : (at : Option ℕ) (o x : Option ℕ) → read_as at o ≡ Some x → one_if x ≡ length (reading_key at)
-      reading_count None o None e = refl
-      reading_count None o (Some n) e = absurd (cc)
-      reading_count (Some at) None x e = absurd (cc)
-      reading_count (Some at) (Some m) None e = absurd (cc)
-      reading_count (Some at) (Some m) (Some n) e = refl
-
-      as_read : (at : Option ℕ) → reading_in at d ≡ Some reading → read_as at (field moment_in (codes "reading") d) ≡ Some reading
-      as_read None e = e
-      as_read (Some at) e = e
-
-      all_length : out_keys out ≡ 1 + length (outcome_keys_in d) → length (keys_of_event (Some (kind_of_event event)) ++ recorded) ≡ line_keys (line_made event reading out)
-      all_length many =
-          let own = counted event in
-          let one : one_if reading ≡ length (reading_keys (kind_of_event event)) =
-          reading_count (true_moment event) (field moment_in (codes "reading") d) reading (as_read (true_moment event) read) ∙ subst (λ l. length (reading_key (true_moment event)) ≡ length l) (timed event) refl in
-          omega (
-            arith,
-            many,
-            own,
-            one,
-            length-append (own_keys (kind_of_event event)) recorded,
-            length-append (reading_keys (kind_of_event event)) (keys.Out ∷ (outcome_keys_in d ++ (keys.Number ∷ []))),
-            length-append (outcome_keys_in d) (keys.Number ∷ []),
-          )
+      all_length : out_keys out ≡ length (outcome_keys_in d) → length (keys_of_event (Some (kind_of_event event)) ++ recorded) ≡ line_keys (line_made event reading out)
+      all_length many = omega (
+        arith,
+        many,
+        length-append (own_keys (kind_of_event event)) recorded,
+        length-append (reading_keys (kind_of_event event)) (keys.Out ∷ (outcome_keys_in d ++ (keys.Number ∷ []))),
+        length-append (outcome_keys_in d) (keys.Number ∷ []),
+      )
 
       pub answered : (n : ℕ) (result : Result TranscriptLine Refusal)
           → HasEach d (keys_of_event (kind_in d)) → HasEach d (reading_key (true_moment event)) → HasEach d (keys.Out ∷ outcome_keys_in d)
-          → out_keys out ≡ 1 + length (outcome_keys_in d) → (field whole_in (codes "n") d ≡ Some n) × HasEach d (keys.Number ∷ [])
+          → out_keys out ≡ length (outcome_keys_in d) → (field whole_in (codes "n") d ≡ Some n) × HasEach d (keys.Number ∷ [])
           → MatchResult result (λ j. (j ≡ lines.Event n (line_made event reading out)) × (has_keys (line_keys (line_made event reading out)) d ≡ true))
           (λ r. (r ≡ TooMuch) × (has_keys (line_keys (line_made event reading out)) d ≡ false))
           → Answers (traced_in d) d needed result

@@ -1,14 +1,12 @@
 -- Which node or event a line is, from its JSON value. Each form has just its keys: as many as it has, and each of
 -- these.
-use Rattle.std.specs.Prelude.{ℕ, ◌+◌, List, codes, if◌then◌else◌, Option, Some, None, option_map, option_and_then}
+use Rattle.std.specs.Prelude.{ℕ, List, length, codes, if◌then◌else◌, Option, Some, None, option_map, option_and_then}
 use Rattle.std.specs.Prelude.{is_some}
 use Rattle.std.specs.Str.{bytes_eq}
 use Rattle.serde_json.specs.Data.{Data}
 use Rattle.serde_json.specs.Find.{get, as_str}
 use Rattle.event_codec.specs.declared.port.PortConfig.{PortConfig}
 use Rattle.ptp_units.specs.declared.sequence.Seq.{Seq}
-use Rattle.network_model.specs.Run.{true_moment}
-use Rattle.network_model.specs.Kinds.{named_copy, named_master, named_difference, named_transit}
 use Rattle.network_model.specs.declared.event.Event.{Event}
 use Rattle.network_model.specs.declared.node.NodeKind.{NodeKind}
 use Rattle.network_model.specs.declared.node.NodeSpec.{NodeSpec}
@@ -18,7 +16,8 @@ use Rattle.schedule_lines.specs.declared.event_kind.EventKind.{EventKind}
 use Rattle.schedule_lines.specs.declared.event_kind.EventKind.TheVariants.{Sync, SyncOne, Follow, Enter, Leave}
 use Rattle.schedule_lines.specs.declared.event_kind.EventKind.TheVariants.{Arrive, Hear, Request, Stamped, Tick}
 use Rattle.schedule_lines.specs.declared.event_kind.EventKind.TheVariants.{SetMaster, StepClock}
-use Rattle.schedule_lines.specs.EventKind.{kind_of}
+use Rattle.schedule_lines.specs.EventKind.{kind_of, kind_of_event}
+use Rattle.schedule_lines.specs.Needed.{clock_keys, keys_of_event, port_keys}
 use Rattle.schedule_lines.specs.declared.reading.schedule.Line.{Line}
 use Rattle.network_model.specs.declared.event.Event.TheVariants as events
 use Rattle.network_model.specs.declared.node.NodeKind.TheVariants as kinds
@@ -56,16 +55,9 @@ event_in d =
     option_and_then (λ kind. option_and_then (λ node. event_at kind node d) (node_in d))
     (option_and_then kind_of (field as_str (codes "ev") d))
 
--- one key where there is a value
-abbrev pub one_if : {X : Type 0} → Option X → ℕ
-one_if None = 0
-one_if (Some x) = 1
-
--- how many keys an event has: `ev`, `node`, and one for each thing that it names
+-- how many keys an event has
 abbrev pub event_keys : Event → ℕ
-event_keys event =
-    one_if (true_moment event) + one_if (named_copy event) + one_if (named_difference event)
-    + one_if (named_master event) + one_if (named_transit event) + 2
+event_keys event = length (keys_of_event (Some (kind_of_event event)))
 
 -- the event that an object with key `ev` is, with just its keys
 abbrev pub scheduled_in : Data → Option Event
@@ -86,14 +78,14 @@ first_in d = option_map (λ first. record { 0 = first }) (field (whole_below 655
 -- a node that has a port
 abbrev pub port_in : (PortConfig → Seq → NodeKind) → Data → Option NodeKind
 port_in kind d =
-    if has_keys 7 d then option_and_then (λ config. option_map (kind config) (first_in d)) (config_in d) else None
+    if has_keys (length port_keys) d then option_and_then (λ config. option_map (kind config) (first_in d)) (config_in d) else None
 
 -- what a node is, from the text of `kind`
 abbrev pub node_kind : List ℕ → Data → Option NodeKind
 node_kind text d =
     if bytes_eq text (codes "master") then port_in kinds.Master d
     else if bytes_eq text (codes "slave") then port_in kinds.Slave d
-    else if bytes_eq text (codes "clock") then (if has_keys 2 d then Some kinds.Clock else None)
+    else if bytes_eq text (codes "clock") then (if has_keys (length clock_keys) d then Some kinds.Clock else None)
     else None
 
 -- the node that an object without key `ev` is

@@ -17,12 +17,16 @@ use Rattle.line_object.specs.declared.key.Key.TheVariants as keys
 abbrev pub port_keys : List Key
 port_keys = keys.Kind ∷ keys.Node ∷ keys.Id ∷ keys.Port ∷ keys.Domain ∷ keys.Log ∷ keys.First ∷ []
 
+-- the keys of a clock
+abbrev pub clock_keys : List Key
+clock_keys = keys.Kind ∷ keys.Node ∷ []
+
 -- the keys of a node, by the text of `kind`
 abbrev pub node_keys : List ℕ → Option (List Key)
 node_keys text =
     if bytes_eq text (codes "master") then Some port_keys
     else if bytes_eq text (codes "slave") then Some port_keys
-    else if bytes_eq text (codes "clock") then Some (keys.Kind ∷ keys.Node ∷ [])
+    else if bytes_eq text (codes "clock") then Some clock_keys
     else None
 
 -- the keys of a kind of event in a schedule, beside `ev` and `node`

@@ -1,6 +1,6 @@
 -- Which node or event with its answer a line of a transcript is, from its JSON value. Each form has just its keys.
-use Rattle.std.specs.Prelude.{ℕ, ℤ, ◌+◌, List, codes, if◌then◌else◌, Option, Some, None, option_map, option_and_then}
-use Rattle.std.specs.Prelude.{is_some}
+use Rattle.std.specs.Prelude.{ℕ, ℤ, ◌+◌, List, [], length, codes, if◌then◌else◌, Option, Some, None, option_map, option_and_then}
+use Rattle.std.specs.Prelude.{is_some, unwrap_or}
 use Rattle.std.specs.Str.{bytes_eq}
 use Rattle.serde_json.specs.Data.{Data, null, boolean, number, string, array, object}
 use Rattle.serde_json.specs.Find.{get, as_str}
@@ -10,7 +10,10 @@ use Rattle.trace_model.specs.declared.line.TraceLine.{TraceLine}
 use Rattle.trace_model.specs.declared.line.TraceOut.{TraceOut}
 use Rattle.schedule_lines.specs.Json.{field, has_keys, has_items, item_at, moment_in, whole_in, whole_below}
 use Rattle.schedule_lines.specs.Json.{octets_in, difference_in}
-use Rattle.schedule_lines.specs.Line.{event_in, event_keys, node_spec_in, one_if}
+use Rattle.schedule_lines.specs.Line.{event_in, event_keys, node_spec_in}
+use Rattle.schedule_lines.specs.EventKind.{kind_of_event}
+use Rattle.schedule_lines.specs.Needed.{outcome_keys, reading_keys}
+use Rattle.schedule_lines.specs.Written.{out_text}
 use Rattle.schedule_lines.specs.declared.reading.transcript.TranscriptLine.{TranscriptLine}
 use Rattle.trace_model.specs.declared.line.TraceOut.TheVariants as outs
 use Rattle.schedule_lines.specs.declared.reading.transcript.TranscriptLine.TheVariants as lines
@@ -75,22 +78,18 @@ out_of text d =
     else if bytes_eq text (codes "refused") then option_map outs.Refused (code_in d)
     else None
 
--- how many keys tell what an event brought about, `out` among them
+-- how many keys tell what an event brought about, beside `out`
 abbrev pub out_keys : TraceOut → ℕ
-out_keys (outs.Made octets) = 2
-out_keys (outs.Report report) = 4
-out_keys (outs.Ignored code) = 2
-out_keys (outs.Refused code) = 2
-out_keys _ = 1
+out_keys out = length (unwrap_or (outcome_keys (out_text out)) [])
 
 -- what the node's clock is said to have read, for an event that has a true moment and for no other
 abbrev pub reading_in : Option ℕ → Data → Option (Option ℕ)
 reading_in None d = Some None
 reading_in (Some at) d = option_map Some (field moment_in (codes "reading") d)
 
--- how many keys the line of an event has, `n` among them
+-- how many keys the line of an event has, `out` and `n` among them
 abbrev pub line_keys : TraceLine → ℕ
-line_keys line = event_keys line.event + one_if line.reading + out_keys line.out + 1
+line_keys line = event_keys line.event + length (reading_keys (kind_of_event line.event)) + out_keys line.out + 2
 
 -- what was recorded of an event, whatever keys stand beside those that tell it
 abbrev pub trace_line_in : Data → Option TraceLine

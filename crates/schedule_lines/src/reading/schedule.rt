@@ -3,7 +3,7 @@ ghost use Rattle.std.specs.Prelude.{◌≡◌, [], ◌∷◌, true, false, codes
 ghost use Rattle.serde_json.specs.Find.{get, as_str};
 ghost use Rattle.line_object.specs.declared.key.Key.TheVariants.{Domain, Ev, First, Id, Log, Node, Port};
 ghost use Rattle.schedule_lines.specs.EventKind.{kind_of, kind_of_event};
-ghost use Rattle.schedule_lines.specs.Line.{line_of, scheduled_in, event_in, event_at, event_keys};
+ghost use Rattle.schedule_lines.specs.Line.{line_of, scheduled_in, event_in, event_at};
 ghost use Rattle.schedule_lines.specs.Json.{has_keys};
 ghost use Rattle.schedule_lines.specs.Line.{config_in, node_spec_in};
 ghost use Rattle.schedule_lines.specs.Needed.{keys_of_event, kind_in, needed_of_node, own_keys, scheduled_keys};
@@ -11,6 +11,7 @@ ghost use Rattle.schedule_lines.specs.Refusal.{Answers};
 ghost use Rattle.schedule_lines.specs.Inner.Asked.{Asks, port_parts};
 
 use crate::event_kind::EventKind;
+use crate::needed::{OF_CLOCKS, OF_PORTS};
 use crate::reading::asked::{
     below_at, clock_at, difference_at, moment_at, name_at, signed_octet_at, whole_at,
 };
@@ -50,7 +51,8 @@ fn scheduled_in<M: LineMembers>(ev: &M::Value, members: &M) -> Result<Event, Ref
         (keys_of_event (kind_in (M.as_data members.now))) result }
 {
     let event = event_in(ev, members)?;
-    just(members, event_keys(&event), event)
+    let count = 2 + EventKind::of(&event).own_keys().len();
+    just(members, count, event)
 }
 
 /// The kind of event that `ev` names.
@@ -79,22 +81,6 @@ pub(crate) fn event_in<M: LineMembers>(ev: &M::Value, members: &M) -> Result<Eve
     let kind = kind_in(ev)?;
     let node = name_at(members, Key::Node)?;
     event_at(kind, node, members)
-}
-
-/// How many keys an event has, `ev` and `node` among them.
-pub(crate) fn event_keys(event: &Event) -> usize
-    ensures { result ≡ event_keys event.now }
-{
-    match event {
-        Event::Enter { .. } | Event::Leave { .. } | Event::Arrive { .. } => 4,
-        Event::Follow { .. } | Event::Stamped { .. } | Event::Tick { .. } => 2,
-        Event::Sync { .. }
-        | Event::SyncOne { .. }
-        | Event::Hear { .. }
-        | Event::Request { .. }
-        | Event::SetMaster { .. }
-        | Event::StepClock { .. } => 3,
-    }
 }
 
 /// The event of a kind at a node.
@@ -164,17 +150,17 @@ pub(crate) fn node_spec_in<M: LineMembers>(members: &M) -> Result<NodeSpec, Refu
         "master" => {
             let (name, config, first) = port_in(members)?;
             let kind = NodeKind::Master { config, first };
-            just(members, 7, NodeSpec { name, kind })
+            just(members, OF_PORTS.len(), NodeSpec { name, kind })
         }
         "slave" => {
             let (name, config, first) = port_in(members)?;
             let kind = NodeKind::Slave { config, first };
-            just(members, 7, NodeSpec { name, kind })
+            just(members, OF_PORTS.len(), NodeSpec { name, kind })
         }
         "clock" => {
             let name = name_at(members, Key::Node)?;
             let kind = NodeKind::Clock;
-            just(members, 2, NodeSpec { name, kind })
+            just(members, OF_CLOCKS.len(), NodeSpec { name, kind })
         }
         _ => Err(Refusal::Wrong { key: Key::Kind }),
     }

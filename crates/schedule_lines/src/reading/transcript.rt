@@ -1,10 +1,10 @@
 //! Lines of transcripts, read: nodes, and events with what was recorded of them.
-ghost use Rattle.std.specs.Prelude.{◌≡◌, ◌∷◌, ◌++◌, ◌+◌, false, Err, length, option_and_then, codes, IfOk, MatchResult, MatchOption, IfSome, Some, None, true, unwrap_or, []};
+ghost use Rattle.std.specs.Prelude.{◌≡◌, ◌∷◌, ◌++◌, false, Err, length, option_and_then, codes, IfOk, MatchResult, MatchOption, IfSome, Some, None, true, unwrap_or, []};
 ghost use Rattle.serde_json.specs.Find.{get, as_str};
 ghost use Rattle.line_object.specs.Key.{key_text};
 ghost use Rattle.line_object.specs.declared.key.Key.TheVariants.{Code, Hex, Offset2, Out, Path2, Tags};
 ghost use Rattle.schedule_lines.specs.Json.{field};
-ghost use Rattle.schedule_lines.specs.TranscriptLine.{transcript_line_of, traced_in, line_keys};
+ghost use Rattle.schedule_lines.specs.TranscriptLine.{transcript_line_of, traced_in};
 ghost use Rattle.schedule_lines.specs.TranscriptLine.{reading_in, out_of, out_keys, made_in, code_in, report_in};
 ghost use Rattle.schedule_lines.specs.TranscriptLine.{report_of, follow_in};
 ghost use Rattle.schedule_lines.specs.Json.{item_at, whole_in, octets_in};
@@ -13,8 +13,9 @@ ghost use Rattle.schedule_lines.specs.Refusal.{Answers, HasEach, IsSoOf};
 ghost use Rattle.schedule_lines.specs.Inner.Asked.{Asks, reading_key};
 ghost use Rattle.schedule_lines.specs.Wanted.{array_of, is_wanted_part, part_wanted, place_of, HasWrong};
 
+use crate::needed::line_keys;
 use crate::reading::asked::{below_at, difference_at, moment_at, octets_at, value_at, whole_at};
-use crate::reading::schedule::{event_in, event_keys, just, node_spec_in};
+use crate::reading::schedule::{event_in, just, node_spec_in};
 use crate::refusal::Refusal;
 use crate::wanted::{Part, Wanted};
 use line_object::{Key, LineMembers, LineValue};
@@ -70,28 +71,6 @@ fn traced_in<M: LineMembers>(ev: &M::Value, members: &M) -> Result<TranscriptLin
     just(members, count, TranscriptLine::Event { number, line })
 }
 
-/// How many keys the line of an event has, `n` among them.
-fn line_keys(line: &TraceLine) -> usize
-    ensures { result ≡ line_keys line.now }
-{
-    let reading = match line.reading {
-        Some(_) => 1,
-        None => 0,
-    };
-    event_keys(&line.event) + reading + out_keys(&line.out) + 1
-}
-
-/// How many keys tell what an event brought about, `out` among them.
-fn out_keys(out: &TraceOut) -> usize
-    ensures { result ≡ out_keys out.now }
-{
-    match out {
-        TraceOut::Done | TraceOut::Entered | TraceOut::Held | TraceOut::Completed => 1,
-        TraceOut::Made(_) | TraceOut::Ignored(_) | TraceOut::Refused(_) => 2,
-        TraceOut::Report(_) => 4,
-    }
-}
-
 /// What the node's clock is said to have read, for an event that has a true moment and for no other.
 fn reading_in<M: LineMembers>(
     at: Option<ScaledTime>,
@@ -109,7 +88,7 @@ fn reading_in<M: LineMembers>(
 fn out_in<M: LineMembers>(members: &M) -> Result<TraceOut, Refusal>
     ensures asks { Asks (option_and_then (λ text. out_of text (M.as_data members.now)) (field as_str (codes "out") (M.as_data members.now)))
         (M.as_data members.now) (Out ∷ outcome_keys_in (M.as_data members.now)) result }
-    ensures many { IfOk result (λ out. out_keys out ≡ 1 + length (outcome_keys_in (M.as_data members.now))) }
+    ensures many { IfOk result (λ out. out_keys out ≡ length (outcome_keys_in (M.as_data members.now))) }
 {
     match value_at(members, Key::Out)?.as_str() {
         Some(text) => out_of(text, members),
@@ -122,7 +101,7 @@ fn out_of<M: LineMembers>(text: &str, members: &M) -> Result<TraceOut, Refusal>
     ensures asks { MatchOption (outcome_keys text.now)
         ((out_of text.now (M.as_data members.now) ≡ None) × (result ≡ Err (Refusal.Wrong Out)))
         (λ keys. Asks (out_of text.now (M.as_data members.now)) (M.as_data members.now) keys result) }
-    ensures many { IfOk result (λ out. MatchOption (outcome_keys text.now) ⊥ (λ keys. out_keys out ≡ 1 + length keys)) }
+    ensures many { IfOk result (λ out. MatchOption (outcome_keys text.now) ⊥ (λ keys. out_keys out ≡ length keys)) }
 {
     match text {
         "done" => Ok(TraceOut::Done),
