@@ -218,7 +218,7 @@ impl<'a, 'v> Search<'a, 'v> {
         match self.form {
             FileForm::Schedule => scheduled,
             FileForm::Transcript => Allowed {
-                told: kind.told_keys(),
+                told: kind.reading_and_out(),
                 outcome: self.outcome_keys(),
                 number: &[Key::Number],
                 ..scheduled

@@ -47,9 +47,9 @@ option_or-none None = refl
 option_or-none (Some d) = refl
 
 -- one where there is a value
-abbrev pub one_if : {X : Type 0} → Option X → ℕ
+abbrev pub one_if : Option Data → ℕ
 one_if None = 0
-one_if (Some x) = 1
+one_if (Some d) = 1
 
 abbrev pub count : List Field → ℕ
 count [] = 0

@@ -103,13 +103,13 @@ AreThere-from ms [] has = tt
 AreThere-from ms (f ∷ fs) has = (has.0, AreThere-from ms fs has.1)
 
 -- an object of as many keys as these, and each of these, has just their keys
-pub own_keys : (d : Data) (fs : List Field) (n : ℕ) → are_distinct fs ≡ true → count fs ≡ n → has_keys n d ≡ true → HasFields d fs
+pub have_same_keys : (d : Data) (fs : List Field) (n : ℕ) → are_distinct fs ≡ true → count fs ≡ n → has_keys n d ≡ true → HasFields d fs
     → HaveSameKeys d (object (members_of fs))
-own_keys null fs n apart long keys has q = absurd (cc)
-own_keys (boolean b) fs n apart long keys has q = absurd (cc)
-own_keys (number m) fs n apart long keys has q = absurd (cc)
-own_keys (string s) fs n apart long keys has q = absurd (cc)
-own_keys (array ds) fs n apart long keys has q = absurd (cc)
-own_keys (object ms) fs n apart long keys has q =
+have_same_keys null fs n apart long keys has q = absurd (cc)
+have_same_keys (boolean b) fs n apart long keys has q = absurd (cc)
+have_same_keys (number m) fs n apart long keys has q = absurd (cc)
+have_same_keys (string s) fs n apart long keys has q = absurd (cc)
+have_same_keys (array ds) fs n apart long keys has q = absurd (cc)
+have_same_keys (object ms) fs n apart long keys has q =
     let many : members_len ms ≡ count fs = grind (arith, nat_tests, keys, long) in
     same_keys fs ms apart many (AreThere-from ms fs has) q ∙ ap is_some (sym (get_member-members_of q fs))

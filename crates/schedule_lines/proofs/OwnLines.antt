@@ -22,7 +22,7 @@ use Rattle.schedule_lines.specs.TranscriptLine.{trace_line_in}
 use Rattle.schedule_lines.specs.Keys.{HaveSameKeys, line_data, transcript_line_data, LinesHaveOwnKeys}
 use Rattle.schedule_lines.specs.Keys.{TranscriptLinesHaveOwnKeys}
 use Rattle.schedule_lines.proofs.Keys.{Field, event_fields, answer_fields, line_fields}
-use Rattle.schedule_lines.proofs.OwnKeys.{HasFields, own_keys}
+use Rattle.schedule_lines.proofs.OwnKeys.{HasFields, have_same_keys}
 use Rattle.schedule_lines.proofs.Printed.{port_fields, clock_fields}
 use Rattle.schedule_lines.specs.declared.event_kind.EventKind.{EventKind}
 use Rattle.schedule_lines.specs.declared.event_kind.EventKind.TheVariants.{Sync, SyncOne, Enter, Leave}
@@ -249,7 +249,7 @@ HasNode d kind = (name : List ℕ) → HaveSameKeys d (kind_data name kind)
 
 port_has_keys : (d : Data) (name kind : List ℕ) (config : PortConfig) (first : Seq) → has_keys 7 d ≡ true → Has (codes "kind") d → Has (codes "node") d
     → HasConfig d → Has (codes "first") d → HaveSameKeys d (port_data name kind config first)
-port_has_keys d name kind config first keys k n c f = own_keys d (port_fields name kind config first) 7 refl refl keys
+port_has_keys d name kind config first keys k n c f = have_same_keys d (port_fields name kind config first) 7 refl refl keys
     (λ _. c.domain, (λ _. f, (λ _. c.clock, (λ _. k, (λ _. c.log, (λ _. n, (λ _. c.port, tt)))))))
 
 has_port : (kind : PortConfig → Seq → NodeKind) (text : List ℕ) (d : Data)
@@ -269,7 +269,7 @@ has_kind_of_node text d k n =
     either P (bytes_eq text (codes "master")) _ _ (λ _. has_port kinds.Master (codes "master") d (λ name config first. refl) k n) (λ _.
     either P (bytes_eq text (codes "slave")) _ _ (λ _. has_port kinds.Slave (codes "slave") d (λ name config first. refl) k n) (λ _.
     either P (bytes_eq text (codes "clock")) _ None (λ _. either P (has_keys 2 d) (Some kinds.Clock) None
-    (λ keys name. own_keys d (clock_fields name) 2 refl refl keys (λ _. k, (λ _. n, tt))) (λ _. tt)) (λ _. tt)))
+    (λ keys name. have_same_keys d (clock_fields name) 2 refl refl keys (λ _. k, (λ _. n, tt))) (λ _. tt)) (λ _. tt)))
 
 has_node : (d : Data) → IfSome (node_spec_in d) (λ node. HaveSameKeys d (node_data node))
 has_node d =
@@ -285,7 +285,7 @@ has_scheduled d =
     let P : Event → Type 0 = λ event. HaveSameKeys d (scheduled_data event) in
     then_also (HasEvent d) P _ (event_in d) (has_event d) (λ event e.
     either P (has_keys (event_keys event) d) (Some event) None
-    (λ keys. own_keys d (event_fields event []) (event_keys event) refl (event_count event) keys (event_has_fields d event [] e tt)) (λ _. tt))
+    (λ keys. have_same_keys d (event_fields event []) (event_keys event) refl (event_count event) keys (event_has_fields d event [] e tt)) (λ _. tt))
 
 -- lines of schedules
 pub lines_have_own_keys : LinesHaveOwnKeys
@@ -301,6 +301,6 @@ transcript_lines_have_own_keys d =
     (subst (λ o. IfSome o (HasRecorded d)) is (has_recorded d), subst (λ o. IfSome o IsRecorded) is (recorded_read d)))) (λ line (h, r).
     then_field P _ whole_in (codes "n") d (λ n number.
     either P (has_keys (line_keys line) d) (Some (lines.Event n line)) None
-    (λ keys. own_keys d (line_fields n line) (line_keys line) refl (line_count n line r) keys
+    (λ keys. have_same_keys d (line_fields n line) (line_keys line) refl (line_count n line r) keys
     (event_has_fields d line.event (answer_fields n line) h.event (answer_has_fields d n line h number))) (λ _. tt))))
     (λ _. mapped P lines.Node (node_spec_in d) (has_node d))

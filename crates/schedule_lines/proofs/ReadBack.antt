@@ -18,7 +18,6 @@ use Rattle.trace_model.specs.declared.line.TraceOut.{TraceOut}
 use Rattle.schedule_lines.specs.Json.{field, has_keys, moment_in, name_in, whole_in, whole_below, octets_in}
 use Rattle.schedule_lines.specs.Json.{difference_in}
 use Rattle.schedule_lines.specs.Line.{event_in, event_keys, node_in, at_in, copy_in, line_of}
-use Rattle.schedule_lines.specs.TranscriptLine.{trace_line_in}
 use Rattle.line_object.specs.declared.key.Key.{Key}
 use Rattle.schedule_lines.specs.EventKind.{kind_of_event}
 use Rattle.schedule_lines.specs.Inner.Asked.{reading_key}

@@ -1,11 +1,13 @@
-//! Which keys a line has: the one table of them.
+//! Which keys a line has, by its kind and its outcome: by these readers count, and refusals are explained.
 ghost use Rattle.std.specs.Prelude.{◌≡◌, ◌∷◌, ◌++◌, [], option_map};
+ghost use Rattle.schedule_lines.specs.Line.{event_keys};
 ghost use Rattle.schedule_lines.specs.Needed.{node_keys, outcome_keys, own_keys, reading_keys};
 ghost use Rattle.schedule_lines.specs.TranscriptLine.{line_keys, out_keys};
 ghost use Rattle.line_object.specs.declared.key.Key.TheVariants.{Out};
 
 use crate::event_kind::EventKind;
 use line_object::Key;
+use network_model::Event;
 use trace_model::{TraceLine, TraceOut};
 
 /// The keys of a node that has a port.
@@ -58,8 +60,9 @@ impl EventKind {
         }
     }
 
-    /// In a transcript the reading, where such an event has a true moment, and `out`.
-    pub fn told_keys(self) -> &'static [Key]
+    /// The keys by which a transcript tells of such an event, beside those of its outcome and `n`: the reading, where it has a
+    /// true moment, and `out`.
+    pub fn reading_and_out(self) -> &'static [Key]
         ensures { result.now ≡ reading_keys self ++ (Out ∷ []) }
     {
         match self {
@@ -104,11 +107,18 @@ fn out_keys(out: &TraceOut) -> usize
     }
 }
 
+/// How many keys an event has in a schedule: `ev`, `node`, and those of its kind.
+pub(crate) fn event_keys(event: &Event) -> usize
+    ensures { result ≡ event_keys event.now }
+{
+    2 + EventKind::of(event).own_keys().len()
+}
+
 /// How many keys the line of an event has in a transcript: `ev`, `node`, `n`, and those of the
 /// event's kind and of its outcome.
 pub(crate) fn line_keys(line: &TraceLine) -> usize
     ensures { result ≡ line_keys line.now }
 {
-    let kind = EventKind::of(&line.event);
-    3 + kind.own_keys().len() + kind.told_keys().len() + out_keys(&line.out)
+    let recorded = EventKind::of(&line.event).reading_and_out().len() + out_keys(&line.out);
+    event_keys(&line.event) + recorded + 1
 }

@@ -11,7 +11,7 @@ ghost use Rattle.schedule_lines.specs.Refusal.{Answers};
 ghost use Rattle.schedule_lines.specs.Inner.Asked.{Asks, port_parts};
 
 use crate::event_kind::EventKind;
-use crate::needed::{OF_CLOCKS, OF_PORTS};
+use crate::needed::{OF_CLOCKS, OF_PORTS, event_keys};
 use crate::reading::asked::{
     below_at, clock_at, difference_at, moment_at, name_at, signed_octet_at, whole_at,
 };
@@ -51,7 +51,7 @@ fn scheduled_in<M: LineMembers>(ev: &M::Value, members: &M) -> Result<Event, Ref
         (keys_of_event (kind_in (M.as_data members.now))) result }
 {
     let event = event_in(ev, members)?;
-    let count = 2 + EventKind::of(&event).own_keys().len();
+    let count = event_keys(&event);
     just(members, count, event)
 }
 
