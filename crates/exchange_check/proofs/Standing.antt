@@ -98,20 +98,20 @@ module _ (network : Network) (line : TraceLine) (earlier : Lines) where
   slave = site_of line.event
 
   -- a journey that begins at a line of its kind, and whose stays were left once
-  abbrev tested : (limit copy : ℕ) (begun once : Bool) → LineJourney → Result FoundJourney Unfollowed
-  tested limit copy begun once j = cond begun (cond once (Ok (found_journey_of network j)) (Err (LeftTwice copy)))
-      (Err (Stops limit (OtherEvent (line_number j.origin))))
+  abbrev tested : (by copy : ℕ) (begun once : Bool) → LineJourney → Result FoundJourney Unfollowed
+  tested by copy begun once j = cond begun (cond once (Ok (found_journey_of network j)) (Err (LeftTwice copy)))
+      (Err (Stops by (OtherEvent (line_number j.origin))))
 
-  if_once : (limit copy : ℕ) (b : Bool) (j : LineJourney) → result_ok (tested limit copy true b j)
+  if_once : (by copy : ℕ) (b : Bool) (j : LineJourney) → result_ok (tested by copy true b j)
       ≡ option_map (found_journey_of network) (cond b (Some j) None)
-  if_once limit copy true j = refl
-  if_once limit copy false j = refl
+  if_once by copy true j = refl
+  if_once by copy false j = refl
 
-  two_tests : (limit copy : ℕ) (a : Bool) (j : LineJourney)
-      → result_ok (tested limit copy a (left_once (events network earlier) j) j)
+  two_tests : (by copy : ℕ) (a : Bool) (j : LineJourney)
+      → result_ok (tested by copy a (left_once (events network earlier) j) j)
       ≡ option_map (found_journey_of network) (where_passes (left_once (events network earlier)) (cond a (Some j) None))
-  two_tests limit copy true j = if_once limit copy (left_once (events network earlier) j) j
-  two_tests limit copy false j = refl
+  two_tests by copy true j = if_once by copy (left_once (events network earlier) j) j
+  two_tests by copy false j = refl
 
   -- whether each stay of a copy's journey was left once, as what is kept says it
   abbrev pub IsFollowed : Once → Type 0
@@ -128,31 +128,31 @@ module _ (network : Network) (line : TraceLine) (earlier : Lines) where
   before_here copy limit within fits = grind (arith, nat_tests)
 
   module _ (kept_once : Once) (follows : IsFollowed kept_once) where
-    found_journey_found : (kind : Event → Bool) (limit copy : ℕ) (o : Option LineJourney)
+    found_journey_found : (kind : Event → Bool) (by copy : ℕ) (o : Option LineJourney)
         → line_journey_of network earlier copy ≡ o
-        → result_ok (followed_from kept_once kind limit copy (option_map (found_journey_of network) o))
+        → result_ok (followed_from kept_once kind by copy (option_map (found_journey_of network) o))
         ≡ option_map (found_journey_of network)
         (where_passes (left_once (events network earlier))
         (where_passes (λ journey. kind (event_of journey.origin)) o))
-    found_journey_found kind limit copy None h = refl
-    found_journey_found kind limit copy (Some j) h =
-        (λ i. result_ok (tested limit copy (kind (event_of j.origin)) (follows copy j h i) j))
-        ∙ two_tests limit copy (kind (event_of j.origin)) j
+    found_journey_found kind by copy None h = refl
+    found_journey_found kind by copy (Some j) h =
+        (λ i. result_ok (tested by copy (kind (event_of j.origin)) (follows copy j h i) j))
+        ∙ two_tests by copy (kind (event_of j.origin)) j
 
-    found_journey_below : (kind : Event → Bool) (limit copy : ℕ) (b : Bool) → limit ≤ length earlier
-        → nat_lt copy limit ≡ b
-        → result_ok (cond b (followed_from kept_once kind limit copy (found_journey_at facts copy))
-        (Err (Stops limit (NotBefore copy))))
+    found_journey_below : (kind : Event → Bool) (by copy : ℕ) (b : Bool) → by ≤ length earlier
+        → nat_lt copy by ≡ b
+        → result_ok (cond b (followed_from kept_once kind by copy (found_journey_at facts copy))
+        (Err (Stops by (NotBefore copy))))
         ≡ option_map (found_journey_of network)
         (where_passes (left_once (events network earlier))
         (where_passes (λ journey. kind (event_of journey.origin))
         (cond b (line_journey_of network (line ∷ earlier) copy) None)))
-    found_journey_below kind limit copy true fits h =
-        ap (λ (o : Option FoundJourney). result_ok (followed_from kept_once kind limit copy o))
+    found_journey_below kind by copy true fits h =
+        ap (λ (o : Option FoundJourney). result_ok (followed_from kept_once kind by copy o))
         (found_journey_is network (line ∷ earlier) copy)
-        ∙ found_journey_found kind limit copy (line_journey_of network (line ∷ earlier) copy)
-        (before_here copy limit (ltb-true copy limit h) fits)
-    found_journey_below kind limit copy false fits h = refl
+        ∙ found_journey_found kind by copy (line_journey_of network (line ∷ earlier) copy)
+        (before_here copy by (ltb-true copy by h) fits)
+    found_journey_below kind by copy false fits h = refl
 
     found_journey_heard : (kind : Event → Bool) (limit : ℕ) (o : Option ℕ) → limit ≤ length earlier
         → result_ok (followed_heard facts kept_once kind limit o)

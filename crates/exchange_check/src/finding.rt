@@ -148,7 +148,7 @@ pub(crate) fn master_finding(
     told_finding(&at.set_master, &master, report).or(answers.or(domain))
 }
 
-/// 707: that a message was too long in clocks.
+/// 707: that a message was too long in clocks, where it was.
 fn too_long(part: Part, journey: &FoundJourney) -> Option<Finding>
     ensures { result ≡ broken (fits_by journey.now) (findings.TooLong part) }
 {

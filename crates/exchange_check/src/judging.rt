@@ -217,7 +217,8 @@ impl Kept {
         Some(FoundJourney { kept, origin })
     }
 
-    /// 704: the journey of the copy that arrives at a line, where it begins at an event of this kind and no stay was left twice.
+    /// 704: the journey of the copy that arrives at a line, where it begins at an event of this kind and no stay was left twice;
+    /// or else why it isn't followed.
     pub(crate) fn journey_to(
         &self,
         kind: LineKind,

@@ -95,7 +95,7 @@ impl Exceptions {
         first
     }
 
-    /// What is found of a journey that can't be followed.
+    /// What is found of a journey that isn't followed, for this reason.
     fn unfollowed_finding(&self, kept: &Kept, part: Part, why: Unfollowed) -> Option<Finding>
         ensures { result ≡ unfollowed_finding (facts_of kept.now) (firsts_of kept.now) (get nat_cmp self.now.seconds)
             (stops_in (get nat_cmp self.now.stops)) part why }

@@ -1,4 +1,4 @@
-//! Where journeys stop that can't be followed back to where their messages were sent.
+//! Why a journey isn't followed back to where its message was sent, and where it stops.
 
 ghost use Rattle.std.specs.Prelude.{◌≡◌, option_map};
 ghost use Rattle.std.specs.BTreeMap.{get};
@@ -25,9 +25,9 @@ pub(crate) struct Stop {
 /// Why the journey to an arrival isn't one of a sound report.
 #[derive(Clone, Copy)]
 pub(crate) enum Unfollowed {
-    /// The line of the number `by` asks for what isn't there.
+    /// The line of the number `by`, at which the message arrives, names a line that lacks this.
     Stops { by: u64, lack: Lack },
-    /// The journey of this copy, which the line `by` names, can't be followed.
+    /// The journey of this copy, which the line `by` names, stops earlier.
     Lost { by: u64, copy: u64 },
     /// On the journey of this copy a stay was left twice.
     LeftTwice(u64),

@@ -102,6 +102,7 @@ followed_from once kind by copy (Some journey) =
     if kind journey.origin.event then (if once copy then Ok journey else Err (LeftTwice copy))
     else Err (Stops by (OtherEvent journey.origin.line))
 
+-- the journey of the copy that the line `by` hears, if it hears one
 abbrev pub followed_heard : Facts → Once → (Event → Bool) → (by : ℕ) → Option ℕ → Result FoundJourney Unfollowed
 followed_heard facts once kind by None = Err (Stops by (OtherEvent by))
 followed_heard facts once kind by (Some copy) =
@@ -111,6 +112,7 @@ followed_heard facts once kind by (Some copy) =
 abbrev pub followed_to : Facts → Once → (Event → Bool) → Fact → Result FoundJourney Unfollowed
 followed_to facts once kind arrival = followed_heard facts once kind arrival.line (heard_copy arrival.event)
 
+-- the same without why it isn't followed
 abbrev pub found_journey_to : Facts → Once → (Event → Bool) → Fact → Option FoundJourney
 found_journey_to facts once kind arrival = result_ok (followed_to facts once kind arrival)
 

@@ -56,7 +56,7 @@ twice_finding_by firsts part twice =
 abbrev pub stop_finding : Part → Stop → Finding
 stop_finding part stop = findings.Stops part stop.by stop.lack
 
--- of a journey that can't be followed
+-- of a journey that isn't followed, for this reason
 abbrev pub unfollowed_finding : Facts → Firsts → (seconds : Table ℕ) → Table Stop → Part → Unfollowed → Option Finding
 unfollowed_finding facts firsts seconds stops part (Stops by lack) = Some (findings.Stops part by lack)
 unfollowed_finding facts firsts seconds stops part (Lost by copy) =
@@ -64,11 +64,13 @@ unfollowed_finding facts firsts seconds stops part (Lost by copy) =
 unfollowed_finding facts firsts seconds stops part (LeftTwice copy) =
     option_and_then (twice_finding_by firsts part) (first_twice facts seconds copy)
 
+-- of a journey, where it isn't followed
 abbrev pub way_finding_by : Facts → Firsts → (seconds : Table ℕ) → Table Stop → Part → Result FoundJourney Unfollowed
     → Option Finding
 way_finding_by facts firsts seconds stops part (Ok journey) = None
 way_finding_by facts firsts seconds stops part (Err why) = unfollowed_finding facts firsts seconds stops part why
 
+-- of the journey of the Sync, or else of that of the Delay_Req
 abbrev pub ways_finding_by : Facts → Firsts → Once → (seconds : Table ℕ) → Table Stop → Found → Option Finding
 ways_finding_by facts firsts once seconds stops found = option_or
     (way_finding_by facts firsts seconds stops parts.Sync (followed_to facts once draws_sync found.sync_arrival))
