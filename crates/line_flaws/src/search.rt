@@ -287,7 +287,7 @@ impl<'a, 'v> Search<'a, 'v> {
         } else {
             Key::Kind
         };
-        let out = if is_among(&OF_OUTCOMES, unquoted(key)) && self.has(Key::Out) {
+        let out = if is_of_outcome(unquoted(key)) && self.has(Key::Out) {
             Some(self.found(Key::Out))
         } else {
             None
@@ -300,8 +300,12 @@ impl<'a, 'v> Search<'a, 'v> {
     }
 }
 
-/// The keys that tell an outcome, beside `out`.
-const OF_OUTCOMES: [Key; 5] = [Key::Hex, Key::Code, Key::Offset2, Key::Path2, Key::Tags];
+/// Whether a key, without its quotes, tells an outcome, beside `out`.
+fn is_of_outcome(name: &[u8]) -> bool {
+    ["made", "report", "ignored"].iter().any(|out| outcome_keys(out).is_some_and(|keys| is_among(
+        keys, name,
+    )))
+}
 
 /// Whether a name differs in the case of letters alone, or by one octet that is another, missing or
 /// too much, or by two that changed places.
