@@ -7,6 +7,7 @@ ghost use Rattle.schedule_reading.specs.Transcript as transcripts;
 ghost use Rattle.explain_input.specs.declared.input.Input.TheVariants as inputs;
 ghost use Rattle.explain_input.specs.Input.{nothing, lines_in, run_in, is_first_refused, BeginsSchedule, Happens};
 ghost use Rattle.explain_input.specs.Input.{Takes, Enters, Faults, IsFound, FaultsAtEnd};
+ghost use Rattle.explain_input.specs.Inner.Refused.{IsNoneOf};
 
 use crate::schedule::Scheduled;
 use exchange_check::Verdict;
@@ -79,19 +80,33 @@ impl Input {
             Input::Transcript(transcript) => match take_line(transcript, line) {
                 Ok(taken) => Ok(taken),
                 Err(TaskFault::Memory) => Err(TaskFault::Memory),
-                Err(fault) => match begun(alloc, transcript, line) {
-                    Ok(Some(scheduled)) => {
-                        *self = Input::Schedule(scheduled);
-                        Ok(Taken::nothing())
-                    }
-                    Ok(None) => Err(fault),
-                    Err(fault) => Err(fault),
-                },
+                Err(fault) => self.begin(alloc, line, fault),
             },
             Input::Schedule(scheduled) => {
                 scheduled.take(alloc, line)?;
                 Ok(Taken::nothing())
             }
+        }
+    }
+
+    /// Takes a line that is none of a transcript, for this reason, where a schedule begins with it. That needs room, which a line of
+    /// a transcript is spared.
+    fn begin(&mut self, alloc: Global, line: &[u8], fault: TaskFault) -> Result<Taken, TaskFault>
+        requires { IsNoneOf fault self.old line.now }
+        ensures { MatchResult result
+            (λ taken. Takes line.now self.old self.new taken.judged × Enters taken.entry self.old self.new)
+            (λ fault. (self.new ≡ self.old) × Faults fault self.old line.now) }
+    {
+        let Input::Transcript(transcript) = self else {
+            return Err(fault);
+        };
+        match begun(alloc, transcript, line) {
+            Ok(Some(scheduled)) => {
+                *self = Input::Schedule(scheduled);
+                Ok(Taken::nothing())
+            }
+            Ok(None) => Err(fault),
+            Err(fault) => Err(fault),
         }
     }
 

@@ -31,6 +31,19 @@ pub struct SlaveAnswers {
     first: Option<OtherOutcome>,
 }
 
+/// Whether an event may be one of a slave that its port is played along with.
+fn is_of_slave(event: &Event) -> bool {
+    matches!(
+        event,
+        Event::Arrive { .. }
+            | Event::Hear { .. }
+            | Event::Request { .. }
+            | Event::Stamped { .. }
+            | Event::Tick { .. }
+            | Event::SetMaster { .. }
+    )
+}
+
 /// What a port makes of the message that came by an event; none where none came, or no reading is told.
 fn answer(played: &mut Played, octets: &[u8], line: &TraceLine, number: u64) -> Option<Heard> {
     match line.event {
@@ -94,6 +107,9 @@ impl SlaveAnswers {
         evidence: &Evidence,
         line: &TraceLine,
     ) -> Result<(), AllocError> {
+        if !is_of_slave(&line.event) {
+            return Ok(());
+        }
         let name = line.event.node();
         let Some((slave, number)) = checker
             .nodes()
@@ -103,13 +119,8 @@ impl SlaveAnswers {
             return Ok(());
         };
         let slave = slave as u64;
-        if self.by_slave.get(&slave).is_none() {
-            match port_of(checker, &name) {
-                Some(played) => {
-                    self.by_slave.insert(slave, played)?;
-                }
-                None => return Ok(()),
-            }
+        if self.by_slave.get(&slave).is_none() && !self.add(slave, checker, &name)? {
+            return Ok(());
         }
         match line.event.heard_copy() {
             Some(copy) => self.hear(slave, evidence, checker, copy, line, number),
@@ -120,6 +131,15 @@ impl SlaveAnswers {
             }
         }
         Ok(())
+    }
+
+    /// Plays the port of a slave from now on, which needs room. Answers whether the node is one.
+    fn add(&mut self, slave: u64, checker: &Checker, name: &Name) -> Result<bool, AllocError> {
+        let Some(played) = port_of(checker, name) else {
+            return Ok(false);
+        };
+        self.by_slave.insert(slave, played)?;
+        Ok(true)
     }
 
     /// A message comes to a slave, with the octets of this copy.
