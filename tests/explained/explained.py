@@ -882,8 +882,9 @@ can't be followed back to where it was sent, or a stay on it was left twice
         self.assertEqual(ended.status, 1)
         self.assertEqual(ended.output.count('    event 11, line 17, a request at S1: read is 10.005001005, '), 1)
         told = [line for line in ended.output.splitlines() if line.startswith(('event ', '    as told'))]
-        self.assertEqual([line.partition(',')[0] for line in told],
-                         ['event 16', 'event 17', '    as told of the report of event 16', 'event 24', '    as told of the report of event 16'])
+        self.assertEqual([line if line.startswith(' ') else line.partition(',')[0] for line in told],
+                         ['event 16', 'event 17', '    as told of the report of event 16, line 22', 'event 24',
+                          '    as told of the report of event 16, line 22'])
 
     def test_tells_what_is_wrong_first_before_the_stays_that_are_looked_at(self):
         octets = 'octet 0 from 0, in majorSdoId, is {}; wanted is {}'

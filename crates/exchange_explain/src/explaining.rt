@@ -18,6 +18,7 @@ ghost use Rattle.exchange_explain.specs.Inner.Explaining.{IsExplaining, IsKeptAl
 
 use crate::flaws::{Flaws, push_foreign};
 use crate::found::push_found;
+use exchange_check::Results;
 use exchange_story::{Story, ToldReasons};
 use explain_input::{FoundInput, Input, Taken};
 use finding_text::Reported;
@@ -195,15 +196,24 @@ impl Explaining {
             × TellsIf (is_told self.old.first reported.now.event self.old.input) reported.now
             (string_bytes self.new.text)) }
     {
-        self.count(reported)?;
+        let by_messages = self.by_messages(reported);
+        self.count(reported, by_messages)?;
         if !self.is_told(reported.event) {
             return Ok(());
         }
-        self.push_report(reported)
+        self.push_report(reported, by_messages)
     }
 
-    /// Counts a report.
-    fn count(&mut self, reported: &Reported) -> Result<(), AllocError>
+    /// The results of a report by the messages.
+    fn by_messages(&self, reported: &Reported) -> Option<Results> {
+        let Input::Transcript(transcript) = &self.input else {
+            return None;
+        };
+        self.story.by_messages(reported, transcript.checker()?)
+    }
+
+    /// Counts a report, with its results by the messages.
+    fn count(&mut self, reported: &Reported, by_messages: Option<Results>) -> Result<(), AllocError>
         ensures alike { IsSeenAlike self.old self.new }
         ensures text { self.new.text ≡ self.old.text }
         ensures counts { (reports : List (List Why)) → self.old.story ≡ counts_of reports
@@ -213,7 +223,7 @@ impl Explaining {
             Input::Transcript(transcript) => transcript.checker(),
             Input::Schedule(_) => None,
         };
-        self.story.count(reported, checker)
+        self.story.count(reported, checker, by_messages)
     }
 
     /// Whether the report of the event of this number is told.
@@ -223,8 +233,12 @@ impl Explaining {
         !self.first || self.input.is_first_refused(event)
     }
 
-    /// Appends what a report is judged to be, and where it is refused its exchange.
-    fn push_report(&mut self, reported: &Reported) -> Result<(), AllocError>
+    /// Appends what a report is judged to be, which has these results by the messages, and where it is refused its exchange.
+    fn push_report(
+        &mut self,
+        reported: &Reported,
+        by_messages: Option<Results>,
+    ) -> Result<(), AllocError>
         ensures alike { IsSeenAlike self.old self.new }
         ensures counts { self.new.story ≡ self.old.story }
         ensures told { HasEvent self.old.input → OnOk result ((told : List ℕ) × TellsReport reported.now told
@@ -236,7 +250,13 @@ impl Explaining {
         match transcript.checker() {
             Some(checker) => {
                 let story = &self.story;
-                story.push_report(&mut self.told, &mut self.text, checker, reported)
+                story.push_report(
+                    &mut self.told,
+                    &mut self.text,
+                    checker,
+                    reported,
+                    by_messages,
+                )
             }
             None => Ok(()),
         }

@@ -157,10 +157,11 @@ impl Pasts {
         let Some((slave, by_readings)) = slave.zip(reported.judgement.by_readings) else {
             return Ok(());
         };
-        let mut past = match self.by_slave.get(&slave) {
-            Some(past) => *past,
-            None => Past::none(),
-        };
+        if let Some(past) = self.by_slave.get_mut(&slave) {
+            past.push(reported, by_readings);
+            return Ok(());
+        }
+        let mut past = Past::none();
         past.push(reported, by_readings);
         self.by_slave.insert(slave, past)?;
         Ok(())

@@ -53,7 +53,7 @@ impl Refused<'_> {
             lead = "  and ";
             met.clear();
             self.push_met(&mut met, *why)?;
-            before.keep(*why, self.case.reported.event, &mut met)?;
+            before.keep(*why, self.case.reported, &mut met)?;
             push_lines(text, "    ", met.as_str())?;
         }
         Ok(())

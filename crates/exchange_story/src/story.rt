@@ -10,10 +10,10 @@ use crate::completing::{Completions, push_unreported};
 use crate::others::push_others;
 use crate::past::Pasts;
 use crate::refused::Refused;
-use crate::report::is_sound;
+use crate::report::{is_as_told, is_sound};
 use crate::tally::Tally;
 use crate::told_reasons::ToldReasons;
-use exchange_check::{Checker, Evidence, KeptLine, TraceLine, TraceOut};
+use exchange_check::{Checker, Evidence, KeptLine, Results, TraceLine, TraceOut};
 use finding_text::{Case, Known, Reported, index_of};
 use message_difference::{Compared, Differing};
 use network_model::NodeSpec;
@@ -123,16 +123,17 @@ impl Story {
         self.completions.count(known, line, reports)
     }
 
-    /// Counts one more report, that of the last event that this checker was fed.
+    /// Counts one more report, that of the last event that this checker was fed, with its results by the messages.
     pub fn count(
         &mut self,
         reported: &Reported,
         checker: Option<&Checker>,
+        by_messages: Option<Results>,
     ) -> Result<(), AllocError>
         ensures { (reports : List (List Why)) → self.old ≡ counts_of reports
             → OnOk result (self.new ≡ counts_of (reported.now.judgement.reasons ∷ reports)) }
     {
-        let right = self.is_right_by_messages(reported, checker);
+        let right = is_sound(reported) || is_as_told(&reported.report, by_messages);
         let slave = match checker {
             Some(checker) => index_of(checker, &reported.node),
             None => None,
@@ -142,19 +143,13 @@ impl Story {
         Ok(())
     }
 
-    /// Whether a report has the results by the messages. A sound one has: they are then those by the readings.
-    fn is_right_by_messages(&self, reported: &Reported, checker: Option<&Checker>) -> bool {
+    /// The results by the messages of a report that is refused, that of the last event that this checker was fed. A sound one
+    /// has those: they are then those by the readings.
+    pub fn by_messages(&self, reported: &Reported, checker: &Checker) -> Option<Results> {
         if is_sound(reported) {
-            return true;
+            return None;
         }
-        let Some(checker) = checker else {
-            return false;
-        };
-        let report = &reported.report;
-        match self.evidence.by_messages(checker, report) {
-            Some(told) => told.offset2 == report.offset2 && told.path2 == report.path2,
-            None => false,
-        }
+        self.evidence.by_messages(checker, &reported.report)
     }
 
     /// The nodes, in their order; of a transcript up to its first event.
@@ -162,7 +157,7 @@ impl Story {
         self.nodes.as_slice()
     }
 
-    /// Appends what is told of the report of the last event: nothing of a sound one; of one that is refused, what the reasons
+    /// Appends what is told of the report of the last event, which has these results by the messages: nothing of a sound one; of one that is refused, what the reasons
     /// against it met, its exchange, and where the messages tell other results than the readings, these and which message
     /// does. Where a reason met just what was told of it last, that report is named in its place.
     pub fn push_report<'a>(
@@ -171,6 +166,7 @@ impl Story {
         text: &mut String,
         checker: &'a Checker,
         reported: &'a Reported,
+        by_messages: Option<Results>,
     ) -> Result<(), AllocError>
         ensures { OnOk result ((told : List ℕ) × TellsReport reported.now told
             × (string_bytes text.new ≡ string_bytes text.old ++ told)) }
@@ -189,7 +185,7 @@ impl Story {
                 reported,
                 exchange: &exchange,
             },
-            by_messages: self.evidence.by_messages(checker, &reported.report),
+            by_messages,
             past: match index_of(checker, &reported.node) {
                 Some(slave) => self.pasts.of(slave),
                 None => None,

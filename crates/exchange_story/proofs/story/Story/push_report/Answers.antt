@@ -10,5 +10,5 @@ returns-then-is_sound c =
 
 pub returns : goal.returns
 returns c =
-    told_by c.push.result c.args.reported.now c.by_messages.result _ _
-    (refused_told c.push.result c.args.reported.now c.by_messages.result _ _ _ (sym c.is_sound.ensures ∙ c.if-is_sound.false) c.push.ensures)
+    told_by c.push.result c.args.reported.now c.args.by_messages _ _
+    (refused_told c.push.result c.args.reported.now c.args.by_messages _ _ _ (sym c.is_sound.ensures ∙ c.if-is_sound.false) c.push.ensures)
