@@ -8,7 +8,7 @@ use Rattle.tap_crossing.specs.declared.crossing.Crossing.{Crossing}
 use Rattle.tap_crossing.specs.declared.sighting.Kind.TheVariants as kinds
 use Rattle.tap_crossing.specs.Changes.{no_changes}
 use Rattle.tap_follow.specs.declared.fault.FollowFault.TheVariants.{Field, Memory, ThirdTap}
-use Rattle.tap_follow.specs.declared.input.InputOutcome.TheVariants.{Lines, Capture}
+use Rattle.datagram_source.specs.declared.input.InputOutcome.TheVariants.{Lines, Capture}
 use Rattle.follow_command.specs.Run.{is_beyond_limit, leaves_sums, limited, lacking}
 
 -- ---- sums

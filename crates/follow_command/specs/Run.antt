@@ -11,13 +11,14 @@ use Rattle.capture_file.specs.declared.fault.CaptureCause.{CaptureCause}
 use Rattle.capture_file.specs.declared.fault.CaptureCause.TheVariants as captures
 use Rattle.capture_file.specs.declared.fault.CaptureStop.{CaptureStop}
 use Rattle.command_options.specs.declared.FollowOptions.{FollowOptions}
+use Rattle.datagram_source.specs.declared.input.InputOutcome.{InputOutcome}
+use Rattle.datagram_source.specs.declared.input.InputOutcome.TheVariants.{Lines, Capture}
+use Rattle.datagram_source.specs.Input.{OutcomeFailed}
 use Rattle.tap_choice.specs.declared.wanted.WantedTaps.{WantedTaps}
 use Rattle.tap_following.specs.declared.following.Form.{Form}
 use Rattle.tap_following.specs.declared.following.Form.TheVariants.{Json, Table, Sums}
 use Rattle.tap_follow.specs.declared.fault.FollowFault.{FollowFault}
 use Rattle.tap_follow.specs.declared.fault.FollowFault.TheVariants.{Write, Field, Memory, ThirdTap}
-use Rattle.tap_follow.specs.declared.input.InputOutcome.{InputOutcome}
-use Rattle.tap_follow.specs.declared.input.InputOutcome.TheVariants.{Lines, Capture}
 use Rattle.tap_crossing.specs.declared.crossing.Crossing.{Crossing}
 use Rattle.tap_choice.specs.Sides.{lacks_tap}
 use Rattle.tap_following.specs.Course.{Course}
@@ -25,7 +26,8 @@ use Rattle.tap_following.specs.SoFar.{crossings_so_far}
 use Rattle.tap_sums.specs.Sums.{is_beyond}
 use Rattle.tap_follow.specs.declared.summary.Summary.{Summary}
 use Rattle.tap_follow.specs.Fault.{is_write}
-use Rattle.tap_follow.specs.Input.{FollowsInput, OutcomeFailed}
+use Rattle.tap_follow.specs.Input.{FollowsInput}
+use Rattle.tap_follow.specs.Rules.{follow_rules}
 use Rattle.tap_follow.specs.Summed.{WritesSums}
 use Rattle.tap_follow.specs.Told.{IsSummaryOf, TellsInput}
 
@@ -69,7 +71,7 @@ capture_status (Ok count) = 0
 capture_status (Err stop) = capture_cause_status stop.what
 
 -- the exit status of `follow`, by what came of its input
-abbrev pub follow_status : InputOutcome → ℕ
+abbrev pub follow_status : InputOutcome FollowFault → ℕ
 follow_status (Lines answer) = lines_status answer
 follow_status (Capture answer) = capture_status answer
 
@@ -100,7 +102,7 @@ capture_leaves (Ok count) = true
 capture_leaves (Err stop) = capture_cause_leaves stop.what
 
 -- whether sums are written after this outcome: at the end, and after a fault of reading or of the input, but for a third tap
-abbrev pub leaves_sums : InputOutcome → Bool
+abbrev pub leaves_sums : InputOutcome FollowFault → Bool
 leaves_sums (Lines answer) = lines_leave answer
 leaves_sums (Capture answer) = capture_leaves answer
 
@@ -143,8 +145,8 @@ lacking status lacks = if status == 0 && lacks then 2 else status
 abbrev pub RunsFollow : {R W : Type 0} → (R → Option (List ℕ)) → (W → Option (List ℕ)) → FollowOptions → ℕ
     → (input input' : Counted R) (output output' : Counted W) → Type 0
 RunsFollow {W = W} remaining contents options status input input' output output' =
-    (outcome : InputOutcome) × (summary : Summary) × (followed : Counted W) × (ended : ℕ) × (is_beyond lacks : Bool)
-    × OutcomeFailed outcome input input' output followed
+    (outcome : InputOutcome FollowFault) × (summary : Summary) × (followed : Counted W) × (ended : ℕ) × (is_beyond lacks : Bool)
+    × OutcomeFailed follow_rules outcome input input' output followed
     × FollowsInput (crossing_form options) (taps_wanted options) remaining contents outcome input input' output followed
     × ForSome (remaining (device_of input)) (λ octets.
     TellsInput (crossing_form options) (taps_wanted options) octets outcome summary)

@@ -10,12 +10,13 @@ ghost use Rattle.follow_command.specs.Run.{lines_status, crossing_form, leaves_s
 use capture_file::{CaptureCause, CaptureStop};
 use capture_report::report_capture;
 use command_options::FollowOptions;
+use datagram_source::InputOutcome;
 use fault_report::report;
 use ptp_units::ScaledTime;
 use std::alloc::Global;
 use std::io::{Read, Write};
 use tap_choice::{Sides, TapName, WantedTaps};
-use tap_follow::{FollowFault, InputOutcome, Summary, follow};
+use tap_follow::{FollowFault, Summary, follow};
 use tap_following::Form;
 use tap_sums::Sums;
 use text_lines::{Cause, Counted, Numbered, Stopped};
@@ -74,7 +75,7 @@ fn crossing_form(options: &FollowOptions) -> Form
 }
 
 /// Whether sums are written after this outcome: at the end, and after a fault of reading or of the input, but for a third tap.
-fn leaves_sums(outcome: &InputOutcome) -> bool
+fn leaves_sums(outcome: &InputOutcome<FollowFault>) -> bool
     ensures { result ≡ leaves_sums outcome.now }
 {
     match outcome {
@@ -92,7 +93,7 @@ fn leaves_sums(outcome: &InputOutcome) -> bool
 }
 
 /// Whether sums are asked for, and written after this outcome.
-fn asks_sums(options: &FollowOptions, outcome: &InputOutcome) -> bool
+fn asks_sums(options: &FollowOptions, outcome: &InputOutcome<FollowFault>) -> bool
     ensures { result ≡ (options.now.sum && leaves_sums outcome.now) }
 {
     options.sum && leaves_sums(outcome)
@@ -167,7 +168,7 @@ fn limited(status: u8, is_beyond: bool) -> u8
 }
 
 /// Answers the exit status of `follow`, and says its fault.
-fn finish_followed<E: Write>(errors: &mut E, taps: &Sides, outcome: InputOutcome) -> u8
+fn finish_followed<E: Write>(errors: &mut E, taps: &Sides, outcome: InputOutcome<FollowFault>) -> u8
     ensures { result ≡ follow_status outcome }
 {
     match outcome {

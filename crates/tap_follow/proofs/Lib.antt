@@ -1,10 +1,4 @@
-mod Readings
 mod Takings
 mod TapNames
-mod LineReadings
-mod LineTakings
-mod PacketTakings
-mod Inputs
-mod Summaries
 mod OneCourse
 mod Summing

@@ -4,8 +4,10 @@ use Rattle.std.specs.Prelude.{◌≢◌, ⊤, MatchResult, is_none, if◌then◌
 use Rattle.std.specs.Io.KnownBytes.{Appends}
 use Rattle.std.proofs.KnownBytes.{Appends-nil}
 use Rattle.std.specs.Result.{result_ok}
+use Rattle.text_lines.specs.Task.{WentOut}
 use Rattle.event_codec.specs.declared.message.Message.{Message}
 use Rattle.event_codec.specs.declared.refusal.DecodeRefusal.{DecodeRefusal}
+use Rattle.datagram_source.specs.Datagram.{DatagramOf, reading_of}
 use Rattle.tap_choice.specs.declared.met.Met.{Met}
 use Rattle.tap_choice.specs.declared.met.Side.{Side}
 use Rattle.tap_choice.specs.declared.met.Side.TheVariants as taps
@@ -13,13 +15,14 @@ use Rattle.tap_choice.specs.declared.sides.Sides.{Sides}
 use Rattle.tap_choice.specs.Sides.{is_named, side_of, sides_after, both_named}
 use Rattle.tap_following.specs.declared.follower.Arrival.{Arrival}
 use Rattle.tap_following.specs.declared.follower.Arrival.TheVariants as arrivals
-use Rattle.tap_following.specs.Course.{Course, arrival_as, arrival_of, with_tap, after, new_text, end_text}
+use Rattle.tap_following.specs.Course.{Course, arrival_as, arrival_of, with_tap, after, ended, new_text, end_text}
 use Rattle.tap_following.specs.Held.{Holding, IsFollower}
 use Rattle.tap_follow.specs.declared.fault.FollowFault.{FollowFault}
 use Rattle.tap_follow.specs.declared.fault.FollowFault.TheVariants.{Write, Field, Memory, ThirdTap}
-use Rattle.tap_follow.specs.Datagram.{Datagram, met_in}
-use Rattle.tap_follow.specs.Rules.{Changes, TakesAt}
-use Rattle.tap_follow.specs.Inner.Taking.{reading_of, ChangesAs, TakesAs, EndsAs, IsLeft}
+use Rattle.tap_follow.specs.Datagram.{met_in, IsTapAt}
+use Rattle.tap_follow.specs.Fault.{is_write, keeps}
+use Rattle.tap_follow.specs.Rules.{Changes, TakesAt, TakesDatagram, StopsAtDatagram, StopsAtEnd}
+use Rattle.tap_follow.specs.Inner.Taking.{ChangesAs}
 
 -- ---- a third tap changes none of the two
 third_side : (side : Option Side) (both : Bool) → arrival_as side both ≡ arrivals.Third → side ≡ None
@@ -45,53 +48,47 @@ third_stays c name is =
     (third_side (side_of c.sides name) (both_named c.wanted) is) in
     λ i. record c { sides = same i }
 
+-- a datagram was taken, or stopped the course, and this went out
+abbrev pub TakesAs : {T : Type 0} → Result T FollowFault → DatagramOf → Course → (new : Holding)
+    → (before after : Option (List ℕ)) → Type 0
+TakesAs result d c new before after = MatchResult result
+    (λ _. (later : Course) × (out : List ℕ) × IsFollower new later × TakesDatagram d c later out × Appends before after out)
+    (λ fault. (out : List ℕ) × StopsAtDatagram fault d c out × WentOut (is_write fault) (Appends before after out))
+
 -- ---- what came of a message
-module _ {T : Type 0} (d : Datagram) (c : Course) (new : Holding) (before after : Option (List ℕ)) where
+module _ {T : Type 0} (d : DatagramOf) (tap : List ℕ) (c : Course) (new : Holding) (before after : Option (List ℕ)) where
   -- a datagram at one of the two taps
-  pub taken_at : (r : Result T FollowFault) (side : Side) → arrival_of c d.tap ≡ arrivals.At side
-      → ChangesAs r (met_in side d) (with_tap d.tap c) new before after → TakesAs r d c new before after
-  taken_at (Ok done) side is (later, out, at, changes, went) =
-      (later, out, at, subst (λ (a : Arrival). TakesAt a d c later out) (sym is) changes, went)
-  taken_at (Err Write) side is (out, (later, text, some, changes), went) =
-      (out, (later, text, some, subst (λ (a : Arrival). TakesAt a d c later text) (sym is) changes), went)
-  taken_at (Err Memory) side is (out, (none, m, has), went) = (out, (none, side, m, is, has), went)
-  taken_at (Err Field) side is (out, stops, went) = absurd stops
-  taken_at (Err (ThirdTap name)) side is (out, stops, went) = absurd stops
+  pub taken_at : (r : Result T FollowFault) (side : Side) → IsTapAt d.place tap → arrival_of c tap ≡ arrivals.At side
+      → ChangesAs r (met_in side d) (with_tap tap c) new before after → TakesAs r d c new before after
+  taken_at (Ok done) side met is (later, out, at, changes, went) =
+      (later, out, at, (tap, met, subst (λ (a : Arrival). TakesAt a tap d c later out) (sym is) changes), went)
+  taken_at (Err Write) side met is (out, (later, text, some, changes), went) =
+      (out, (later, text, some, (tap, met, subst (λ (a : Arrival). TakesAt a tap d c later text) (sym is) changes)), went)
+  taken_at (Err Memory) side met is (out, (none, m, has), went) = (out, (none, tap, met, side, m, is, has), went)
+  taken_at (Err Field) side met is (out, stops, went) = absurd stops
+  taken_at (Err (ThirdTap name)) side met is (out, stops, went) = absurd stops
 
--- a fault of what is written
-abbrev pub IsOfOutput : FollowFault → Type 0
-IsOfOutput Write = ⊤
-IsOfOutput Field = ⊥
-IsOfOutput Memory = ⊤
-IsOfOutput (ThirdTap name) = ⊥
+-- ---- a course that is as it was
+-- a fault of what is written leaves none so
+pub no_output_keeps : {T : Type 0} (r : Result T FollowFault) (m : Option Met) (c : Course) (new : Holding)
+    (before after : Option (List ℕ)) (what : FollowFault) → r ≡ Err what → keeps what ≡ true → ChangesAs r m c new before after → ⊥
+no_output_keeps r m c new before after Write is kept comes = cc kept
+no_output_keeps r m c new before after Memory is kept comes = cc kept
+no_output_keeps (Ok done) m c new before after Field is kept comes = cc is
+no_output_keeps (Err Write) m c new before after Field is kept comes = cc is
+no_output_keeps (Err Memory) m c new before after Field is kept comes = cc is
+no_output_keeps (Err Field) m c new before after Field is kept (out, stops, went) = stops
+no_output_keeps (Err (ThirdTap name)) m c new before after Field is kept (out, stops, went) = stops
+no_output_keeps (Ok done) m c new before after (ThirdTap tap) is kept comes = cc is
+no_output_keeps (Err Write) m c new before after (ThirdTap tap) is kept comes = cc is
+no_output_keeps (Err Memory) m c new before after (ThirdTap tap) is kept comes = cc is
+no_output_keeps (Err Field) m c new before after (ThirdTap tap) is kept (out, stops, went) = stops
+no_output_keeps (Err (ThirdTap name)) m c new before after (ThirdTap tap) is kept (out, stops, went) = stops
 
-pub of_output : {T : Type 0} (r : Result T FollowFault) (m : Option Met) (c : Course) (new : Holding)
-    (before after : Option (List ℕ)) (what : FollowFault) → r ≡ Err what → ChangesAs r m c new before after → IsOfOutput what
-of_output (Ok done) m c new before after what is comes = absurd cc
-of_output (Err fault) m c new before after Write is comes = tt
-of_output (Err fault) m c new before after Memory is comes = tt
-of_output (Err Write) m c new before after Field is comes = absurd cc
-of_output (Err Memory) m c new before after Field is comes = absurd cc
-of_output (Err Field) m c new before after Field is (out, stops, went) = stops
-of_output (Err (ThirdTap name)) m c new before after Field is (out, stops, went) = stops
-of_output (Err Write) m c new before after (ThirdTap tap) is comes = absurd cc
-of_output (Err Memory) m c new before after (ThirdTap tap) is comes = absurd cc
-of_output (Err Field) m c new before after (ThirdTap tap) is (out, stops, went) = stops
-of_output (Err (ThirdTap name)) m c new before after (ThirdTap tap) is (out, stops, went) = stops
-
-pub left_of_output : (old new : Holding) (what : FollowFault) → ((c : Course) → IsFollower old c → IsOfOutput what)
-    → IsLeft old new what
-left_of_output old new Write of = tt
-left_of_output old new Memory of = tt
-left_of_output old new Field of = λ c at. absurd (of c at)
-left_of_output old new (ThirdTap name) of = λ c at. absurd (of c at)
-
-pub third_left : (old new : Holding) (name : List ℕ) (what : FollowFault)
-    → ((c : Course) → IsFollower old c → (arrival_of c name ≡ arrivals.Third) × IsFollower new (with_tap name c)) → IsLeft old new what
-third_left old new name Write is = tt
-third_left old new name Memory is = tt
-third_left old new name Field is = λ c at. subst (IsFollower new) (third_stays c name (is c at).0) (is c at).1
-third_left old new name (ThirdTap tap) is = λ c at. subst (IsFollower new) (third_stays c name (is c at).0) (is c at).1
+-- a third tap does
+pub third_keeps : (c : Course) (new : Holding) (name : List ℕ) → arrival_of c name ≡ arrivals.Third → IsFollower new (with_tap name c)
+    → IsFollower new c
+third_keeps c new name is at = subst (IsFollower new) (third_stays c name is) at
 
 -- octets that say no message
 pub no_message : (r : Result Message DecodeRefusal) → ((m : Message) → r ≡ Ok m → ⊥) → result_ok (reading_of r) ≡ None
@@ -127,14 +124,17 @@ module _ {T : Type 0} (c : Course) (new : Holding) (before : Option (List ℕ)) 
   wrote (Err Memory) o m went is at same (failed, some) = absurd cc
   wrote (Err (ThirdTap name)) o m went is at same (failed, some) = absurd cc
 
-  pub ended_by : (r : Result T FollowFault) (went : Option (List ℕ)) → text ≡ end_text c
+  pub ended_by : (r : Result T FollowFault) (went : Option (List ℕ)) → IsFollower new (ended c) → text ≡ end_text c
       → MatchResult r (λ done. Appends before went text) (λ fault. (fault ≡ Write) × (text ≢ []))
-      → EndsAs r c (end_text c) before went
-  ended_by (Ok done) went same out = subst (Appends before went) same out
-  ended_by (Err Write) went same (failed, some) = ([], λ none. some (same ∙ none), tt)
-  ended_by (Err Field) went same (failed, some) = absurd cc
-  ended_by (Err Memory) went same (failed, some) = absurd cc
-  ended_by (Err (ThirdTap name)) went same (failed, some) = absurd cc
+      → MatchResult r
+      (λ done. (later : Course) × (out : List ℕ) × IsFollower new later × (later ≡ ended c) × (out ≡ end_text c)
+      × Appends before went out)
+      (λ fault. (out : List ℕ) × StopsAtEnd c fault out × WentOut (is_write fault) (Appends before went out))
+  ended_by (Ok done) went at same out = (ended c, end_text c, at, refl, refl, subst (Appends before went) same out)
+  ended_by (Err Write) went at same (failed, some) = ([], λ none. some (same ∙ none), tt)
+  ended_by (Err Field) went at same (failed, some) = absurd cc
+  ended_by (Err Memory) went at same (failed, some) = absurd cc
+  ended_by (Err (ThirdTap name)) went at same (failed, some) = absurd cc
 
 -- memory was refused
 pub no_memory : (T : Type 0) (o : Option Met) (m : Met) (c : Course) (new : Holding) (before : Option (List ℕ)) → o ≡ Some m

@@ -1,44 +1,20 @@
--- What is met at a tap: a datagram, by the line or the packet that tells it.
-use Rattle.std.specs.Prelude.{◌≡◌, ℕ, List, Option, Some, Ok, option_map}
+-- What is met at a tap: a datagram, by the place at which it was met.
+use Rattle.std.specs.Prelude.{◌≡◌, ℕ, List, Option, Some, option_map}
 use Rattle.std.specs.Result.{result_ok}
-use Rattle.hex.specs.Hex.{decode_of}
-use Rattle.ptp_units.specs.Moment.{moment}
 use Rattle.event_codec.specs.Packet.{Contents}
-use Rattle.event_codec.specs.Reading.{Reading, IsReading}
-use Rattle.capture_lines.specs.Timed.{LineParts, timed_in, parted}
-use Rattle.capture_file.specs.Packet.{InterfaceOf, PacketOf, Captured, Timeless, Simple}
+use Rattle.capture_file.specs.Packet.{InterfaceOf}
 use Rattle.capture_file.specs.Name.{place_text}
-use Rattle.capture_frame.specs.Found as found
+use Rattle.datagram_source.specs.Datagram.{PlaceOf, Tap, At, DatagramOf}
 use Rattle.tap_choice.specs.TapName.{IsTapName}
 use Rattle.tap_choice.specs.declared.met.Met.{Met}
 use Rattle.tap_choice.specs.declared.met.Side.{Side}
 
--- a datagram that was met at a tap of this name
-pub record Datagram : Type 0 where
-  pub tap : List ℕ
-  pub line : ℕ
-  pub time : ℕ
-  pub said : Reading
+-- the message that a datagram begins with, as it was met
+abbrev pub met_as : Side → DatagramOf → Contents → Met
+met_as side d m = record { side = side; line = d.number; time = d.time; header = m.header; body = m.body }
 
--- the message that it begins with, as it was met
-abbrev pub met_as : Side → Datagram → Contents → Met
-met_as side d m = record { side = side; line = d.line; time = d.time; header = m.header; body = m.body }
-
-abbrev pub met_in : Side → Datagram → Option Met
+abbrev pub met_in : Side → DatagramOf → Option Met
 met_in side d = option_map (met_as side d) (result_ok d.said)
-
--- a line of this number: the name of a tap, a blank, a time, a blank, and a datagram in hexadecimal
-pub record IsDatagramLine (number : ℕ) (line : List ℕ) (d : Datagram) : Type 0 where
-  pub rest : List ℕ
-  pub split : parted 32 line ≡ Some (d.tap, rest)
-  pub named : IsTapName d.tap
-  pub parts : LineParts
-  pub there : timed_in rest ≡ Some parts
-  pub octets : List ℕ
-  pub decoded : decode_of parts.digits ≡ Ok octets
-  pub numbered : d.line ≡ number
-  pub moment_is : d.time ≡ parts.time
-  pub said : IsReading octets d.said
 
 -- what the tap of an interface is called: by its name, where a tap may be called so, or else by its place
 pub data IsTapOf : InterfaceOf → List ℕ → Type 0 where
@@ -46,10 +22,7 @@ pub data IsTapOf : InterfaceOf → List ℕ → Type 0 where
   Place : (interface : InterfaceOf) → ((name : List ℕ) → interface.name ≡ Some name → IsTapName name → ⊥)
       → IsTapOf interface (place_text interface.place)
 
--- the packet of this number carries this datagram
-abbrev pub IsDatagramPacket : (number : ℕ) → PacketOf → Datagram → Type 0
-IsDatagramPacket number (Captured interface time link octets) d =
-    (datagram : List ℕ) × found.IsFound link octets (found.Datagram datagram) × IsTapOf interface d.tap
-    × (d.line ≡ number) × (d.time ≡ moment time 0) × IsReading datagram d.said
-IsDatagramPacket number Timeless d = ⊥
-IsDatagramPacket number Simple d = ⊥
+-- what the tap is called at which a datagram was met
+abbrev pub IsTapAt : PlaceOf → List ℕ → Type 0
+IsTapAt (Tap name) tap = tap ≡ name
+IsTapAt (At interface) tap = IsTapOf interface tap

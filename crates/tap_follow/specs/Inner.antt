@@ -1,4 +1,2 @@
 pub mod Number
 pub mod Taking
-pub mod LineReading
-pub mod Outcomes

@@ -5,13 +5,12 @@ mod fault;
 mod figures;
 mod input;
 pub mod laws;
-mod lines;
 mod lost;
-mod packets;
 mod summary;
+mod tap;
 mod task;
 mod told;
 
 pub use fault::FollowFault;
-pub use input::{InputOutcome, follow};
+pub use input::follow;
 pub use summary::Summary;

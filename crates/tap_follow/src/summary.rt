@@ -5,15 +5,15 @@ ghost use Rattle.tap_figures.specs.Untold.{AreUntold};
 ghost use Rattle.tap_sums.specs.Held.{AreSums};
 ghost use Rattle.tap_choice.specs.Sides.{lacks_tap};
 ghost use Rattle.tap_following.specs.Course.{Course};
-ghost use Rattle.tap_following.specs.Held.{IsFollower};
 ghost use Rattle.tap_following.specs.SoFar.{followed_so_far, crossings_so_far, open_so_far, outcomes_so_far};
-ghost use Rattle.tap_follow.specs.Told.{IsSummaryOf};
+ghost use Rattle.tap_follow.specs.Told.{IsSummaryOf, kept_in};
 ghost use Rattle.tap_follow.specs.Fault.{is_write};
 ghost use Rattle.tap_follow.specs.Summed.{WritesSums};
 
 use crate::fault::FollowFault;
 use crate::figures::tell_figures;
 use crate::lost::{tell_lost, tell_untold};
+use crate::task::Taking;
 use crate::told::Told;
 use capture_extract::Summary as PacketCounts;
 use std::alloc::Global;
@@ -35,13 +35,13 @@ pub struct Summary {
 }
 
 impl Summary {
-    /// What is left of what followed, what was told of that, and of a capture how many packets there were.
-    pub(crate) fn new(follower: Follower, told: Told, packets: Option<PacketCounts>) -> Summary
-        ensures { (c : Course) → IsFollower follower c → IsSummaryOf c result }
+    /// What is left of what followed and was told, and of a capture how many packets there were.
+    pub(crate) fn new(taking: Taking, packets: Option<PacketCounts>) -> Summary
+        ensures { kept_in result ≡ taking.follower }
     {
         Summary {
-            follower,
-            told,
+            follower: taking.follower,
+            told: taking.told,
             packets,
         }
     }

@@ -1,0 +1,6 @@
+mod Readings
+mod LineReadings
+mod LineTakings
+mod PacketTakings
+mod Inputs
+mod Lefts

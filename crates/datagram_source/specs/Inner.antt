@@ -1,0 +1,2 @@
+pub mod LineReading
+pub mod Outcomes

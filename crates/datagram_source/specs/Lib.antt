@@ -1,0 +1,5 @@
+pub mod Datagram
+pub mod Rules
+pub mod Input
+pub mod Left
+pub mod Inner

@@ -1,0 +1,42 @@
+//! A datagram, from a line or a packet.
+ghost use Rattle.event_codec.specs.Reading.{IsReading};
+ghost use Rattle.datagram_source.specs.Datagram.{reading_of};
+
+use capture_file::Interface;
+use event_codec::{DecodeRefusal, Message, decode};
+use ptp_units::ScaledTime;
+use tap_choice::TapName;
+
+/// Where a datagram was met.
+#[derive(Clone, Copy, Debug)]
+pub enum Place<'a> {
+    /// At the tap that its line names.
+    Tap(TapName),
+    /// At this interface of a capture.
+    Interface(Interface<'a>),
+}
+
+/// A datagram.
+#[derive(Clone, Copy, Debug)]
+pub struct Datagram<'a> {
+    /// Where it was met.
+    pub place: Place<'a>,
+    /// The number of its line or packet, counted from 1.
+    pub number: u64,
+    /// The time of its line or packet.
+    pub time: ScaledTime,
+    /// Its octets.
+    pub octets: &'a [u8],
+    /// The message that these begin with, or why they begin with none.
+    pub said: Result<Message<'a>, DecodeRefusal>,
+}
+
+/// The message that octets begin with.
+pub(crate) fn message_in(octets: &[u8]) -> Result<Message<'_>, DecodeRefusal>
+    ensures { IsReading octets.now (reading_of result) }
+{
+    match decode(octets) {
+        Ok((message, _)) => Ok(message),
+        Err(refusal) => Err(refusal),
+    }
+}

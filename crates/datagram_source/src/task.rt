@@ -1,0 +1,79 @@
+//! What is done with the datagrams of an input.
+ghost use Rattle.std.specs.Prelude.{◌≡◌, List, ℕ, Err, true, MatchResult};
+ghost use Rattle.std.specs.Io.KnownBytes.{Appends};
+ghost use Rattle.text_lines.specs.Counted.{device_of, HasNotFailed, HasFailedIf};
+ghost use Rattle.text_lines.specs.Fault.{is_write};
+ghost use Rattle.text_lines.specs.Task.{WentOut};
+ghost use Rattle.datagram_source.specs.Datagram.{datagram_of};
+ghost use Rattle.datagram_source.specs.Rules.{DatagramRules, is_field};
+
+use crate::datagram::Datagram;
+use std::io::Write;
+use text_lines::{Counted, LineFault};
+
+/// What is done with the datagrams of an input, one after the other, and after the last. What is told on the way to a person goes to
+/// `errors`: what can't be written there is lost.
+pub trait DatagramTask {
+    /// Why a datagram isn't taken, or the end has no answer.
+    type Fault;
+
+    /// What a task is seen as.
+    ghost State: { Type 0 };
+
+    ghost rules: { DatagramRules State Self.Fault };
+
+    /// The states that a task may be seen in.
+    ghost is_at: { Self → State → Type 0 };
+
+    /// The subcommand that does this.
+    fn subcommand() -> &'static str;
+
+    /// A fault of a line, as one of the task. Only where the line isn't what is asked for is a task left as it was.
+    fn fault_of(fault: LineFault) -> Self::Fault
+        ensures value { result ≡ rules.fault_of fault }
+        ensures writer { rules.is_of_writer result ≡ is_write fault }
+        ensures kept { rules.keeps result ≡ is_field fault };
+
+    /// Takes one more datagram.
+    fn take<W: Write, E: Write>(
+        &mut self,
+        datagram: &Datagram<'_>,
+        output: &mut Counted<W>,
+        errors: &mut E,
+    ) -> Result<(), Self::Fault>
+        requires { (state : State) × is_at self.old state }
+        ensures taken { (state : State) → is_at self.old state →
+            let before = W.contents (device_of output.old) in
+            let after = W.contents (device_of output.new) in
+            MatchResult result
+            (λ _. (later : State) × (written : List ℕ) × is_at self.new later
+            × rules.Takes (datagram_of datagram.now) state later written × Appends before after written)
+            (λ what. (written : List ℕ) × rules.Stops (datagram_of datagram.now) state what written
+            × WentOut (rules.is_of_writer what) (Appends before after written)) }
+        ensures kept { (what : Self.Fault) → result ≡ Err what → rules.keeps what ≡ true
+            → (state : State) → is_at self.old state → is_at self.new state }
+        ensures failures { MatchResult result
+            (λ _. HasNotFailed output.old output.new)
+            (λ what. HasFailedIf (rules.is_of_writer what) output.old output.new) };
+
+    /// Ends after the last datagram.
+    fn finish<W: Write, E: Write>(
+        &mut self,
+        output: &mut Counted<W>,
+        errors: &mut E,
+    ) -> Result<(), Self::Fault>
+        requires { (state : State) × is_at self.old state }
+        ensures ended { (state : State) → is_at self.old state →
+            let before = W.contents (device_of output.old) in
+            let after = W.contents (device_of output.new) in
+            MatchResult result
+            (λ _. (later : State) × (written : List ℕ) × is_at self.new later
+            × rules.Ends state later written × Appends before after written)
+            (λ what. (written : List ℕ) × rules.StopsAtEnd state what written
+            × WentOut (rules.is_of_writer what) (Appends before after written)) }
+        ensures kept { (what : Self.Fault) → result ≡ Err what → rules.keeps what ≡ true
+            → (state : State) → is_at self.old state → is_at self.new state }
+        ensures failures { MatchResult result
+            (λ _. HasNotFailed output.old output.new)
+            (λ what. HasFailedIf (rules.is_of_writer what) output.old output.new) };
+}
