@@ -6,7 +6,6 @@ use Rattle.std.proofs.Math.Seq.{take-append_seam, drop-append_seam}
 use Rattle.std.proofs.lemmas.Grind.{common_steps}
 use Rattle.text_lines.specs.declared.fault.Cause.TheVariants.{Reading, Task}
 use Rattle.text_lines.specs.declared.fault.ReadingFault.TheVariants.{Read}
-use Rattle.text_lines.specs.declared.fault.Cause.{Cause}
 use Rattle.text_lines.specs.Lines.{lfs_in}
 use Rattle.text_lines.proofs.KnownOctets.{Consumes-known}
 use Rattle.capture_file.specs.Beginning.{AreEnough, enough, start_of}

@@ -1,5 +1,5 @@
 -- What is left of a task, by what the loops over lines and packets leave.
-use Rattle.std.proofs.Common.{◌≡◌, ℕ, ◌+◌, Bool, true, false, List, [], length, take, Result, Ok, Err, refl, sym, subst}
+use Rattle.std.proofs.Common.{◌≡◌, ℕ, ◌+◌, Bool, true, false, List, [], length, take, Result, Ok, Err, refl}
 use Rattle.text_lines.specs.declared.fault.Cause.{Cause}
 use Rattle.text_lines.specs.declared.fault.Cause.TheVariants.{Reading, Task}
 use Rattle.text_lines.specs.declared.fault.Stopped.{Stopped}
@@ -11,10 +11,10 @@ use Rattle.capture_file.specs.declared.fault.CaptureStop.{CaptureStop}
 use Rattle.capture_file.specs.Parts.{Part, packets_of}
 use Rattle.capture_file.specs.Task as packets
 use Rattle.datagram_source.specs.declared.input.InputOutcome.{InputOutcome}
-use Rattle.datagram_source.specs.declared.input.InputOutcome.TheVariants.{Lines, Capture}
+use Rattle.datagram_source.specs.declared.input.InputOutcome.TheVariants.{Lines}
 use Rattle.datagram_source.specs.Rules.{DatagramRules, LinesRead, nothing_read, line_rules, packet_rules}
 use Rattle.datagram_source.specs.Left.{SaidIf, LeavesUntil, LeavesLines, LeavesPacketsUntil, LeavesCapture, LeavesInput}
-use Rattle.datagram_source.specs.Inner.Outcomes.{AreLines, IsKept, IsEnded}
+use Rattle.datagram_source.specs.Inner.Outcomes.{IsKept, IsEnded}
 
 said_if : (b : Bool) (said : Type 0) → (b ≡ true → said) → SaidIf b said
 said_if true said is = is refl
@@ -23,6 +23,10 @@ said_if false said is = tt
 unsaid : (b : Bool) (said : Type 0) → b ≡ false → SaidIf b said
 unsaid true said is = absurd cc
 unsaid false said is = tt
+
+-- so many lines were read, and their task is in this state
+abbrev pub AreLines : {S T L : Type 0} → (T → S → Type 0) → (task : L → T) → (count : L → ℕ) → L → LinesRead S → Type 0
+AreLines is_at task count source r = (count source ≡ r.count) × is_at (task source) r.state
 
 -- ---- lines
 module _ {S F T L : Type 0} (rules : DatagramRules S F) (is_at : T → S → Type 0) (task : L → T) (count : L → ℕ) (start : S)

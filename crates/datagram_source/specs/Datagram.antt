@@ -17,7 +17,7 @@ use Rattle.datagram_source.specs.declared.datagram.Place.TheVariants as places
 -- where a datagram was met: at the tap that its line names, or at an interface
 pub data PlaceOf : Type 0 where
   Tap : (name : List ℕ) → PlaceOf
-  At : (interface : InterfaceOf) → PlaceOf
+  Interface : (interface : InterfaceOf) → PlaceOf
 
 -- a datagram, by the number and the time of its line or packet
 pub record DatagramOf : Type 0 where
@@ -35,7 +35,7 @@ reading_of (Err refusal) = Err refusal
 -- a place without where its name lies in memory
 abbrev pub place_of : met.Place → PlaceOf
 place_of (places.Tap name) = Tap name
-place_of (places.Interface interface) = At (interface_of interface)
+place_of (places.Interface interface) = Interface (interface_of interface)
 
 -- a datagram without where its octets lie in memory
 abbrev pub datagram_of : given.Datagram → DatagramOf
@@ -64,7 +64,7 @@ pub record IsDatagramLine (number : ℕ) (line : List ℕ) (d : DatagramOf) : Ty
 -- the packet of this number carries this datagram
 abbrev pub IsDatagramPacket : (number : ℕ) → PacketOf → DatagramOf → Type 0
 IsDatagramPacket number (Captured interface time link octets) d =
-    found.IsFound link octets (found.Datagram d.octets) × (d.place ≡ At interface)
+    found.IsFound link octets (found.Datagram d.octets) × (d.place ≡ Interface interface)
     × (d.number ≡ number) × (d.time ≡ moment time 0) × IsReading d.octets d.said
 IsDatagramPacket number Timeless d = ⊥
 IsDatagramPacket number Simple d = ⊥

@@ -12,7 +12,7 @@ ghost use Rattle.datagram_source.specs.Inner.Outcomes.{LinesAnswer, PacketsAnswe
 use crate::lines::LineSource;
 use crate::packets::PacketSource;
 use crate::task::DatagramTask;
-use capture_extract::Summary as PacketCounts;
+use capture_extract::Summary;
 use capture_file::{Beginning, CaptureStop, answer_packets_behind};
 use std::alloc::Global;
 use std::io::{Read, Write};
@@ -38,8 +38,8 @@ pub enum InputOutcome<F> {
 /// What a datagram brings goes out before an octet behind its line or packet is read, but for a first line that is refused: where a
 /// magic begins with the first octet, four are read.
 ///
-/// The faults are those of reading and of a capture, those of the task, and as the task has them 802 (the head can't be written), 806
-/// (a line that tells no datagram) and 808 (more lines than can be counted).
+/// The faults are those of reading and of a capture, those of the task, and as the task has them 802 (the head can't be written) and 806
+/// (a line that tells no datagram).
 pub fn answer_datagrams<T: DatagramTask, R: Read, W: Write, E: Write>(
     alloc: Global,
     head: &'static str,
@@ -47,7 +47,7 @@ pub fn answer_datagrams<T: DatagramTask, R: Read, W: Write, E: Write>(
     input: &mut Counted<R>,
     output: &mut Counted<W>,
     errors: &mut E,
-) -> (InputOutcome<T::Fault>, T, Option<PacketCounts>)
+) -> (InputOutcome<T::Fault>, T, Option<Summary>)
     requires { (start : T.State) × T.is_at task start }
     ensures answered { (start : T.State) → T.is_at task start → AnswersInput T.rules head.now start R.remaining W.contents result.0
         input.old input.new output.old output.new }
@@ -100,7 +100,7 @@ fn stopped<T: DatagramTask>(
     task: T,
     line: u64,
     what: Cause<T::Fault>,
-) -> (InputOutcome<T::Fault>, T, Option<PacketCounts>)
+) -> (InputOutcome<T::Fault>, T, Option<Summary>)
     ensures outcome { result.0 ≡ InputOutcome.Lines (Err (record { line = line; what = what })) }
     ensures task { result.1 ≡ task }
 {
@@ -114,7 +114,7 @@ fn answer_lines<T: DatagramTask, R: Read, W: Write, E: Write>(
     input: &mut Counted<R>,
     output: &mut Counted<W>,
     errors: &mut E,
-) -> (InputOutcome<T::Fault>, T, Option<PacketCounts>)
+) -> (InputOutcome<T::Fault>, T, Option<Summary>)
     requires unended { All (λ x. x ≢ 10) start.now }
     requires within { length start.now ≤ line_limit }
     requires stands { (state : T.State) × T.is_at task state }
@@ -142,7 +142,7 @@ fn answer_capture<T: DatagramTask, R: Read, W: Write, E: Write>(
     input: &mut Counted<R>,
     output: &mut Counted<W>,
     errors: &mut E,
-) -> (InputOutcome<T::Fault>, T, Option<PacketCounts>)
+) -> (InputOutcome<T::Fault>, T, Option<Summary>)
     requires most { length start.now ≤ 4 }
     requires stands { (state : T.State) × T.is_at task state }
     ensures answered { (state : T.State) → T.is_at task state → ForSome (R.remaining (device_of input.old)) (λ octets.
@@ -154,7 +154,7 @@ fn answer_capture<T: DatagramTask, R: Read, W: Write, E: Write>(
 {
     let mut source = PacketSource {
         task,
-        counts: PacketCounts::new(None),
+        counts: Summary::new(None),
         errors,
     };
     let answer = answer_packets_behind(alloc, start, &mut source, input, output);

@@ -65,7 +65,7 @@ fn read_parts<'line>(line: &'line [u8], room: &mut [u8; DATAGRAM_LIMIT]) -> Opti
     }
 }
 
-/// Reads the line after so many. More lines than can be counted are refused as want of memory.
+/// Reads the line after so many. A number that can't be counted would be want of memory: `lines_limit` comes before it.
 fn read_line<'room>(
     earlier: u64,
     line: &[u8],

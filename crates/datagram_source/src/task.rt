@@ -25,10 +25,10 @@ pub trait DatagramTask {
     /// The states that a task may be seen in.
     ghost is_at: { Self → State → Type 0 };
 
-    /// The subcommand that does this.
+    /// The name of the subcommand that does this, which is told where the input is compressed.
     fn subcommand() -> &'static str;
 
-    /// A fault of a line, as one of the task. Only where the line isn't what is asked for is a task left as it was.
+    /// What a fault of a line is among those of the task. Of the three `Field` alone is one that leaves the task in its state.
     fn fault_of(fault: LineFault) -> Self::Fault
         ensures value { result ≡ rules.fault_of fault }
         ensures writer { rules.is_of_writer result ≡ is_write fault }

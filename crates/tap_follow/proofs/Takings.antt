@@ -1,6 +1,6 @@
 -- A datagram is taken as the rules have it, by what came of its message.
 use Rattle.std.proofs.Common.{◌≡◌, ◌∙◌, ℕ, Bool, true, false, List, [], ◌++◌, Option, Some, None, Result, Ok, Err, refl, sym, ap, subst}
-use Rattle.std.specs.Prelude.{◌≢◌, ⊤, MatchResult, is_none, if◌then◌else◌}
+use Rattle.std.specs.Prelude.{◌≢◌, MatchResult, is_none, if◌then◌else◌}
 use Rattle.std.specs.Io.KnownBytes.{Appends}
 use Rattle.std.proofs.KnownBytes.{Appends-nil}
 use Rattle.std.specs.Result.{result_ok}

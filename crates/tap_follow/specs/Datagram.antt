@@ -4,7 +4,7 @@ use Rattle.std.specs.Result.{result_ok}
 use Rattle.event_codec.specs.Packet.{Contents}
 use Rattle.capture_file.specs.Packet.{InterfaceOf}
 use Rattle.capture_file.specs.Name.{place_text}
-use Rattle.datagram_source.specs.Datagram.{PlaceOf, Tap, At, DatagramOf}
+use Rattle.datagram_source.specs.Datagram.{PlaceOf, Tap, Interface, DatagramOf}
 use Rattle.tap_choice.specs.TapName.{IsTapName}
 use Rattle.tap_choice.specs.declared.met.Met.{Met}
 use Rattle.tap_choice.specs.declared.met.Side.{Side}
@@ -25,4 +25,4 @@ pub data IsTapOf : InterfaceOf → List ℕ → Type 0 where
 -- what the tap is called at which a datagram was met
 abbrev pub IsTapAt : PlaceOf → List ℕ → Type 0
 IsTapAt (Tap name) tap = tap ≡ name
-IsTapAt (At interface) tap = IsTapOf interface tap
+IsTapAt (Interface interface) tap = IsTapOf interface tap

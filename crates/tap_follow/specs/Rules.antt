@@ -17,7 +17,7 @@ abbrev pub Changes : Option Met → Course → Course → List ℕ → Type 0
 Changes None c later out = (later ≡ c) × (out ≡ [])
 Changes (Some m) c later out = (later ≡ after m c) × (out ≡ new_text m c)
 
--- a datagram that was met at this tap, which is such a one, changes a course so; at a third one it isn't taken
+-- a datagram that was met at this tap changes a course so, by which of the taps it is; at a third one it isn't taken
 abbrev pub TakesAt : Arrival → (tap : List ℕ) → DatagramOf → Course → Course → List ℕ → Type 0
 TakesAt (arrivals.At side) tap d c later out = Changes (met_in side d) (with_tap tap c) later out
 TakesAt arrivals.Elsewhere tap d c later out = (later ≡ with_tap tap c) × (out ≡ [])

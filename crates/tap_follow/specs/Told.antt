@@ -19,7 +19,7 @@ kept_in summary = summary.follower
 abbrev pub IsSummaryOf : Course → Summary → Type 0
 IsSummaryOf c summary = IsFollower (kept_in summary) c
 
--- what is told of an input is of the course that its datagrams take, up to the end or a fault; of one of the writer or of memory
--- nothing is said
+-- what is told of an input is of the course that its datagrams take, up to the end or a fault; where a datagram or the end was
+-- stopped by the writer or for want of memory, nothing is said
 abbrev pub TellsInput : Form → WantedTaps → List ℕ → InputOutcome FollowFault → Summary → Type 0
 TellsInput form w octets outcome summary = LeavesInput follow_rules (begun form w) octets outcome (λ c. IsSummaryOf c summary)

@@ -18,8 +18,8 @@ use tap_following::Form;
 use tap_lines::table_head;
 use text_lines::Counted;
 
-/// Follows messages between two taps, and writes each crossing when its record closes, as `answer_datagrams` has it: of a capture a
-/// packet was met at the tap that its interface is.
+/// Follows messages between two taps, and writes each crossing when its record closes. `answer_datagrams` says which inputs there are, and
+/// when goes out what they bring. A packet was met at the tap that its interface is.
 ///
 /// What a packet or line brings goes out in one write. Whose messages are followed, and between which taps, is told in lines as soon as
 /// that is known, before the first crossing; a slave that is known later, then. What can't be written there is lost.

@@ -11,7 +11,7 @@ use itoa::Buffer;
 use tap_choice::TapName;
 
 /// The tap that an interface of this place is without a name of its own.
-fn tap_at(place: u32) -> Option<TapName>
+fn tap_of_place(place: u32) -> Option<TapName>
     ensures { result ≡ Some (place_text place) }
 {
     let mut buffer = Buffer::new();
@@ -30,9 +30,9 @@ fn tap_of(interface: &Interface<'_>) -> Option<TapName>
     match interface.name {
         Some(name) => match TapName::new(name) {
             Some(tap) => Some(tap),
-            None => tap_at(interface.place),
+            None => tap_of_place(interface.place),
         },
-        None => tap_at(interface.place),
+        None => tap_of_place(interface.place),
     }
 }
 

@@ -1,4 +1,4 @@
-//! A datagram that was met at a tap.
+//! What is done with datagrams that were met at taps.
 ghost use Rattle.std.specs.Prelude.{◌≡◌, ◌≢◌, [], MatchResult};
 ghost use Rattle.std.specs.String.{string_bytes};
 ghost use Rattle.std.specs.Io.KnownBytes.{Appends};

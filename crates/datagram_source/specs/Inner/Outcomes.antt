@@ -1,15 +1,11 @@
 -- What an outcome says after the head went out, and what is left of a task then.
-use Rattle.std.specs.Prelude.{◌≡◌, ℕ, List, Bool, true, Option}
+use Rattle.std.specs.Prelude.{◌≡◌, ℕ, List, true, Option}
 use Rattle.text_lines.specs.Task as lines
 use Rattle.capture_file.specs.Task as packets
 use Rattle.datagram_source.specs.declared.input.InputOutcome.{InputOutcome}
 use Rattle.datagram_source.specs.declared.input.InputOutcome.TheVariants.{Lines, Capture}
-use Rattle.datagram_source.specs.Rules.{DatagramRules, LinesRead, nothing_read, line_rules, packet_rules}
+use Rattle.datagram_source.specs.Rules.{DatagramRules, nothing_read, line_rules, packet_rules}
 use Rattle.datagram_source.specs.Left.{LeavesLines, LeavesCapture}
-
--- so many lines were read, and their task is in this state
-abbrev pub AreLines : {S T L : Type 0} → (T → S → Type 0) → (task : L → T) → (count : L → ℕ) → L → LinesRead S → Type 0
-AreLines is_at task count source r = (count source ≡ r.count) × is_at (task source) r.state
 
 -- a fault that leaves a task in its state did
 abbrev pub IsKept : {S F T : Type 0} → DatagramRules S F → (T → S → Type 0) → (old new : T) → F → Type 0

@@ -2,8 +2,7 @@ use Rattle.std.proofs.Common.{inr, refl, sym, subst}
 use Rattle.capture_file.specs.Beginning.{first_octets}
 use Rattle.text_lines.specs.declared.fault.Cause.TheVariants.{Reading, Task}
 use Rattle.text_lines.specs.declared.fault.ReadingFault.TheVariants.{Read}
-use Rattle.text_lines.specs.declared.line_fault.LineFault.TheVariants.{Field}
-use Rattle.datagram_source.proofs.Inputs.{captured, lined, short, failed_ahead, lined_left, captured_left}
+use Rattle.datagram_source.proofs.Inputs.{captured, lined, short, lined_left, captured_left}
 use Rattle.datagram_source.proofs.Lefts.{none_left}
 use Rattle.datagram_source.proofs.input.answer_datagrams.Goals as goal
 

@@ -8,7 +8,7 @@ returns-in-Some-new-clause-name c =
 
 pub returns-in-None-new-clause-name : goal.returns-in-None-new-clause-name
 returns-in-None-new-clause-name c =
-    other_name c.args.interface.now c.in-Some.name c.tap_at.result c.in-Some.is (λ named. cc (c.in-None-new.ensures.some.1 named)) c.tap_at.ensures
+    other_name c.args.interface.now c.in-Some.name c.tap_of_place.result c.in-Some.is (λ named. cc (c.in-None-new.ensures.some.1 named)) c.tap_of_place.ensures
 
 pub returns-in-None-clause-name : goal.returns-in-None-clause-name
-returns-in-None-clause-name c = no_name c.args.interface.now c.tap_at-in-None.result c.in-None.is c.tap_at-in-None.ensures
+returns-in-None-clause-name c = no_name c.args.interface.now c.tap_of_place-in-None.result c.in-None.is c.tap_of_place-in-None.ensures

@@ -25,8 +25,12 @@ returns-in-Elsewhere-clause-taken g c = λ course at.
       with_tap tap course,
       [],
       later,
-      (tap, c.in-Some.ensures.name, subst (λ (a : Arrival). TakesAt a tap (datagram_of c.args.datagram.now) course (with_tap tap course) [])
-          (sym c.in-Elsewhere.is ∙ arrives) (refl, refl)),
+      (
+        tap,
+        c.in-Some.ensures.name,
+        subst (λ (a : Arrival). TakesAt a tap (datagram_of c.args.datagram.now) course (with_tap tap course) [])
+            (sym c.in-Elsewhere.is ∙ arrives) (refl, refl),
+      ),
       Appends-nil _,
     )
 

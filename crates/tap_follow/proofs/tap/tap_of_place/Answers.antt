@@ -1,6 +1,6 @@
 use Rattle.std.proofs.Common.{◌∙◌}
 use Rattle.tap_follow.proofs.TapNames.{taken_name, front_name, IsTapName-place}
-use Rattle.tap_follow.proofs.tap.tap_at.Goals as goal
+use Rattle.tap_follow.proofs.tap.tap_of_place.Goals as goal
 
 pub returns : goal.returns
 returns c = taken_name c.new.result _ _ c.new.ensures.some c.new.ensures.text
