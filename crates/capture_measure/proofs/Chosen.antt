@@ -12,8 +12,8 @@ use Rattle.capture_measure.specs.declared.watch.WantedPorts.{WantedPorts}
 use Rattle.capture_measure.specs.Watch.{watched_in}
 use Rattle.capture_measure.specs.Row.{Row, datagrams, kept_most}
 use Rattle.capture_measure.specs.Measured.{measured_at, measurements}
-use Rattle.capture_measure.specs.Interfaces.{InterfaceRow, is_same_interface, rows_at, is_among, interfaces_in}
-use Rattle.capture_measure.specs.Chosen.{tells, is_domain_met, is_port_met, is_met, watched_at, chosen_by, chosen}
+use Rattle.capture_measure.specs.Places.{PlaceName, PlacedRow, is_same_place, rows_at, is_among, places_in}
+use Rattle.capture_measure.specs.Chosen.{tells, is_domain_met, is_port_met, is_met, is_enough, watched_at, chosen_by, chosen}
 use Rattle.capture_measure.specs.Chosen.{heard_with, heard_at, capture_watched, capture_measured}
 use Rattle.capture_measure.proofs.Told.{watched-stays}
 
@@ -42,106 +42,112 @@ met_stays w d ds is =
     (and_from (is_port_met w.master (d ∷ ds)) (is_port_met w.slave (d ∷ ds)) (port_stays w.master d ds master)
     (port_stays w.slave d ds slave))
 
-pub where_met : (w : WantedPorts) (ds : List Recorded) (watched : Watched) (met : Bool) → is_met w ds ≡ met
-    → (if met then watched_in w ds else None) ≡ Some watched → (is_met w ds ≡ true) × (watched_in w ds ≡ Some watched)
-where_met w ds watched true is known = (is, known)
-where_met w ds watched false is known = absurd cc
+enough_stays : (w : WantedPorts) (place : PlaceName) (d : Recorded) (ds : List Recorded) → is_enough w place ds ≡ true
+    → is_enough w place (d ∷ ds) ≡ true
+enough_stays w None d ds is = refl
+enough_stays w (Some name) d ds is = met_stays w d ds is
 
-watched_at-stays : (w : WantedPorts) (d : Recorded) (ds : List Recorded) (watched : Watched) → watched_at w ds ≡ Some watched
-    → watched_at w (d ∷ ds) ≡ Some watched
-watched_at-stays w d ds watched known =
-    let (met, is) = where_met w ds watched (is_met w ds) refl known in
-    ap (λ b. if b then watched_in w (d ∷ ds) else None) (met_stays w d ds met) ∙ watched-stays w d ds watched is
+pub where_met : (w : WantedPorts) (place : PlaceName) (ds : List Recorded) (watched : Watched) (enough : Bool)
+    → is_enough w place ds ≡ enough → (if enough then watched_in w ds else None) ≡ Some watched
+    → (is_enough w place ds ≡ true) × (watched_in w ds ≡ Some watched)
+where_met w place ds watched true is known = (is, known)
+where_met w place ds watched false is known = absurd cc
+
+watched_at-stays : (w : WantedPorts) (place : PlaceName) (d : Recorded) (ds : List Recorded) (watched : Watched)
+    → watched_at w place ds ≡ Some watched → watched_at w place (d ∷ ds) ≡ Some watched
+watched_at-stays w place d ds watched known =
+    let (enough, is) = where_met w place ds watched (is_enough w place ds) refl known in
+    ap (λ b. if b then watched_in w (d ∷ ds) else None) (enough_stays w place d ds enough) ∙ watched-stays w d ds watched is
 
 -- ---- one more row
-rows_more : (interface : List ℕ) (r : InterfaceRow) (rows : List InterfaceRow) (w : WantedPorts) (watched : Watched) (same : Bool)
-    → watched_at w (datagrams (rows_at interface rows)) ≡ Some watched
-    → watched_at w (datagrams (if same then r.row ∷ rows_at interface rows else rows_at interface rows)) ≡ Some watched
-rows_more interface r rows w watched true known =
-    watched_at-stays w r.row.datagram (datagrams (rows_at interface rows)) watched known
-rows_more interface r rows w watched false known = known
+rows_more : (place : PlaceName) (r : PlacedRow) (rows : List PlacedRow) (w : WantedPorts) (watched : Watched) (same : Bool)
+    → watched_at w place (datagrams (rows_at place rows)) ≡ Some watched
+    → watched_at w place (datagrams (if same then r.row ∷ rows_at place rows else rows_at place rows)) ≡ Some watched
+rows_more place r rows w watched true known =
+    watched_at-stays w place r.row.datagram (datagrams (rows_at place rows)) watched known
+rows_more place r rows w watched false known = known
 
-module _ (w : WantedPorts) (rows : List InterfaceRow) (r : InterfaceRow) where
-  pub chosen-stays : (interface : List ℕ) → chosen w rows ≡ Some interface → chosen w (r ∷ rows) ≡ Some interface
-  chosen-stays interface is = ap (λ o. option_or o (chosen_by w r rows)) is
+module _ (w : WantedPorts) (rows : List PlacedRow) (r : PlacedRow) where
+  pub chosen-stays : (place : PlaceName) → chosen w rows ≡ Some place → chosen w (r ∷ rows) ≡ Some place
+  chosen-stays place is = ap (λ o. option_or o (chosen_by w r rows)) is
 
-  pub capture-stays : (interface : List ℕ) (watched : Watched) → chosen w rows ≡ Some interface
+  pub capture-stays : (place : PlaceName) (watched : Watched) → chosen w rows ≡ Some place
       → capture_watched w rows ≡ Some watched → capture_watched w (r ∷ rows) ≡ Some watched
-  capture-stays interface watched is known =
-      ap (option_and_then (λ i. watched_at w (datagrams (rows_at i (r ∷ rows))))) (chosen-stays interface is)
-      ∙ rows_more interface r rows w watched (is_same_interface interface r.interface)
-      (sym (ap (option_and_then (λ i. watched_at w (datagrams (rows_at i rows)))) is) ∙ known)
+  capture-stays place watched is known =
+      ap (option_and_then (λ i. watched_at w i (datagrams (rows_at i (r ∷ rows))))) (chosen-stays place is)
+      ∙ rows_more place r rows w watched (is_same_place place r.place)
+      (sym (ap (option_and_then (λ i. watched_at w i (datagrams (rows_at i rows)))) is) ∙ known)
 
-  pub heard-known : (interface : List ℕ) (same : Bool) → chosen w rows ≡ Some interface
-      → is_same_interface interface r.interface ≡ same
+  pub heard-known : (place : PlaceName) (same : Bool) → chosen w rows ≡ Some place
+      → is_same_place place r.place ≡ same
       → heard_at w (r ∷ rows) ≡ (if same then r.row ∷ heard_at w rows else heard_at w rows)
-  heard-known interface same is at =
+  heard-known place same is at =
       ap (λ o. heard_with o (chosen w (r ∷ rows)) r rows (heard_at w rows)) is
       ∙ ap (λ b. if b then r.row ∷ heard_at w rows else heard_at w rows) at
 
-  pub heard-first : (interface : List ℕ) (few : Bool) → chosen w rows ≡ None → chosen w (r ∷ rows) ≡ Some interface
+  pub heard-first : (place : PlaceName) (few : Bool) → chosen w rows ≡ None → chosen w (r ∷ rows) ≡ Some place
       → nat_le (length (r ∷ rows)) kept_most ≡ few
-      → heard_at w (r ∷ rows) ≡ (if few then rows_at interface (r ∷ rows) else r.row ∷ [])
-  heard-first interface few none is count =
+      → heard_at w (r ∷ rows) ≡ (if few then rows_at place (r ∷ rows) else r.row ∷ [])
+  heard-first place few none is count =
       ap (λ o. heard_with o (chosen w (r ∷ rows)) r rows (heard_at w rows)) none
       ∙ ap (λ o. heard_with None o r rows (heard_at w rows)) is
-      ∙ ap (λ b. if b then rows_at interface (r ∷ rows) else r.row ∷ []) count
+      ∙ ap (λ b. if b then rows_at place (r ∷ rows) else r.row ∷ []) count
 
-  -- ---- the interface of the newest row
+  -- ---- the place of the newest row
   pub chosen-after : chosen w rows ≡ None → chosen w (r ∷ rows) ≡ chosen_by w r rows
   chosen-after none = ap (λ o. option_or o (chosen_by w r rows)) none
 
-  pub unlooked : is_among r.interface (interfaces_in (r ∷ rows)) ≡ false → chosen_by w r rows ≡ None
-  unlooked none = ap (λ b. if b && is_some (watched_at w (datagrams (rows_at r.interface (r ∷ rows)))) then Some r.interface else None) none
+  pub unlooked : is_among r.place (places_in (r ∷ rows)) ≡ false → chosen_by w r rows ≡ None
+  unlooked none = ap (λ b. if b && is_some (watched_at w r.place (datagrams (rows_at r.place (r ∷ rows)))) then Some r.place else None) none
 
-  pub unknown : watched_at w (datagrams (rows_at r.interface (r ∷ rows))) ≡ None → chosen_by w r rows ≡ None
+  pub unknown : watched_at w r.place (datagrams (rows_at r.place (r ∷ rows))) ≡ None → chosen_by w r rows ≡ None
   unknown none =
-      ap (λ o. if is_among r.interface (interfaces_in (r ∷ rows)) && is_some o then Some r.interface else None) none
-      ∙ never (is_among r.interface (interfaces_in (r ∷ rows)))
+      ap (λ o. if is_among r.place (places_in (r ∷ rows)) && is_some o then Some r.place else None) none
+      ∙ never (is_among r.place (places_in (r ∷ rows)))
     where
-      never : (b : Bool) → (if b && false then Some r.interface else None) ≡ None
+      never : (b : Bool) → (if b && false then Some r.place else None) ≡ None
       never true = refl
       never false = refl
 
-  pub known_there : (watched : Watched) → is_among r.interface (interfaces_in (r ∷ rows)) ≡ true
-      → watched_at w (datagrams (rows_at r.interface (r ∷ rows))) ≡ Some watched → chosen_by w r rows ≡ Some r.interface
+  pub known_there : (watched : Watched) → is_among r.place (places_in (r ∷ rows)) ≡ true
+      → watched_at w r.place (datagrams (rows_at r.place (r ∷ rows))) ≡ Some watched → chosen_by w r rows ≡ Some r.place
   known_there watched there is =
-      ap (λ o. if is_among r.interface (interfaces_in (r ∷ rows)) && is_some o then Some r.interface else None) is
-      ∙ ap (λ b. if b && true then Some r.interface else None) there
+      ap (λ o. if is_among r.place (places_in (r ∷ rows)) && is_some o then Some r.place else None) is
+      ∙ ap (λ b. if b && true then Some r.place else None) there
 
-  pub capture-first : (watched : Watched) → chosen w (r ∷ rows) ≡ Some r.interface
-      → watched_at w (datagrams (rows_at r.interface (r ∷ rows))) ≡ Some watched → capture_watched w (r ∷ rows) ≡ Some watched
+  pub capture-first : (watched : Watched) → chosen w (r ∷ rows) ≡ Some r.place
+      → watched_at w r.place (datagrams (rows_at r.place (r ∷ rows))) ≡ Some watched → capture_watched w (r ∷ rows) ≡ Some watched
   capture-first watched is known =
-      ap (option_and_then (λ i. watched_at w (datagrams (rows_at i (r ∷ rows))))) is ∙ known
+      ap (option_and_then (λ i. watched_at w i (datagrams (rows_at i (r ∷ rows))))) is ∙ known
 
 -- ---- what is measured
-pub measured-known : (w : WantedPorts) (rows : List InterfaceRow) (watched : Watched) → capture_watched w rows ≡ Some watched
+pub measured-known : (w : WantedPorts) (rows : List PlacedRow) (watched : Watched) → capture_watched w rows ≡ Some watched
     → capture_measured w rows ≡ measurements watched (heard_at w rows)
 measured-known w rows watched known = ap (λ o. option_map_or (λ watched. measurements watched (heard_at w rows)) o []) known
 
-pub measured-unknown : (w : WantedPorts) (rows : List InterfaceRow) → chosen w rows ≡ None → capture_measured w rows ≡ []
+pub measured-unknown : (w : WantedPorts) (rows : List PlacedRow) → chosen w rows ≡ None → capture_measured w rows ≡ []
 measured-unknown w rows none =
     ap (λ o. option_map_or (λ watched. measurements watched (heard_at w rows))
-    (option_and_then (λ i. watched_at w (datagrams (rows_at i rows))) o) []) none
+    (option_and_then (λ i. watched_at w i (datagrams (rows_at i rows))) o) []) none
 
-module _ (w : WantedPorts) (rows : List InterfaceRow) (r : InterfaceRow) where
+module _ (w : WantedPorts) (rows : List PlacedRow) (r : PlacedRow) where
   -- one more that is heard
-  pub measured-more : (interface : List ℕ) (watched : Watched) → chosen w rows ≡ Some interface
-      → capture_watched w rows ≡ Some watched → is_same_interface interface r.interface ≡ true
+  pub measured-more : (place : PlaceName) (watched : Watched) → chosen w rows ≡ Some place
+      → capture_watched w rows ≡ Some watched → is_same_place place r.place ≡ true
       → capture_measured w (r ∷ rows) ≡ option_to_list (measured_at watched (heard_at w rows) r.row) ++ capture_measured w rows
-  measured-more interface watched is known same =
-      measured-known w (r ∷ rows) watched (capture-stays w rows r interface watched is known)
-      ∙ ap (measurements watched) (heard-known w rows r interface true is same)
+  measured-more place watched is known same =
+      measured-known w (r ∷ rows) watched (capture-stays w rows r place watched is known)
+      ∙ ap (measurements watched) (heard-known w rows r place true is same)
       ∙ ap (λ (ms : List Measured). option_to_list (measured_at watched (heard_at w rows) r.row) ++ ms)
       (sym (measured-known w rows watched known))
 
-  -- one at another interface
-  pub measured-other : (interface : List ℕ) (watched : Watched) → chosen w rows ≡ Some interface
-      → capture_watched w rows ≡ Some watched → is_same_interface interface r.interface ≡ false
+  -- one at another place
+  pub measured-other : (place : PlaceName) (watched : Watched) → chosen w rows ≡ Some place
+      → capture_watched w rows ≡ Some watched → is_same_place place r.place ≡ false
       → capture_measured w (r ∷ rows) ≡ capture_measured w rows
-  measured-other interface watched is known other =
-      measured-known w (r ∷ rows) watched (capture-stays w rows r interface watched is known)
-      ∙ ap (measurements watched) (heard-known w rows r interface false is other) ∙ sym (measured-known w rows watched known)
+  measured-other place watched is known other =
+      measured-known w (r ∷ rows) watched (capture-stays w rows r place watched is known)
+      ∙ ap (measurements watched) (heard-known w rows r place false is other) ∙ sym (measured-known w rows watched known)
 
   -- the one by which it is known whom the capture is of
   pub measured-first : (watched : Watched) (heard : List Row) → chosen w rows ≡ None → capture_watched w (r ∷ rows) ≡ Some watched

@@ -3,10 +3,6 @@ use Rattle.std.proofs.Common.{◌≡◌, ◌∙◌, ℕ, List, [], ◌∷◌, Op
 use Rattle.std.specs.Prelude.{OnOk, option_map, option_to_list}
 use Rattle.std.specs.Option.{option_map_or}
 use Rattle.std.specs.Result.{result_ok}
-use Rattle.event_codec.specs.declared.message.Message.{Message}
-use Rattle.event_codec.specs.declared.refusal.DecodeRefusal.{DecodeRefusal}
-use Rattle.event_codec.specs.Packet.{contents}
-use Rattle.event_codec.specs.Reading.{Reading, Answers}
 use Rattle.slave_port.specs.declared.exchange.LastExchange.{LastExchange}
 use Rattle.slave_port.specs.declared.heard.Report.{Report}
 use Rattle.capture_model.specs.declared.watched.Watched.{Watched}
@@ -26,15 +22,14 @@ pub on_ok : {T E P : Type 0} (r : Result T E) → P → OnOk r P
 on_ok (Ok x) p = p
 on_ok (Err e) p = tt
 
--- what was decoded is what the octets say
-pub said_ok : (message : Message) (used : ℕ) (said : Reading) → Answers (Ok (message, used)) said
-    → said ≡ Ok (contents message)
-said_ok message used (Ok m) answers = ap Ok (sym answers.0)
-said_ok message used (Err refusal) answers = absurd answers
+-- what follows of an answer that is there
+pub on_ok_then : {T E P Q : Type 0} (r : Result T E) → (P → Q) → OnOk r P → OnOk r Q
+on_ok_then (Ok x) f p = f p
+on_ok_then (Err e) f p = tt
 
-pub said_err : (refusal : DecodeRefusal) (said : Reading) → Answers (Err refusal) said → said ≡ Err refusal
-said_err refusal (Ok m) answers = absurd answers
-said_err refusal (Err first) answers = ap Err (sym answers)
+pub on_ok_both : {T E P Q S : Type 0} (r : Result T E) → (P → Q → S) → OnOk r P → OnOk r Q → OnOk r S
+on_ok_both (Ok x) f p q = f p q
+on_ok_both (Err e) f p q = tt
 
 -- what is measured at a row by its report, and by the exchange that it was made of
 abbrev pub measured_with : Half → (line : ℕ) → (time : List ℕ) → Option LastExchange → Option Report → List Measured

@@ -6,7 +6,7 @@ use Rattle.std.proofs.lemmas.List.{append_assoc, append-nil, drop_more}
 use Rattle.text_lines.specs.declared.line_fault.LineFault.{LineFault}
 use Rattle.capture_measure.specs.Made.{Measured}
 use Rattle.capture_model.specs.declared.watched.Watched.{Watched}
-use Rattle.capture_measure.specs.declared.measuring.Form.{Form}
+use Rattle.capture_measure.specs.declared.form.Form.{Form}
 use Rattle.capture_measure.specs.declared.recording.Kept.{Kept}
 use Rattle.capture_measure.specs.declared.recording.Recording.{Recording}
 use Rattle.capture_measure.specs.Row.{Row}
@@ -53,17 +53,17 @@ pub went_alone : (form : Form) (ms : List Measured) (a b : Option (List ℕ)) �
 went_alone form ms a b went = subst (λ (x : List Measured). Appends a b (texts_as form x)) (sym (append-nil ms)) went
 
 -- ---- the rows that a port begins with
-pub those_kept : (is_kept : Bool) (recordings : List Recording) (place : ℕ) (newest : Row) (rows : List Row) → is_kept ≡ true
-    → BeginsWith is_kept recordings place newest rows → (d : Recording) → AreKeptRows [] (get_or recordings place d).kept.items rows
-those_kept true recordings place newest rows is begins = begins
-those_kept false recordings place newest rows is begins = absurd cc
+pub those_kept : (is_kept : Bool) (recordings : List Recording) (index : ℕ) (newest : Row) (rows : List Row) → is_kept ≡ true
+    → BeginsWith is_kept recordings index newest rows → (d : Recording) → AreKeptRows [] (get_or recordings index d).kept.items rows
+those_kept true recordings index newest rows is begins = begins
+those_kept false recordings index newest rows is begins = absurd cc
 
-pub alone : (is_kept : Bool) (recordings : List Recording) (place : ℕ) (newest : Row) (rows : List Row) → is_kept ≡ false
-    → BeginsWith is_kept recordings place newest rows → rows ≡ newest ∷ []
-alone true recordings place newest rows is begins = absurd cc
-alone false recordings place newest rows is begins = begins
+pub alone : (is_kept : Bool) (recordings : List Recording) (index : ℕ) (newest : Row) (rows : List Row) → is_kept ≡ false
+    → BeginsWith is_kept recordings index newest rows → rows ≡ newest ∷ []
+alone true recordings index newest rows is begins = absurd cc
+alone false recordings index newest rows is begins = begins
 
 -- what holds with any recording in the place of one that isn't there holds, since one is there
-pub one_there : {P : Type 0} (recordings : List Recording) (place : ℕ) → place < length recordings → ((d : Recording) → P) → P
-one_there [] place within holds = absurd (omega (arith, within))
-one_there (x ∷ recordings) place within holds = holds x
+pub one_there : {P : Type 0} (recordings : List Recording) (index : ℕ) → index < length recordings → ((d : Recording) → P) → P
+one_there [] index within holds = absurd (omega (arith, within))
+one_there (x ∷ recordings) index within holds = holds x

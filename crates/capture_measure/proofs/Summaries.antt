@@ -1,136 +1,98 @@
--- What is told at the end, by what is left of what measured.
-use Rattle.std.proofs.Common.{◌≡◌, ℕ, zero, suc, ◌+◌, ◌<◌, List, [], ◌∷◌, length, take, Option, Some, None, Result, Ok, Err}
-use Rattle.std.proofs.Common.{refl, sym, subst, arith}
-use Rattle.std.specs.Prelude.{get_or, slice_get, option_map, option_and_then}
-use Rattle.text_lines.specs.declared.fault.Cause.{Cause}
-use Rattle.text_lines.specs.declared.fault.Cause.TheVariants.{Reading, Task}
-use Rattle.text_lines.specs.declared.fault.Stopped.{Stopped}
-use Rattle.text_lines.specs.declared.line_fault.LineFault.{LineFault}
-use Rattle.text_lines.specs.declared.line_fault.LineFault.TheVariants.{Write, Field, Memory}
-use Rattle.text_lines.specs.Lines.{lines_of}
-use Rattle.text_lines.specs.Task as lines
-use Rattle.capture_file.specs.declared.fault.CaptureCause.{CaptureCause}
-use Rattle.capture_file.specs.declared.fault.CaptureCause.TheVariants as causes
-use Rattle.capture_file.specs.declared.fault.CaptureStop.{CaptureStop}
-use Rattle.capture_file.specs.Parts.{Part, packets_of}
-use Rattle.capture_file.specs.Task as packets
-use Rattle.capture_model.specs.declared.watched.Watched.{Watched}
-use Rattle.capture_measure.specs.declared.input.Summary.{Summary}
-use Rattle.capture_measure.specs.declared.measuring.Form.{Form}
-use Rattle.capture_measure.specs.declared.measuring.Measuring.{Measuring}
-use Rattle.capture_measure.specs.declared.packets.CaptureMeasuring.{CaptureMeasuring}
-use Rattle.capture_measure.specs.declared.packets.PacketStage.{PacketStage}
-use Rattle.capture_measure.specs.declared.packets.PacketStage.TheVariants.{Looking, Hearing}
-use Rattle.capture_measure.specs.declared.recording.Recording as recordings
+-- What is told at the end, by what is kept.
+use Rattle.std.proofs.Common.{◌≡◌, ◌∙◌, ℕ, zero, suc, ◌+◌, ◌<◌, Bool, true, false, List, [], ◌∷◌, length, map, Option, Some, None}
+use Rattle.std.proofs.Common.{refl, sym, ap, subst, arith}
+use Rattle.std.specs.Prelude.{get_or, slice_get, option_map, option_and_then, if◌then◌else◌}
+use Rattle.std.specs.Option.{option_map_or}
 use Rattle.measure_summary.specs.declared.counts.Counts.{Counts}
+use Rattle.measure_summary.specs.declared.whom.Whom.{Whom}
+use Rattle.recording_listener.specs.declared.listener.Listener.{Listener}
+use Rattle.capture_measure.specs.declared.measuring.Stage.{Stage}
+use Rattle.capture_measure.specs.declared.measuring.Stage.TheVariants.{Looking, Hearing}
+use Rattle.capture_measure.specs.declared.recording.Recording.{Recording}
 use Rattle.capture_measure.specs.declared.watch.WantedPorts.{WantedPorts}
-use Rattle.capture_measure.specs.Row.{datagrams}
-use Rattle.capture_measure.specs.Interfaces.{InterfaceRow, rows_at}
-use Rattle.capture_measure.specs.Chosen.{chosen, watched_at}
-use Rattle.capture_measure.specs.Counts.{AreCaptured}
-use Rattle.capture_measure.specs.Measure.{Recording, begun, measure_rules}
-use Rattle.capture_measure.specs.Capture.{Capture, capture_begun, capture_rules}
-use Rattle.capture_measure.specs.Told.{IsLinesSummary, IsCaptureSummary, OfLines, OfLinesUntil, OfPackets, OfPacketsUntil}
-use Rattle.capture_measure.specs.Told.{interface_in, interface_at}
-use Rattle.capture_measure.specs.Inner.Capturing.{IsCapturing, IsCaptureStage}
-use Rattle.capture_measure.specs.Inner.Counting.{CountsSoFar, counts_at}
-use Rattle.capture_measure.specs.Inner.Measuring.{IsMeasuring, IsLeft}
-use Rattle.capture_measure.proofs.LinesRead as lines_read
-use Rattle.capture_measure.proofs.PacketsRead as packets_read
+use Rattle.capture_measure.specs.Row.{Row, datagrams}
+use Rattle.capture_measure.specs.Places.{PlaceName, PlacedRow, rows_at, rows_looked_at, is_among, places_in}
+use Rattle.capture_measure.specs.Chosen.{chosen}
+use Rattle.capture_measure.specs.Counts.{Fate, early_at, capture_fates, told_fates, IsCounts}
+use Rattle.capture_measure.specs.Summary.{whom_in, told_whom}
+use Rattle.capture_measure.specs.Told.{place_in, place_at}
+use Rattle.capture_measure.specs.Inner.Counting.{CountsSoFar}
+use Rattle.capture_measure.specs.Inner.Measuring.{IsStage}
+use Rattle.capture_measure.specs.Inner.Recordings.{AreRecordings, IsFoundAt}
+use Rattle.capture_measure.specs.Inner.Stages.{capture_whom}
+use Rattle.capture_measure.specs.Inner.Watching.{whom_of}
+use Rattle.capture_measure.proofs.CaptureFates.{so_far_known}
+use Rattle.capture_measure.proofs.KeptRows.{one_there as one_at}
+use Rattle.capture_measure.proofs.Watches.{whom_known}
 
--- ---- lines
--- of a task that has in it what measures
-module _ {T : Type 0} (of : T → Measuring) (form : Form) (w : WantedPorts) (octets : List ℕ) (task : T) (summary : Summary)
-    (is : (r : Recording) → IsMeasuring (of task) r → IsLinesSummary r.wanted summary r.rows)
-  where
-    told : (those : List (List ℕ)) (read : Recording) (text : List ℕ) → lines.TakesLines measure_rules 1 those (begun form w) read text
-        → IsMeasuring (of task) read → IsLinesSummary w summary read.rows
-    told those read text taken at = subst (λ (v : WantedPorts). IsLinesSummary v summary read.rows)
-        (lines_read.read_on 1 those (begun form w) read text taken).wanted (is read at)
+-- ---- which place is measured
+at_place : (index : ℕ) (known : List Recording) (place : Option PlaceName) → index < length known
+    → ((d : Recording) → place ≡ Some (place_in (get_or known index d)))
+    → option_map place_in (slice_get known index) ≡ place
+at_place zero [] place within is = absurd (omega (arith, within))
+at_place (suc index) [] place within is = absurd (omega (arith, within))
+at_place zero (one ∷ others) place within is = sym (is one)
+at_place (suc index) (one ∷ others) place within is = at_place index others place (omega (arith, within)) is
 
-    lines_until : (earlier line : ℕ) (what : Cause LineFault) (state : Recording) (text : List ℕ) → line ≡ earlier + 1
-        → lines.TakesLines measure_rules 1 (take earlier (lines_of octets)) (begun form w) state text
-        → lines.IsLeftAt (λ t. IsMeasuring (of t)) (λ old new. IsLeft (of old) (of new)) state task what
-        → OfLinesUntil form w octets line what (IsLinesSummary w summary)
-    lines_until earlier line (Reading fault) state text numbered taken at =
-        (earlier, numbered, state, text, taken, told (take earlier (lines_of octets)) state text taken at)
-    lines_until earlier line (Task Field) state text numbered taken (before, at, same) = (
-      earlier,
-      numbered,
-      state,
-      text,
-      taken,
-      told (take earlier (lines_of octets)) state text taken (subst (λ (t : Measuring). IsMeasuring t state) (sym same) at),
-    )
-    lines_until earlier line (Task Write) state text numbered taken left = tt
-    lines_until earlier line (Task Memory) state text numbered taken left = tt
+pub place_chosen : (w : WantedPorts) (rows : List PlacedRow) (known : List Recording) (stage : Stage)
+    → IsStage w rows known stage → place_at stage known ≡ chosen w rows
+place_chosen w rows known (Looking count) (none, are, few) = sym none
+place_chosen w rows known (Hearing index listener) (watched, within, is, of, listens) = at_place index known (chosen w rows) within is
 
-    pub lines_left : (answer : Result ℕ (Stopped (Cause LineFault)))
-        → lines.LeavesTask measure_rules (λ t. IsMeasuring (of t)) (λ old new. IsLeft (of old) (of new)) (λ old new. of new ≡ of old)
-        (begun form w) octets task answer
-        → OfLines form w octets answer (IsLinesSummary w summary)
-    lines_left (Ok count) (state, text, taken, before, at, same) =
-        (state, text, taken, told (lines_of octets) state text taken (subst (λ (t : Measuring). IsMeasuring t state) (sym same) at))
-    lines_left (Err stop) (earlier, numbered, state, text, taken, left) =
-        lines_until earlier stop.line stop.what state text numbered taken left
+pub is_looking : (w : WantedPorts) (rows : List PlacedRow) (known : List Recording) (stage : Stage) → IsStage w rows known stage
+    → ((index : ℕ) (listener : Listener) → stage ≡ Hearing index listener → ⊥) → (chosen w rows ≡ None) × AreRecordings w rows known
+is_looking w rows known (Looking count) (none, are, few) other = (none, are)
+is_looking w rows known (Hearing index listener) is other = absurd (other index listener refl)
 
--- ---- packets
--- the same
-module _ {T : Type 0} (of : T → CaptureMeasuring) (is_left : T → T → LineFault → Type 0) (form : Form) (w : WantedPorts) (octets : List ℕ)
-    (task : T) (summary : Summary) (is : (c : Capture) → IsCapturing (of task) c → IsCaptureSummary c.wanted summary c.rows)
-  where
-    captured : (parts : List Part) (rest : List ℕ) (read : Capture) (text : List ℕ)
-        → packets.HasTaken capture_rules (capture_begun form w) octets parts rest read text
-        → IsCapturing (of task) read → IsCaptureSummary w summary read.rows
-    captured parts rest read text has at = subst (λ (v : WantedPorts). IsCaptureSummary v summary read.rows)
-        (packets_read.read_on form w (packets_of parts) read text has.taken).wanted (is read at)
+-- ---- once it is known
+pub whom_chosen : (w : WantedPorts) (rows : List PlacedRow) (place : PlaceName) (whom : Whom) → chosen w rows ≡ Some place
+    → Some whom ≡ capture_whom w rows → whom ≡ told_whom w rows
+whom_chosen w rows place whom is of =
+    ap (λ (o : Option Whom). option_map_or (λ x. x) o whom)
+    (of ∙ ap (option_map (λ i. whom_in w (datagrams (rows_at i rows)))) is)
+    ∙ sym (ap (λ (o : Option PlaceName). whom_in w (datagrams (option_map_or (λ i. rows_at i rows) o (rows_looked_at None rows)))) is)
 
-    packets_until : (count : ℕ) (what : CaptureCause LineFault) (parts : List Part) (rest : List ℕ) (state : Capture) (text : List ℕ)
-        → packets.HasTaken capture_rules (capture_begun form w) octets parts rest state text → count ≡ length (packets_of parts)
-        → packets.IsLeftAt (λ t. IsCapturing (of t)) is_left state task what
-        → OfPacketsUntil form w octets count what (IsCaptureSummary w summary)
-    packets_until count (causes.Task fault) parts rest state text has numbered left = tt
-    packets_until count _ parts rest state text has numbered at =
-        (parts, rest, state, text, has, numbered, captured parts rest state text has at)
+pub counts_chosen : (w : WantedPorts) (rows : List PlacedRow) (place : PlaceName) (counts : Counts) → chosen w rows ≡ Some place
+    → CountsSoFar w (chosen w rows) rows counts → IsCounts (told_fates w rows) counts
+counts_chosen w rows place counts is so_far =
+    subst (λ (all : List Fate). IsCounts all counts)
+    (sym (ap (λ (o : Option PlaceName). option_map_or (λ i. capture_fates w i rows) o (early_at w None (rows_looked_at None rows))) is))
+    (so_far_known w rows place counts is so_far)
 
-    pub packets_left : (answer : Result ℕ (CaptureStop LineFault))
-        → packets.LeavesTask capture_rules (λ t. IsCapturing (of t)) is_left (λ old new. of new ≡ of old) (capture_begun form w) octets task
-        answer
-        → OfPackets form w octets answer (IsCaptureSummary w summary)
-    packets_left (Ok count) (parts, state, text, has, before, at, same) = (
-      parts,
-      state,
-      text,
-      has,
-      captured parts [] state text has (subst (λ (t : CaptureMeasuring). IsCapturing t state) (sym same) at),
-    )
-    packets_left (Err stop) (parts, rest, state, text, has, numbered, left) =
-        packets_until stop.packets stop.what parts rest state text has numbered left
+-- ---- while it isn't
+module _ (w : WantedPorts) (rows : List PlacedRow) (none : chosen w rows ≡ None) where
+  whom_unchosen : told_whom w rows ≡ whom_in w (datagrams (rows_looked_at None rows))
+  whom_unchosen = ap (λ (o : Option PlaceName). whom_in w (datagrams (option_map_or (λ i. rows_at i rows) o (rows_looked_at None rows)))) none
 
--- ---- what is told of a capture
-at_place : (place : ℕ) (known : List recordings.Recording) (interface : Option (List ℕ)) → place < length known
-    → ((d : recordings.Recording) → interface ≡ Some (interface_in (get_or known place d)))
-    → option_map interface_in (slice_get known place) ≡ interface
-at_place zero [] interface within is = absurd (omega (arith, within))
-at_place (suc place) [] interface within is = absurd (omega (arith, within))
-at_place zero (one ∷ others) interface within is = sym (is one)
-at_place (suc place) (one ∷ others) interface within is = at_place place others interface (omega (arith, within)) is
+  fates_unchosen : told_fates w rows ≡ early_at w None (rows_looked_at None rows)
+  fates_unchosen =
+      ap (λ (o : Option PlaceName). option_map_or (λ i. capture_fates w i rows) o (early_at w None (rows_looked_at None rows))) none
 
-pub interface_chosen : (w : WantedPorts) (rows : List InterfaceRow) (known : List recordings.Recording) (stage : PacketStage)
-    → IsCaptureStage w rows known stage → interface_at stage known ≡ chosen w rows
-interface_chosen w rows known (Looking count) (none, are, few) = sym none
-interface_chosen w rows known (Hearing place listener) (watched, within, is, of, listens) = at_place place known (chosen w rows) within is
+  rows_looked : (there : Bool) → is_among None (places_in rows) ≡ there
+      → rows_looked_at None rows ≡ (if there then rows_at None rows else [])
+  rows_looked there is = ap (λ b. if b then rows_at None rows else []) is
 
-counted : (w : WantedPorts) (rows : List InterfaceRow) (interface : Option (List ℕ)) (watched : Watched) (counts : Counts)
-    → option_and_then (λ i. watched_at w (datagrams (rows_at i rows))) interface ≡ Some watched
-    → CountsSoFar w interface rows counts → AreCaptured w interface rows (Some counts)
-counted w rows None watched counts known so_far = absurd cc
-counted w rows (Some interface) watched counts known so_far = so_far
+  pub whom_nowhere : is_among None (places_in rows) ≡ false → told_whom w rows ≡ whom_in w []
+  whom_nowhere is = whom_unchosen ∙ ap (λ (rs : List Row). whom_in w (datagrams rs)) (rows_looked false is)
 
-pub counts_captured : (w : WantedPorts) (rows : List InterfaceRow) (known : List recordings.Recording) (stage : PacketStage) (counts : Counts)
-    → IsCaptureStage w rows known stage → CountsSoFar w (chosen w rows) rows counts
-    → AreCaptured w (chosen w rows) rows (counts_at stage counts)
-counts_captured w rows known (Looking count) counts (none, are, few) so_far =
-    subst (λ (i : Option (List ℕ)). AreCaptured w i rows None) (sym none) refl
-counts_captured w rows known (Hearing place listener) counts (watched, within, is, of, listens) so_far =
-    counted w rows (chosen w rows) watched counts of so_far
+  pub fates_nowhere : is_among None (places_in rows) ≡ false → told_fates w rows ≡ []
+  fates_nowhere is = fates_unchosen ∙ ap (early_at w None) (rows_looked false is)
+
+  module _ (known : List Recording) (are : AreRecordings w rows known) (index : ℕ)
+      (found : IsFoundAt None (map place_in known) (Some index) known) where
+    among : is_among None (places_in rows) ≡ true
+    among = ap (is_among None) (sym are.places) ∙ found.0
+
+    pub whom_there : (d : Recording) → whom_of (get_or known index d).watch ≡ told_whom w rows
+    whom_there d =
+        whom_known w (datagrams (rows_at (place_in (get_or known index d)) rows)) (get_or known index d).watch
+        (are.each index d found.1).noticed.watch
+        ∙ ap (λ (i : PlaceName). whom_in w (datagrams (rows_at i rows))) (found.2 d)
+        ∙ sym (whom_unchosen ∙ ap (λ (rs : List Row). whom_in w (datagrams rs)) (rows_looked true among))
+
+    pub counts_there : (d : Recording) → IsCounts (told_fates w rows) (get_or known index d).early.counts
+    counts_there d =
+        subst (λ (all : List Fate). IsCounts all (get_or known index d).early.counts)
+        (ap (λ (i : PlaceName). early_at w i (rows_at i rows)) (found.2 d)
+        ∙ sym (fates_unchosen ∙ ap (early_at w None) (rows_looked true among)))
+        (are.each index d found.1).early

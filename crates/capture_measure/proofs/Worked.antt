@@ -10,7 +10,7 @@ use Rattle.event_codec.specs.Profile.{header_of}
 use Rattle.event_codec.specs.Reading.{Reading}
 use Rattle.ptp_units.specs.Nanoseconds.{decimals}
 use Rattle.std.specs.Fmt.{digits}
-use Rattle.capture_measure.specs.declared.measuring.Form.TheVariants.{Table}
+use Rattle.capture_measure.specs.declared.form.Form.TheVariants.{Table}
 use Rattle.capture_measure.specs.declared.watch.WantedPorts.{WantedPorts}
 use Rattle.capture_measure.specs.Watch.{watched_in}
 use Rattle.capture_measure.specs.Row.{Row, datagrams, heard}

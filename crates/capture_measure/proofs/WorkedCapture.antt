@@ -5,10 +5,10 @@ use Rattle.ptp_units.specs.Moment.{stamp}
 use Rattle.event_codec.specs.declared.message.Body.TheVariants.{Sync, DelayReq, DelayResp}
 use Rattle.ptp_units.specs.Nanoseconds.{decimals}
 use Rattle.std.specs.Fmt.{digits}
-use Rattle.capture_measure.specs.declared.measuring.Form.TheVariants.{Table}
+use Rattle.capture_measure.specs.declared.form.Form.TheVariants.{Table}
 use Rattle.capture_file.specs.Name.{called}
 use Rattle.capture_measure.specs.Row.{Row}
-use Rattle.capture_measure.specs.Interfaces.{InterfaceRow, interfaces_in}
+use Rattle.capture_measure.specs.Places.{PlacedRow, places_in}
 use Rattle.capture_measure.specs.Chosen.{chosen, heard_at, capture_written}
 use Rattle.capture_measure.specs.Counts.{capture_fates}
 use Rattle.measure_summary.specs.declared.no_report.NoReport.TheVariants.{OfSlave, Alone}
@@ -21,8 +21,8 @@ first = called 0 None
 abbrev tap : List ℕ
 tap = called 1 (Some (codes "tap"))
 
-abbrev at : List ℕ → Row → InterfaceRow
-at interface it = record { interface = interface; row = it }
+abbrev at : List ℕ → Row → PlacedRow
+at interface it = record { place = Some interface; row = it }
 
 abbrev sync : Row
 sync = a_line 2 (codes "7.000005") 7000005000 (said (port 1 0) 9 (Sync (stamp 7 0)))
@@ -34,7 +34,7 @@ abbrev response : Row
 response = a_line 8 (codes "8.1") 8100000000 (said (port 1 0) 5 (DelayResp (stamp 8 3000) (port 2 0).identity))
 
 -- a Sync of another master at the first interface before that at the tap, and one more behind the slave's Delay_Req
-abbrev rows : List InterfaceRow
+abbrev rows : List PlacedRow
 rows =
     at tap response
     ∷ at first (a_line 7 (codes "8.05") 8050000000 (said (port 5 0) 8 (Sync (stamp 8 0))))
@@ -42,7 +42,7 @@ rows =
     ∷ at tap sync
     ∷ at first (a_line 1 (codes "7") 7000000000 (said (port 5 0) 7 (Sync (stamp 7 0)))) ∷ []
 
-both : interfaces_in rows ≡ first ∷ tap ∷ []
+both : places_in rows ≡ Some first ∷ Some tap ∷ []
 unfolding digits
 both = refl
 
@@ -51,7 +51,7 @@ nameless : called 3 None ≡ codes "if3"
 unfolding digits
 nameless = refl
 
-measured : chosen anybody rows ≡ Some tap
+measured : chosen anybody rows ≡ Some (Some tap)
 unfolding digits
 measured = refl
 
@@ -75,6 +75,6 @@ unfolding digits decimals
 row_written = refl
 
 -- of those at the tap the Delay_Resp brings the report, and those at the first interface aren't counted
-why_not : map (λ fate. fate.why) (capture_fates anybody tap rows) ≡ None ∷ Some OfSlave ∷ Some Alone ∷ []
+why_not : map (λ fate. fate.why) (capture_fates anybody (Some tap) rows) ≡ None ∷ Some OfSlave ∷ Some Alone ∷ []
 unfolding digits
 why_not = refl

@@ -1,4 +1,4 @@
--- Whom a capture is of, and at which of its interfaces: the first at which that is known.
+-- Whom an input is of, and at which of the places at which its datagrams were met: the first at which that is known.
 use Rattle.std.specs.Prelude.{ℕ, nat_le, Bool, true, false, ◌==◌, ◌&&◌, List, [], ◌∷◌, length, if◌then◌else◌, is_some}
 use Rattle.std.specs.Prelude.{Option, Some, None, option_and_then}
 use Rattle.std.specs.List.{list_any}
@@ -10,12 +10,12 @@ use Rattle.event_codec.specs.Port.{is_same_port}
 use Rattle.capture_model.specs.declared.watched.Watched.{Watched}
 use Rattle.capture_model.specs.Recorded.{Recorded}
 use Rattle.capture_measure.specs.Made.{Measured}
-use Rattle.capture_measure.specs.declared.measuring.Form.{Form}
+use Rattle.capture_measure.specs.declared.form.Form.{Form}
 use Rattle.capture_measure.specs.declared.watch.WantedPorts.{WantedPorts}
 use Rattle.capture_measure.specs.Watch.{watched_in}
 use Rattle.capture_measure.specs.Row.{Row, datagrams, kept_most}
 use Rattle.capture_measure.specs.Measured.{texts_as, measurements}
-use Rattle.capture_measure.specs.Interfaces.{InterfaceRow, is_same_interface, rows_at, is_among, interfaces_in}
+use Rattle.capture_measure.specs.Places.{PlaceName, PlacedRow, is_same_place, rows_at, is_among, places_in}
 
 -- a datagram is a message whose header is so
 abbrev pub tells : (Header → Bool) → Recorded → Bool
@@ -35,46 +35,52 @@ is_port_met (Some port) ds = list_any (tells (λ header. is_same_port header.sou
 abbrev pub is_met : WantedPorts → List Recorded → Bool
 is_met w ds = is_domain_met w.domain ds && (is_port_met w.master ds && is_port_met w.slave ds)
 
--- whom the datagrams at an interface are of, where all that is asked for was met there
-abbrev pub watched_at : WantedPorts → List Recorded → Option Watched
-watched_at w ds = if is_met w ds then watched_in w ds else None
+-- All that is asked for was met at a place that has a name, since there may be others. Lines that tell none are all of one place, so
+-- nothing has to be met there.
+abbrev pub is_enough : WantedPorts → PlaceName → List Recorded → Bool
+is_enough w None ds = true
+is_enough w (Some name) ds = is_met w ds
 
--- the interface of the newest of these rows, where it is looked at and it is known whom its datagrams are of
-abbrev pub chosen_by : WantedPorts → InterfaceRow → (earlier : List InterfaceRow) → Option (List ℕ)
+-- whom the datagrams at a place are of, where enough was met there
+abbrev pub watched_at : WantedPorts → PlaceName → List Recorded → Option Watched
+watched_at w place ds = if is_enough w place ds then watched_in w ds else None
+
+-- the place of the newest of these rows, where it is looked at and it is known whom its datagrams are of
+abbrev pub chosen_by : WantedPorts → PlacedRow → (earlier : List PlacedRow) → Option PlaceName
 chosen_by w r earlier =
-    if is_among r.interface (interfaces_in (r ∷ earlier))
-    && is_some (watched_at w (datagrams (rows_at r.interface (r ∷ earlier))))
-    then Some r.interface else None
+    if is_among r.place (places_in (r ∷ earlier))
+    && is_some (watched_at w r.place (datagrams (rows_at r.place (r ∷ earlier))))
+    then Some r.place else None
 
--- the interface that is measured
-abbrev pub chosen : WantedPorts → List InterfaceRow → Option (List ℕ)
+-- the place that is measured
+abbrev pub chosen : WantedPorts → List PlacedRow → Option PlaceName
 chosen w [] = None
 chosen w (r ∷ earlier) = option_or (chosen w earlier) (chosen_by w r earlier)
 
--- The rows that are heard with one more: those at the interface that is measured. Once that is known, and not too many
+-- The rows that are heard with one more: those at the place that is measured. Once that is known, and not too many
 -- rows came before, those before are heard, too.
-abbrev pub heard_with : (before now : Option (List ℕ)) → InterfaceRow → (earlier : List InterfaceRow)
+abbrev pub heard_with : (before now : Option PlaceName) → PlacedRow → (earlier : List PlacedRow)
     → (heard : List Row) → List Row
-heard_with (Some interface) now r earlier heard =
-    if is_same_interface interface r.interface then r.row ∷ heard else heard
+heard_with (Some place) now r earlier heard =
+    if is_same_place place r.place then r.row ∷ heard else heard
 heard_with None None r earlier heard = []
-heard_with None (Some interface) r earlier heard =
-    if nat_le (length (r ∷ earlier)) kept_most then rows_at interface (r ∷ earlier) else r.row ∷ []
+heard_with None (Some place) r earlier heard =
+    if nat_le (length (r ∷ earlier)) kept_most then rows_at place (r ∷ earlier) else r.row ∷ []
 
 -- the rows that are heard
-abbrev pub heard_at : WantedPorts → List InterfaceRow → List Row
+abbrev pub heard_at : WantedPorts → List PlacedRow → List Row
 heard_at w [] = []
 heard_at w (r ∷ earlier) = heard_with (chosen w earlier) (chosen w (r ∷ earlier)) r earlier (heard_at w earlier)
 
--- whom the capture is of
-abbrev pub capture_watched : WantedPorts → List InterfaceRow → Option Watched
+-- whom the input is of
+abbrev pub capture_watched : WantedPorts → List PlacedRow → Option Watched
 capture_watched w rows =
-    option_and_then (λ interface. watched_at w (datagrams (rows_at interface rows))) (chosen w rows)
+    option_and_then (λ place. watched_at w place (datagrams (rows_at place rows))) (chosen w rows)
 
 -- all that is measured once these rows were read
-abbrev pub capture_measured : WantedPorts → List InterfaceRow → List Measured
+abbrev pub capture_measured : WantedPorts → List PlacedRow → List Measured
 capture_measured w rows = option_map_or (λ watched. measurements watched (heard_at w rows)) (capture_watched w rows) []
 
 -- all that is written of them
-abbrev pub capture_written : Form → WantedPorts → List InterfaceRow → List ℕ
+abbrev pub capture_written : Form → WantedPorts → List PlacedRow → List ℕ
 capture_written form w rows = texts_as form (capture_measured w rows)

@@ -39,8 +39,8 @@ use Rattle.capture_measure.specs.Watch.{watched_in}
 use Rattle.capture_measure.specs.Row.{Row, datagrams, heard}
 use Rattle.capture_measure.specs.Measured.{measured_at}
 use Rattle.capture_measure.specs.Meetings.{meeting_at}
-use Rattle.capture_measure.specs.Interfaces.{InterfaceRow, rows_at}
-use Rattle.capture_measure.specs.Chosen.{heard_at, watched_at, capture_watched}
+use Rattle.capture_measure.specs.Places.{PlaceName, PlacedRow, rows_at, rows_looked_at}
+use Rattle.capture_measure.specs.Chosen.{chosen, heard_at, watched_at, capture_watched}
 
 -- ---- what a datagram is
 abbrev pub kind_of : Body → Kind
@@ -205,19 +205,25 @@ abbrev pub fates_in : WantedPorts → List Row → List Fate
 fates_in w rows = option_map_or (λ watched. fates watched (heard w rows)) (watched_in w (datagrams rows)) []
     ++ early_fates (drop (length (heard w rows)) rows)
 
--- of rows at an interface those by which it isn't known yet whom they are of, as one that comes too early
+-- of rows at a place those by which it isn't known yet whom they are of, as one that comes too early
 abbrev pub early_with : (known : Option Watched) → Recorded → List Fate → List Fate
 early_with None d all = early_fate d ∷ all
 early_with (Some watched) d all = all
 
-abbrev pub early_at : WantedPorts → List Row → List Fate
-early_at w [] = []
-early_at w (row ∷ earlier) = early_with (watched_at w (datagrams (row ∷ earlier))) row.datagram (early_at w earlier)
+abbrev pub early_at : WantedPorts → PlaceName → List Row → List Fate
+early_at w place [] = []
+early_at w place (row ∷ earlier) =
+    early_with (watched_at w place (datagrams (row ∷ earlier))) row.datagram (early_at w place earlier)
 
--- what comes of the rows of a capture at the interface that is measured: of those that are heard, and of those before them
-abbrev pub capture_fates : WantedPorts → List ℕ → List InterfaceRow → List Fate
-capture_fates w interface rows = option_map_or (λ watched. fates watched (heard_at w rows)) (capture_watched w rows) []
-    ++ early_at w (drop (length (heard_at w rows)) (rows_at interface rows))
+-- what comes of the rows at the place that is measured: of those that are heard, and of those before them
+abbrev pub capture_fates : WantedPorts → PlaceName → List PlacedRow → List Fate
+capture_fates w place rows = option_map_or (λ watched. fates watched (heard_at w rows)) (capture_watched w rows) []
+    ++ early_at w place (drop (length (heard_at w rows)) (rows_at place rows))
+
+-- Of which datagrams something is told: of those at the place that is measured; while none is, of those that were met at none that
+-- has a name.
+abbrev pub told_fates : WantedPorts → List PlacedRow → List Fate
+told_fates w rows = option_map_or (λ place. capture_fates w place rows) (chosen w rows) (early_at w None (rows_looked_at None rows))
 
 -- ---- what the numbers are worth
 -- what is noted of it
@@ -257,13 +263,3 @@ pub record IsCounts (all : List Fate) (counts : Counts) : Type 0 where
   pub places : length counts.unreported ≡ 140
   pub quality : IsQuality (map noted_of all) counts.quality
   pub others : AreOthers (filter_map meeting_of all) counts.others
-
--- counts are there, and are these
-abbrev pub AreCounted : List Fate → Option Counts → Type 0
-AreCounted all None = ⊥
-AreCounted all (Some counts) = IsCounts all counts
-
--- what is counted of a capture, at the interface that is measured, once that is known
-abbrev pub AreCaptured : WantedPorts → (measured : Option (List ℕ)) → List InterfaceRow → Option Counts → Type 0
-AreCaptured w None rows counts = counts ≡ None
-AreCaptured w (Some interface) rows counts = AreCounted (capture_fates w interface rows) counts

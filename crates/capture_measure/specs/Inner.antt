@@ -2,9 +2,7 @@
 -- it, so nobody has to believe it.
 pub mod Watching
 pub mod Hearing
-pub mod Measuring
 pub mod Recordings
-pub mod Capturing
-pub mod Outcomes
+pub mod Measuring
 pub mod Stages
 pub mod Counting

@@ -3,10 +3,8 @@ pub mod Row
 pub mod Made
 pub mod Measured
 pub mod Measure
-pub mod Interfaces
+pub mod Places
 pub mod Chosen
-pub mod Capture
-pub mod Input
 pub mod Summary
 pub mod Meetings
 pub mod Counts

@@ -11,8 +11,8 @@ use Rattle.capture_lines.specs.declared.measurement.Half.{Half}
 use Rattle.capture_lines.specs.declared.measurement.Half.TheVariants as halves
 use Rattle.capture_lines.specs.Measurement.{json_text, row_text}
 use Rattle.exchange_lines.specs.Exchange as full
-use Rattle.capture_measure.specs.declared.measuring.Form.{Form}
-use Rattle.capture_measure.specs.declared.measuring.Form.TheVariants.{Json, Table, FullJson, FullTable}
+use Rattle.capture_measure.specs.declared.form.Form.{Form}
+use Rattle.capture_measure.specs.declared.form.Form.TheVariants.{Json, Table, FullJson, FullTable}
 use Rattle.capture_measure.specs.declared.watch.WantedPorts.{WantedPorts}
 use Rattle.capture_measure.specs.Watch.{watched_in}
 use Rattle.capture_measure.specs.Row.{Row, datagrams, heard}

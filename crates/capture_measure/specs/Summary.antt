@@ -1,6 +1,6 @@
 -- Whom an input is of, and which of its lines or packets told that. Lists of datagrams have the newest in front.
 use Rattle.std.specs.Prelude.{ℕ, Bool, List, Option, Some, None, option_map, option_and_then}
-use Rattle.std.specs.Option.{option_or}
+use Rattle.std.specs.Option.{option_or, option_map_or}
 use Rattle.event_codec.specs.declared.message.Body.{Body}
 use Rattle.event_codec.specs.declared.port.PortIdentity.{PortIdentity}
 use Rattle.capture_model.specs.Recorded.{Recorded}
@@ -10,7 +10,7 @@ use Rattle.capture_measure.specs.declared.watch.WantedPorts.{WantedPorts}
 use Rattle.measure_summary.specs.declared.whom.Whom.{Whom}
 use Rattle.capture_measure.specs.Watch.{is_request, first_told, source_told, domain_told, domain_in}
 use Rattle.capture_measure.specs.Row.{datagrams}
-use Rattle.capture_measure.specs.Interfaces.{InterfaceRow, rows_at}
+use Rattle.capture_measure.specs.Places.{PlacedRow, rows_at, rows_looked_at}
 use Rattle.capture_measure.specs.Chosen.{chosen}
 
 -- what a line told, if it did
@@ -43,6 +43,7 @@ whom_in w ds = record {
   slave = known_port is_request w.slave (domain_in w ds) ds;
 }
 
--- the same of a capture, at the interface that is measured
-abbrev pub capture_whom : WantedPorts → List InterfaceRow → Option Whom
-capture_whom w rows = option_map (λ interface. whom_in w (datagrams (rows_at interface rows))) (chosen w rows)
+-- the same of all that was read: of what was met at the place that is measured; while none is, of what was met at none that has a
+-- name
+abbrev pub told_whom : WantedPorts → List PlacedRow → Whom
+told_whom w rows = whom_in w (datagrams (option_map_or (λ place. rows_at place rows) (chosen w rows) (rows_looked_at None rows)))

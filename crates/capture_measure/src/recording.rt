@@ -1,62 +1,80 @@
-//! What is known of the interfaces of a capture while it isn't known whom to watch.
+//! What is known of the places at which datagrams were met while it isn't known whom to watch.
 
-ghost use Rattle.std.specs.Prelude.{◌≡◌, ◌<◌, ◌&&◌, ◌||◌, ◌==◌, nat_lt, false, List, [], ◌∷◌, length, map, get_or, IfOk, IfSome, OnOk, option_map, slice_get};
+ghost use Rattle.std.specs.Prelude.{◌≡◌, ◌<◌, ◌&&◌, ◌||◌, ◌==◌, nat_lt, false, List, [], ◌∷◌, length, map, get_or, IfOk, IfSome, None, OnOk, option_map, option_and_then, slice_get};
 ghost use Rattle.std.specs.Option.{option_map_or};
 ghost use Rattle.event_codec.specs.Port.{is_same_port};
-ghost use Rattle.capture_file.specs.Name.{name_of};
-ghost use Rattle.capture_file.specs.Packet.{interface_of};
+ghost use Rattle.event_codec.specs.Reading.{IsReading};
+ghost use Rattle.datagram_source.specs.Said.{reading_of};
+ghost use Rattle.datagram_source.specs.Datagram.{place_of, datagram_of};
 ghost use Rattle.capture_model.specs.Recorded.{Recorded};
-ghost use Rattle.capture_measure.specs.Row.{Row, kept_most};
-ghost use Rattle.capture_measure.specs.Interfaces.{InterfaceRow, interfaces_in, is_same_interface};
-ghost use Rattle.capture_measure.specs.Chosen.{watched_at};
-ghost use Rattle.capture_measure.specs.Capture.{IsDatagramRow};
+ghost use Rattle.capture_measure.specs.Row.{Row, row_of, kept_most};
+ghost use Rattle.capture_measure.specs.Places.{PlacedRow, name_in, placed, places_in, is_same_place};
+ghost use Rattle.capture_measure.specs.Chosen.{is_enough, watched_at};
 ghost use Rattle.capture_measure.specs.Counts.{Fate, early_with, IsCounts};
 ghost use Rattle.capture_measure.specs.Inner.Hearing.{recorded_of};
-ghost use Rattle.capture_measure.specs.Inner.Recordings.{row_at, IsMet, IsNoticed, IsFresh, AreRecordings};
-ghost use Rattle.capture_measure.specs.Told.{interface_in};
+ghost use Rattle.capture_measure.specs.Inner.Recordings.{IsCopy, IsRowOf, IsMet, IsNoticed, IsFresh, AreRecordings};
 ghost use Rattle.capture_measure.specs.Inner.Recordings.{IsFoundAt, HasAdded, KeepsMore};
 ghost use Rattle.capture_measure.specs.Inner.Watching.{whom_of};
+ghost use Rattle.capture_measure.specs.Told.{place_in};
 
-use crate::interface::Place;
-use crate::reports::{Datagram, message_in};
+use crate::place::Place;
 use crate::tally::Tally;
 use crate::watch::{WantedPorts, Watch};
-use capture_file::{Captured, Interface};
 use capture_model::Watched;
+use datagram_source::{Datagram, Place as Met, Stamp, message_in};
 use event_codec::{Header, PortIdentity};
 use measure_summary::{Callers, Whom};
-use ptp_units::{ScaledTime, Timestamp};
+use ptp_units::ScaledTime;
 use std::alloc::{AllocError, Global};
 use std::io::Write;
 
-/// How many interfaces are looked at.
-const INTERFACES_MOST: usize = 16;
+/// How many places are looked at.
+const PLACES_MOST: usize = 16;
 
-/// The datagram of a packet of this number and time.
-pub(crate) fn datagram_of(number: u64, time: Timestamp, octets: &[u8]) -> Datagram<'_>
-    ensures row { IsDatagramRow number time octets.now (row_at time result) }
-    ensures only { (row : Row) → IsDatagramRow number time octets.now row → row ≡ row_at time result }
-    ensures octets { result.octets.now ≡ octets.now }
-{
-    Datagram {
-        number,
-        time: ScaledTime::join(time, 0),
-        octets,
-        said: message_in(octets),
-    }
-}
-
-/// A datagram that is kept, and the number and the time of its packet.
+/// A datagram that is kept, but for its place.
 #[derive(Drop)]
 pub(crate) struct Kept {
     pub(crate) number: u64,
-    pub(crate) time: Timestamp,
+    pub(crate) time: ScaledTime,
+    /// Its time as it is written.
+    pub(crate) written: String,
     pub(crate) octets: Vec<u8>,
 }
 
-/// Of what is asked for, what was met at an interface, or wasn't asked for.
+impl Kept {
+    /// A copy of a datagram.
+    fn new(alloc: Global, datagram: &Datagram<'_>) -> Result<Kept, AllocError>
+        ensures { IfOk result (IsCopy datagram.now) }
+    {
+        let mut written = String::new(alloc);
+        datagram.stamp.push(&mut written)?;
+        Ok(Kept {
+            number: datagram.number,
+            time: datagram.time,
+            written,
+            octets: Vec::from_slice(alloc, datagram.octets)?,
+        })
+    }
+
+    /// The datagram, read again. Where it was met isn't told.
+    pub(crate) fn datagram(&self) -> Datagram<'_>
+        ensures row { IsRowOf self.now (row_of (datagram_of result)) }
+        ensures only { (row : Row) → IsRowOf self.now row → row ≡ row_of (datagram_of result) }
+    {
+        Datagram {
+            place: Met::Line,
+            number: self.number,
+            time: self.time,
+            stamp: Stamp::Written(self.written.as_str()),
+            octets: &self.octets,
+            said: message_in(&self.octets),
+        }
+    }
+}
+
+/// Of what is asked for, what was met at a place, or wasn't asked for.
 #[derive(Clone, Copy)]
-struct Met {
+struct Sought {
     domain: bool,
     master: bool,
     slave: bool,
@@ -69,12 +87,12 @@ fn is_wanted(wanted: Option<PortIdentity>, port: PortIdentity) -> bool
     wanted.is_some_and(|wanted| port == wanted)
 }
 
-impl Met {
+impl Sought {
     /// Before any datagram.
-    fn new(wanted: &WantedPorts) -> Met
+    fn new(wanted: &WantedPorts) -> Sought
         ensures { IsMet wanted.now [] result }
     {
-        Met {
+        Sought {
             domain: wanted.domain.is_none(),
             master: wanted.master.is_none(),
             slave: wanted.slave.is_none(),
@@ -100,12 +118,12 @@ impl Met {
     }
 }
 
-/// What is known of an interface.
+/// What is known of a place.
 #[derive(Drop)]
 pub(crate) struct Recording {
     pub(crate) place: Place,
     pub(crate) watch: Watch,
-    met: Met,
+    sought: Sought,
     pub(crate) kept: Vec<Kept>,
     /// What came before it was known whom to watch.
     pub(crate) early: Tally,
@@ -118,14 +136,14 @@ impl Recording {
     fn new(
         alloc: Global,
         wanted: &WantedPorts,
-        interface: &Interface<'_>,
+        met: &Met<'_>,
     ) -> Result<Recording, AllocError>
-        ensures { IfOk result (λ recording. IsFresh wanted.now (name_of (interface_of interface.now)) recording) }
+        ensures { IfOk result (λ recording. IsFresh wanted.now (name_in (place_of met.now)) recording) }
     {
         Ok(Recording {
-            place: Place::new(alloc, interface)?,
+            place: Place::new(alloc, met)?,
             watch: Watch::new(wanted),
-            met: Met::new(wanted),
+            sought: Sought::new(wanted),
             kept: Vec::new(alloc),
             early: Tally::new(),
             callers: Callers::new(),
@@ -142,16 +160,23 @@ impl Recording {
     {
         if let Ok(message) = &datagram.said {
             self.watch.notice(datagram.number, message);
-            self.met.notice(wanted, &message.header);
+            self.sought.notice(wanted, &message.header);
             self.callers.take(message);
         }
     }
 
-    /// Whom its datagrams are of, where that is known and all that is asked for was met.
-    pub(crate) fn watched(&self) -> Option<Watched>
-        ensures { (w : WantedPorts) (ds : List Recorded) → IsNoticed w ds self.now → result ≡ watched_at w ds }
+    /// Whether all that is asked for was met, or has not to be.
+    fn is_enough(&self) -> bool
+        ensures { (w : WantedPorts) (ds : List Recorded) → IsNoticed w ds self.now → result ≡ is_enough w (place_in self.now) ds }
     {
-        if self.met.is_all() {
+        self.place.is_nameless() || self.sought.is_all()
+    }
+
+    /// Whom its datagrams are of, where that is known and enough was met.
+    pub(crate) fn watched(&self) -> Option<Watched>
+        ensures { (w : WantedPorts) (ds : List Recorded) → IsNoticed w ds self.now → result ≡ watched_at w (place_in self.now) ds }
+    {
+        if self.is_enough() {
             self.watch.watched()
         } else {
             None
@@ -162,7 +187,7 @@ impl Recording {
     fn count_early(&mut self, datagram: &Datagram<'_>)
         ensures counted { (w : WantedPorts) (ds : List Recorded) (all : List Fate) → IsNoticed w ds self.old
             → IsCounts all self.old.early.counts
-            → IsCounts (early_with (watched_at w ds) (recorded_of datagram.now) all) self.new.early.counts }
+            → IsCounts (early_with (watched_at w (place_in self.old) ds) (recorded_of datagram.now) all) self.new.early.counts }
         ensures others { self.new ≡ record self.old { early = self.new.early } }
     {
         match self.watched() {
@@ -174,36 +199,25 @@ impl Recording {
     /// Tells in lines who sent Syncs and Delay_Reqs, where the master or the slave that is asked for sent no message. What can't be
     /// written is lost.
     pub(crate) fn tell_callers<E: Write>(&self, errors: &mut E) {
-        if !self.met.master {
+        if !self.sought.master {
             self.callers.tell_masters(errors);
         }
-        if !self.met.slave {
+        if !self.sought.slave {
             self.callers.tell_slaves(errors);
         }
     }
 
     /// Keeps a datagram.
-    fn keep(
-        &mut self,
-        alloc: Global,
-        time: Timestamp,
-        datagram: &Datagram<'_>,
-    ) -> Result<(), AllocError>
-        ensures kept { OnOk result
-            (KeepsMore self.old.kept.items self.new.kept.items datagram.now.number time datagram.now.octets.now) }
+    fn keep(&mut self, alloc: Global, datagram: &Datagram<'_>) -> Result<(), AllocError>
+        ensures kept { OnOk result (KeepsMore self.old.kept.items self.new.kept.items datagram.now) }
         ensures others { self.new ≡ record self.old { kept = self.new.kept } }
     {
-        let octets = Vec::from_slice(alloc, datagram.octets)?;
-        self.kept.push(Kept {
-            number: datagram.number,
-            time,
-            octets,
-        })?;
+        self.kept.push(Kept::new(alloc, datagram)?)?;
         Ok(())
     }
 }
 
-/// What is known of the interfaces that are looked at, in the order in which they were met.
+/// What is known of the places that are looked at, in the order in which they were met.
 #[derive(Drop)]
 pub(crate) struct Recordings {
     recordings: Vec<Recording>,
@@ -219,132 +233,142 @@ impl Recordings {
         }
     }
 
-    /// Which of them is that of an interface.
-    pub(crate) fn find(&self, interface: &Interface<'_>) -> Option<usize>
-        ensures { IsFoundAt (name_of (interface_of interface.now)) (map interface_in self.now.recordings.items) result self.now.recordings.items }
+    /// The index of a place.
+    pub(crate) fn find(&self, met: &Met<'_>) -> Option<usize>
+        ensures { IsFoundAt (name_in (place_of met.now)) (map place_in self.now.recordings.items) result self.now.recordings.items }
     {
-        for place in 0..self.recordings.len() {
-            if self.recordings[place].place.is(interface) {
-                return Some(place);
+        for index in 0..self.recordings.len() {
+            if self.recordings[index].place.is(met) {
+                return Some(index);
             }
         }
         None
     }
 
-    /// The same, with one more where there is none and there aren't enough.
+    /// The index of the place of lines, which has no name.
+    pub(crate) fn find_nameless(&self) -> Option<usize>
+        ensures { IsFoundAt None (map place_in self.now.recordings.items) result self.now.recordings.items }
+    {
+        for index in 0..self.recordings.len() {
+            if self.recordings[index].place.is_nameless() {
+                return Some(index);
+            }
+        }
+        None
+    }
+
+    /// That of any place, with one more where there is none and there aren't enough.
     fn find_or_add(
         &mut self,
         alloc: Global,
         wanted: &WantedPorts,
-        interface: &Interface<'_>,
+        met: &Met<'_>,
     ) -> Result<Option<usize>, AllocError>
-        ensures { IfOk result (λ found. HasAdded wanted.now (name_of (interface_of interface.now)) found
+        ensures { IfOk result (λ found. HasAdded wanted.now (name_in (place_of met.now)) found
             self.old.recordings.items self.new.recordings.items) }
     {
-        if let Some(place) = self.find(interface) {
-            return Ok(Some(place));
+        if let Some(index) = self.find(met) {
+            return Ok(Some(index));
         }
-        let place = self.recordings.len();
-        if place >= INTERFACES_MOST {
+        let index = self.recordings.len();
+        if index >= PLACES_MOST {
             return Ok(None);
         }
-        self.recordings
-            .push(Recording::new(alloc, wanted, interface)?)?;
-        Ok(Some(place))
+        self.recordings.push(Recording::new(alloc, wanted, met)?)?;
+        Ok(Some(index))
     }
 
-    /// Takes a datagram, and keeps it where this is asked for. Answers the place of its interface.
+    /// Takes a datagram, and keeps it where this is asked for. Answers the index of its place.
     pub(crate) fn take(
         &mut self,
         alloc: Global,
         wanted: &WantedPorts,
-        captured: &Captured<'_>,
         datagram: &Datagram<'_>,
         is_kept: bool,
     ) -> Result<Option<usize>, AllocError>
-        requires { IsDatagramRow datagram.now.number captured.now.time datagram.now.octets.now
-            (row_at captured.now.time datagram.now) }
-        ensures within { IfOk result (λ found. IfSome found (λ place. place < length self.new.recordings.items)) }
-        ensures taken { (rows : List InterfaceRow) (r : InterfaceRow) → r.interface ≡ name_of (interface_of captured.now.interface)
-            → r.row ≡ row_at captured.now.time datagram.now → is_kept ≡ nat_lt (length rows) kept_most
+        requires { IsReading datagram.now.octets.now (reading_of datagram.now.said) }
+        ensures within { IfOk result (λ found. IfSome found (λ index. index < length self.new.recordings.items)) }
+        ensures taken { (rows : List PlacedRow) (r : PlacedRow) → r ≡ placed (datagram_of datagram.now)
+            → is_kept ≡ nat_lt (length rows) kept_most
             → AreRecordings wanted.now rows self.old.recordings.items
             → IfOk result (λ found. AreRecordings wanted.now (r ∷ rows) self.new.recordings.items
-            × IsFoundAt r.interface (interfaces_in (r ∷ rows)) found self.new.recordings.items) }
+            × IsFoundAt r.place (places_in (r ∷ rows)) found self.new.recordings.items) }
     {
-        let found = self.find_or_add(alloc, wanted, &captured.interface)?;
-        if let Some(place) = found {
-            let recording = &mut self.recordings[place];
+        let found = self.find_or_add(alloc, wanted, &datagram.place)?;
+        if let Some(index) = found {
+            let recording = &mut self.recordings[index];
             recording.notice(wanted, datagram);
             recording.count_early(datagram);
             if is_kept {
-                recording.keep(alloc, captured.time, datagram)?;
+                recording.keep(alloc, datagram)?;
             }
         }
         Ok(found)
     }
 
-    /// Whom the datagrams at the interface of this place are of, where that is known.
-    pub(crate) fn watched(&self, place: usize) -> Option<Watched>
-        requires { place < length self.now.recordings.items }
-        ensures { (w : WantedPorts) (ds : List Recorded) (d : Recording) → IsNoticed w ds (get_or self.now.recordings.items place d)
-            → result ≡ watched_at w ds }
+    /// Whom the datagrams at the place of this index are of, where that is known.
+    pub(crate) fn watched(&self, index: usize) -> Option<Watched>
+        requires { index < length self.now.recordings.items }
+        ensures { (w : WantedPorts) (ds : List Recorded) (d : Recording) → IsNoticed w ds (get_or self.now.recordings.items index d)
+            → result ≡ watched_at w (place_in (get_or self.now.recordings.items index d)) ds }
     {
-        self.recordings[place].watched()
+        self.recordings[index].watched()
     }
 
-    /// Whom the datagrams at the interface of this place are of, as far as that is known; None where there is none.
-    pub(crate) fn whom(&self, place: usize) -> Option<Whom>
-        ensures { result ≡ option_map (λ r. whom_of r.watch) (slice_get self.now.recordings.items place) }
+    /// Whom the datagrams at the place of this index are of, as far as that is known; None where there is none.
+    pub(crate) fn whom(&self, index: usize) -> Option<Whom>
+        ensures { result ≡ option_map (λ r. whom_of r.watch) (slice_get self.now.recordings.items index) }
     {
-        match self.recordings.get(place) {
+        match self.recordings.get(index) {
             Some(recording) => Some(recording.watch.whom()),
             None => None,
         }
     }
 
-    /// Tells in lines whom the packets at the interface of this place are of, where there is one. What can't be written is lost.
-    pub(crate) fn tell_whom<E: Write>(&self, place: usize, errors: &mut E) {
-        if let Some(whom) = self.whom(place) {
-            whom.tell("packet", errors);
+    /// Tells in lines whom the datagrams at the place of this index are of, where there is one. What can't be written is lost.
+    pub(crate) fn tell_whom<E: Write>(&self, index: usize, errors: &mut E) {
+        if let Some(recording) = self.recordings.get(index) {
+            recording.watch.whom().tell(recording.place.unit(), errors);
         }
     }
 
-    /// What the interface of this place is called, where there is one.
-    pub(crate) fn interface(&self, place: usize) -> Option<&[u8]>
-        ensures { option_map (λ name. name.now) result ≡ option_map interface_in (slice_get self.now.recordings.items place) }
+    /// What the place of this index is called, where there is one that has a name.
+    pub(crate) fn name(&self, index: usize) -> Option<&[u8]>
+        ensures { option_map (λ name. name.now) result
+            ≡ option_and_then (λ place. place) (option_map place_in (slice_get self.now.recordings.items index)) }
     {
-        match self.recordings.get(place) {
-            Some(recording) => Some(recording.place.name()),
+        match self.recordings.get(index) {
+            Some(recording) => recording.place.name(),
             None => None,
         }
     }
 
-    /// Whether this place is that of an interface.
-    pub(crate) fn is_at(&self, place: usize, interface: &Interface<'_>) -> bool
-        requires { place < length self.now.recordings.items }
+    /// Whether a datagram was met at the place of this index.
+    pub(crate) fn is_at(&self, index: usize, met: &Met<'_>) -> bool
+        requires { index < length self.now.recordings.items }
         ensures { (d : Recording) → result
-            ≡ is_same_interface (interface_in (get_or self.now.recordings.items place d)) (name_of (interface_of interface.now)) }
+            ≡ is_same_place (place_in (get_or self.now.recordings.items index d)) (name_in (place_of met.now)) }
     {
-        self.recordings[place].place.is(interface)
+        self.recordings[index].place.is(met)
     }
 
-    /// What was kept at the interface of this place.
-    pub(crate) fn kept(&self, place: usize) -> &[Kept]
-        requires { place < length self.now.recordings.items }
-        ensures { (d : Recording) → result.now ≡ (get_or self.now.recordings.items place d).kept.items }
+    /// What was kept at the place of this index.
+    pub(crate) fn kept(&self, index: usize) -> &[Kept]
+        requires { index < length self.now.recordings.items }
+        ensures { (d : Recording) → result.now ≡ (get_or self.now.recordings.items index d).kept.items }
     {
-        &self.recordings[place].kept
+        &self.recordings[index].kept
     }
 
-    /// What came at the interface of this place before it was known whom to watch.
-    pub(crate) fn early(&self, place: usize) -> Tally
-        requires { place < length self.now.recordings.items }
-        ensures { (d : Recording) → result ≡ (get_or self.now.recordings.items place d).early }
+    /// What came at the place of this index before it was known whom to watch.
+    pub(crate) fn early(&self, index: usize) -> Tally
+        requires { index < length self.now.recordings.items }
+        ensures { (d : Recording) → result ≡ (get_or self.now.recordings.items index d).early }
     {
-        self.recordings[place].early
+        self.recordings[index].early
     }
 
-    /// The interfaces, and what is known at each.
+    /// The places, and what is known at each.
     pub(crate) fn all(&self) -> &[Recording] {
         &self.recordings
     }

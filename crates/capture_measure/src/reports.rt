@@ -1,42 +1,34 @@
 //! Datagrams that a port hears, and what goes out of its reports.
 
-ghost use Rattle.std.specs.Prelude.{◌≡◌, [], ◌∷◌, ◌++◌, List, MatchResult, OnOk, Some, None};
+ghost use Rattle.std.specs.Prelude.{◌≡◌, [], ◌∷◌, ◌++◌, ⊤, List, MatchResult, OnOk, Some, None, option_to_list};
 ghost use Rattle.std.specs.String.{string_bytes};
 ghost use Rattle.text_lines.specs.Counted.{device_of, HasNotFailed, HasFailedIf};
 ghost use Rattle.text_lines.specs.Fault.{is_write};
-ghost use Rattle.event_codec.specs.Reading.{Reading, IsReading};
 ghost use Rattle.capture_model.specs.Listening.{after_all};
 ghost use Rattle.capture_model.specs.Recorded.{Recorded};
-ghost use Rattle.capture_measure.specs.Measured.{half_of, text_as};
-ghost use Rattle.capture_measure.specs.Counts.{Fate, fate_in, IsCounts};
+ghost use Rattle.datagram_source.specs.Datagram.{datagram_of};
+ghost use Rattle.capture_measure.specs.Row.{Row, row_of, datagrams};
+ghost use Rattle.capture_measure.specs.Measured.{half_of, text_as, measured_at, measurements};
+ghost use Rattle.capture_measure.specs.Counts.{Fate, fate_in, fate_at, fates, IsCounts};
+ghost use Rattle.capture_measure.specs.Inner.Recordings.{AreKeptRows};
 ghost use Rattle.recording_listener.specs.Became.{exchange_by};
 ghost use Rattle.recording_listener.specs.StandsFor.{StandsFor};
 ghost use Rattle.capture_measure.specs.Inner.Hearing.{report_by};
-ghost use Rattle.capture_measure.specs.Inner.Hearing.{reading_of, recorded_of, completion, made_of, measured_by, GoesAtOnce};
+ghost use Rattle.capture_measure.specs.Inner.Hearing.{recorded_of, completion, made_of, measured_by, IsOfOutput, Goes, GoesAtOnce};
 
-use crate::measuring::Form;
+use crate::form::Form;
+use crate::recording::Kept;
 use crate::tally::Tally;
 use capture_lines::{Half, Measurement, push_json, push_row};
 use capture_model::Watched;
-use event_codec::{Body, DecodeRefusal, Message, decode};
+use datagram_source::Datagram;
+use event_codec::Body;
 use ptp_units::ScaledTime;
 use recording_listener::{Became, Listener};
 use slave_port::{Heard, LastExchange, Report};
 use std::alloc::{AllocError, Global};
 use std::io::Write;
 use text_lines::{Counted, LineFault, write_text};
-
-/// A datagram that a port may hear.
-#[derive(Clone, Copy)]
-pub(crate) struct Datagram<'room> {
-    /// The number of the line or packet that told it.
-    pub(crate) number: u64,
-    /// When the slave's port sent or received it.
-    pub(crate) time: ScaledTime,
-    pub(crate) octets: &'room [u8],
-    /// What the octets say.
-    pub(crate) said: Result<Message<'room>, DecodeRefusal>,
-}
 
 /// A measurement, and the exchange that it was made of, which is there.
 #[derive(Clone, Copy)]
@@ -68,17 +60,6 @@ impl Completed {
             measured,
             exchange: self.exchange,
         }
-    }
-}
-
-/// The message that octets begin with.
-pub(crate) fn message_in(octets: &[u8]) -> Result<Message<'_>, DecodeRefusal>
-    ensures says { IsReading octets.now (reading_of result) }
-    ensures only { (said : Reading) → IsReading octets.now said → said ≡ reading_of result }
-{
-    match decode(octets) {
-        Ok((message, _)) => Ok(message),
-        Err(refusal) => Err(refusal),
     }
 }
 
@@ -210,6 +191,87 @@ impl Reports {
         push_as(self.form, &mut self.text, made)?;
         write_text::<W, LineFault>(self.text.as_str(), output)?;
         self.tally.count_report(time, made);
+        Ok(())
+    }
+}
+
+/// Reports, and where their times are written.
+#[derive(Drop)]
+pub(crate) struct TimedReports {
+    pub(crate) reports: Reports,
+    /// The time of the last one, in the one text that all share.
+    time: String,
+}
+
+impl TimedReports {
+    /// No report came yet.
+    pub(crate) fn new(alloc: Global, form: Form) -> TimedReports
+        ensures form { result.reports.form ≡ form }
+        ensures counted { IsCounts [] result.reports.tally.counts }
+    {
+        TimedReports {
+            reports: Reports::new(alloc, form),
+            time: String::new(alloc),
+        }
+    }
+
+    /// A port hears a datagram, and its report goes out.
+    pub(crate) fn hear<W: Write>(
+        &mut self,
+        listener: &mut Listener,
+        datagram: &Datagram<'_>,
+        output: &mut Counted<W>,
+    ) -> Result<(), LineFault>
+        ensures heard { (watched : Watched) (earlier : List Row)
+            → StandsFor watched listener.old (after_all watched (datagrams earlier))
+            → OnOk result (StandsFor watched listener.new (after_all watched (datagrams (row_of (datagram_of datagram.now) ∷ earlier))))
+            × Goes self.old.reports.form result (option_to_list (measured_at watched earlier (row_of (datagram_of datagram.now))))
+            (W.contents (device_of output.old)) (W.contents (device_of output.new)) }
+        ensures counted { (watched : Watched) (earlier : List Row) (all : List Fate)
+            → StandsFor watched listener.old (after_all watched (datagrams earlier)) → IsCounts all self.old.reports.tally.counts
+            → OnOk result (IsCounts (fate_at watched earlier (row_of (datagram_of datagram.now)) ∷ all) self.new.reports.tally.counts) }
+        ensures of_output { MatchResult result (λ _. ⊤) IsOfOutput }
+        ensures form { self.new.reports.form ≡ self.old.reports.form }
+        ensures failures { MatchResult result
+            (λ _. HasNotFailed output.old output.new)
+            (λ fault. HasFailedIf (is_write fault) output.old output.new) }
+    {
+        let Some(completed) = self.reports.listen(listener, datagram) else {
+            return Ok(());
+        };
+        self.time.clear();
+        datagram.stamp.push(&mut self.time)?;
+        self.reports.write(
+            datagram.time,
+            &completed.at(datagram.number, self.time.as_str()),
+            output,
+        )
+    }
+
+    /// A port hears all datagrams that were kept.
+    pub(crate) fn hear_kept<W: Write>(
+        &mut self,
+        listener: &mut Listener,
+        kept: &[Kept],
+        output: &mut Counted<W>,
+    ) -> Result<(), LineFault>
+        ensures heard { (watched : Watched) (rows : List Row) → AreKeptRows [] kept.now rows
+            → StandsFor watched listener.old (after_all watched [])
+            → OnOk result (StandsFor watched listener.new (after_all watched (datagrams rows)))
+            × Goes self.old.reports.form result (measurements watched rows)
+            (W.contents (device_of output.old)) (W.contents (device_of output.new)) }
+        ensures counted { (watched : Watched) (rows : List Row) → AreKeptRows [] kept.now rows
+            → StandsFor watched listener.old (after_all watched []) → IsCounts [] self.old.reports.tally.counts
+            → OnOk result (IsCounts (fates watched rows) self.new.reports.tally.counts) }
+        ensures of_output { MatchResult result (λ _. ⊤) IsOfOutput }
+        ensures form { self.new.reports.form ≡ self.old.reports.form }
+        ensures failures { MatchResult result
+            (λ _. HasNotFailed output.old output.new)
+            (λ fault. HasFailedIf (is_write fault) output.old output.new) }
+    {
+        for it in kept {
+            self.hear(listener, &it.datagram(), output)?;
+        }
         Ok(())
     }
 }

@@ -8,13 +8,15 @@ ghost use Rattle.std.specs.List.{cons_option};
 ghost use Rattle.recording_quality.specs.declared.others.Meeting.{Meeting};
 ghost use Rattle.recording_quality.specs.Others.{AreOthers};
 ghost use Rattle.recording_quality.specs.Quality.{IsQuality};
+ghost use Rattle.datagram_source.specs.Said.{reading_of};
 ghost use Rattle.capture_measure.specs.Meetings.{meeting_at};
 ghost use Rattle.capture_measure.specs.Counts.{Fate, early_fate, noted_of, IsCounts};
 ghost use Rattle.capture_measure.specs.Inner.Counting.{why_by, with_why, with_anew};
-ghost use Rattle.capture_measure.specs.Inner.Hearing.{reading_of, recorded_of, made_of};
+ghost use Rattle.capture_measure.specs.Inner.Hearing.{recorded_of, made_of};
 
 use crate::meetings::{meeting_at, take_some};
-use crate::reports::{Datagram, Made};
+use crate::reports::Made;
+use datagram_source::Datagram;
 use event_codec::{Body, DecodeRefusal, Header, Message};
 use measure_summary::{Counts, Kind, NoReport};
 use ptp_units::ScaledTime;

@@ -4,3 +4,4 @@ mod LineTakings
 mod PacketTakings
 mod Inputs
 mod Lefts
+pub mod LeftAs

@@ -1,3 +1,4 @@
+pub mod Said
 pub mod Datagram
 pub mod Rules
 pub mod Input

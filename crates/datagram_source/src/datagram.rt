@@ -1,7 +1,8 @@
 //! A datagram, from a line or a packet.
 ghost use Rattle.event_codec.specs.Reading.{IsReading};
-ghost use Rattle.datagram_source.specs.Datagram.{reading_of};
+ghost use Rattle.datagram_source.specs.Said.{reading_of};
 
+use crate::stamp::Stamp;
 use capture_file::Interface;
 use event_codec::{DecodeRefusal, Message, decode};
 use ptp_units::ScaledTime;
@@ -10,6 +11,8 @@ use tap_choice::TapName;
 /// Where a datagram was met.
 #[derive(Clone, Copy, Debug)]
 pub enum Place<'a> {
+    /// At no place of a name: its line tells none.
+    Line,
     /// At the tap that its line names.
     Tap(TapName),
     /// At this interface of a capture.
@@ -25,14 +28,16 @@ pub struct Datagram<'a> {
     pub number: u64,
     /// The time of its line or packet.
     pub time: ScaledTime,
+    /// That time, as the line or packet tells it.
+    pub stamp: Stamp<'a>,
     /// Its octets.
     pub octets: &'a [u8],
     /// The message that these begin with, or why they begin with none.
     pub said: Result<Message<'a>, DecodeRefusal>,
 }
 
-/// The message that octets begin with.
-pub(crate) fn message_in(octets: &[u8]) -> Result<Message<'_>, DecodeRefusal>
+/// The message that octets begin with, or why they begin with none.
+pub fn message_in(octets: &[u8]) -> Result<Message<'_>, DecodeRefusal>
     ensures { IsReading octets.now (reading_of result) }
 {
     match decode(octets) {

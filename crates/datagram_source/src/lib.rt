@@ -6,8 +6,11 @@ mod datagram;
 mod input;
 mod lines;
 mod packets;
+mod stamp;
 mod task;
 
-pub use datagram::{Datagram, Place};
+pub use datagram::{Datagram, Place, message_in};
 pub use input::{InputOutcome, answer_datagrams};
+pub use lines::LineForm;
+pub use stamp::Stamp;
 pub use task::DatagramTask;

@@ -4,10 +4,14 @@ ghost use Rattle.std.specs.Io.KnownBytes.{Appends};
 ghost use Rattle.text_lines.specs.Counted.{device_of, HasNotFailed, HasFailedIf};
 ghost use Rattle.text_lines.specs.Fault.{is_write};
 ghost use Rattle.text_lines.specs.Task.{WentOut};
+ghost use Rattle.event_codec.specs.Reading.{IsReading};
+ghost use Rattle.datagram_source.specs.Said.{reading_of};
 ghost use Rattle.datagram_source.specs.Datagram.{datagram_of};
 ghost use Rattle.datagram_source.specs.Rules.{DatagramRules, is_field};
 
 use crate::datagram::Datagram;
+use crate::lines::LineForm;
+use capture_file::InterfaceName;
 use std::io::Write;
 use text_lines::{Counted, LineFault};
 
@@ -28,20 +32,29 @@ pub trait DatagramTask {
     /// The name of the subcommand that does this, which is told where the input is compressed.
     fn subcommand() -> &'static str;
 
+    /// Which of the two forms lines have.
+    fn line_form() -> LineForm
+        ensures { result ≡ rules.line_form };
+
     /// What a fault of a line is among those of the task. Of the three `Field` alone is one that leaves the task in its state.
     fn fault_of(fault: LineFault) -> Self::Fault
         ensures value { result ≡ rules.fault_of fault }
         ensures writer { rules.is_of_writer result ≡ is_write fault }
         ensures kept { rules.keeps result ≡ is_field fault };
 
-    /// Takes one more datagram.
+    /// The interface of a capture of which packets are asked for, if one is; packets of others are counted and not looked at.
+    fn asked(&self) -> Option<InterfaceName>
+        ensures { (state : State) → is_at self.now state → result ≡ rules.asked state };
+
+    /// Takes one more datagram, whose octets say what is said of them.
     fn take<W: Write, E: Write>(
         &mut self,
         datagram: &Datagram<'_>,
         output: &mut Counted<W>,
         errors: &mut E,
     ) -> Result<(), Self::Fault>
-        requires { (state : State) × is_at self.old state }
+        requires stands { (state : State) × is_at self.old state }
+        requires read { IsReading datagram.now.octets.now (reading_of datagram.now.said) }
         ensures taken { (state : State) → is_at self.old state →
             let before = W.contents (device_of output.old) in
             let after = W.contents (device_of output.new) in

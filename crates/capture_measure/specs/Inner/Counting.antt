@@ -4,28 +4,19 @@ use Rattle.std.specs.Prelude.{Option, Some, None}
 use Rattle.event_codec.specs.declared.message.Header.{Header}
 use Rattle.recording_listener.specs.declared.listener.Became.{Became}
 use Rattle.recording_listener.specs.declared.listener.Became.TheVariants.{Heard, HeardAnew, HeardBefore, Asked, Repeated, Anew, Foreign}
-use Rattle.capture_measure.specs.declared.measuring.LineStage.{LineStage}
-use Rattle.capture_measure.specs.declared.measuring.LineStage.TheVariants as stages
-use Rattle.capture_measure.specs.declared.packets.PacketStage.{PacketStage}
-use Rattle.capture_measure.specs.declared.packets.PacketStage.TheVariants.{Looking, Hearing}
 use Rattle.measure_summary.specs.declared.counts.Counts.{Counts}
 use Rattle.measure_summary.specs.declared.kind.Kind.{Kind}
 use Rattle.measure_summary.specs.declared.no_report.NoReport.{NoReport}
 use Rattle.measure_summary.specs.declared.no_report.NoReport.TheVariants as whys
 use Rattle.measure_summary.specs.Counts.{with_one, with_unreported}
 use Rattle.capture_measure.specs.declared.watch.WantedPorts.{WantedPorts}
-use Rattle.capture_measure.specs.Interfaces.{InterfaceRow}
+use Rattle.capture_measure.specs.Places.{PlaceName, PlacedRow}
 use Rattle.capture_measure.specs.Counts.{why_answered, Fate, capture_fates, IsCounts}
 
--- what is counted of a capture so far: nothing until it is known which interface is measured
-abbrev pub CountsSoFar : WantedPorts → (measured : Option (List ℕ)) → List InterfaceRow → Counts → Type 0
+-- what is counted so far: nothing until it is known which place is measured
+abbrev pub CountsSoFar : WantedPorts → (measured : Option PlaceName) → List PlacedRow → Counts → Type 0
 CountsSoFar w None rows counts = IsCounts [] counts
-CountsSoFar w (Some interface) rows counts = IsCounts (capture_fates w interface rows) counts
-
--- what the end of a capture answers of it
-abbrev pub counts_at : PacketStage → Counts → Option Counts
-counts_at (Looking count) counts = None
-counts_at (Hearing place listener) counts = Some counts
+CountsSoFar w (Some place) rows counts = IsCounts (capture_fates w place rows) counts
 
 -- one more of a kind that gave no report, where there is a reason
 abbrev pub with_why : Kind → Option NoReport → Counts → Counts
@@ -56,9 +47,3 @@ is_slave_anew _ = false
 abbrev pub is_master_anew : Became → Bool
 is_master_anew (HeardAnew reply) = true
 is_master_anew _ = false
-
--- what stays counted of the lines before, once it is known whom to watch: nothing where these were kept, and are heard
-abbrev pub stays : LineStage → List Fate → List Fate
-stays (stages.Kept kept) all = []
-stays stages.Passed all = all
-stays (stages.Hearing listener) all = all

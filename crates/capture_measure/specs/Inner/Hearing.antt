@@ -21,16 +21,12 @@ use Rattle.capture_model.specs.Listening.{report_in, report_at}
 use Rattle.recording_listener.specs.declared.listener.Became.{Became}
 use Rattle.recording_listener.specs.Became.{heard_by}
 use Rattle.capture_measure.specs.declared.reports.Completed.{Completed}
-use Rattle.capture_measure.specs.declared.reports.Datagram.{Datagram}
+use Rattle.datagram_source.specs.declared.datagram.Datagram.{Datagram}
+use Rattle.datagram_source.specs.Said.{reading_of}
 use Rattle.capture_measure.specs.declared.reports.Made.{Made}
-use Rattle.capture_measure.specs.declared.measuring.Form.{Form}
+use Rattle.capture_measure.specs.declared.form.Form.{Form}
 use Rattle.recording_listener.specs.Exchanged.{exchange_at}
 use Rattle.capture_measure.specs.Measured.{half_of, texts_as}
-
--- what octets say, by the message or the refusal that was read of them
-abbrev pub reading_of : Result Message DecodeRefusal → Reading
-reading_of (Ok message) = Ok (contents message)
-reading_of (Err refusal) = Err refusal
 
 -- a datagram without where its octets lie
 abbrev pub recorded_of : Datagram → Recorded

@@ -1,12 +1,21 @@
--- Whom a capture is of, by what is kept of it.
-use Rattle.std.specs.Prelude.{List, Option, None, option_map, slice_get}
-use Rattle.capture_measure.specs.declared.packets.PacketStage.{PacketStage}
-use Rattle.capture_measure.specs.declared.packets.PacketStage.TheVariants.{Looking, Hearing}
-use Rattle.capture_measure.specs.declared.recording.Recording.{Recording}
+-- Whom an input is of, by what is kept of it.
+use Rattle.std.specs.Prelude.{ℕ, List, Option, None, option_map, slice_get}
 use Rattle.measure_summary.specs.declared.whom.Whom.{Whom}
+use Rattle.capture_measure.specs.declared.measuring.Stage.{Stage}
+use Rattle.capture_measure.specs.declared.measuring.Stage.TheVariants.{Looking, Hearing}
+use Rattle.capture_measure.specs.declared.recording.Recording.{Recording}
+use Rattle.capture_measure.specs.declared.watch.WantedPorts.{WantedPorts}
+use Rattle.capture_measure.specs.Row.{datagrams}
+use Rattle.capture_measure.specs.Places.{PlacedRow, rows_at}
+use Rattle.capture_measure.specs.Chosen.{chosen}
+use Rattle.capture_measure.specs.Summary.{whom_in}
 use Rattle.capture_measure.specs.Inner.Watching.{whom_of}
 
--- what is known at the interface that is measured
-abbrev pub whom_at : PacketStage → List Recording → Option Whom
+-- what is known at the place that is measured
+abbrev pub whom_at : Stage → List Recording → Option Whom
 whom_at (Looking count) known = None
-whom_at (Hearing place listener) known = option_map (λ r. whom_of r.watch) (slice_get known place)
+whom_at (Hearing index listener) known = option_map (λ r. whom_of r.watch) (slice_get known index)
+
+-- and by its rows
+abbrev pub capture_whom : WantedPorts → List PlacedRow → Option Whom
+capture_whom w rows = option_map (λ place. whom_in w (datagrams (rows_at place rows))) (chosen w rows)

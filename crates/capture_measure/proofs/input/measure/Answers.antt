@@ -1,60 +1,34 @@
-use Rattle.std.proofs.Common.{inr, refl}
-use Rattle.capture_file.specs.Beginning.{first_octets}
-use Rattle.text_lines.specs.declared.fault.Cause.TheVariants.{Reading, Task}
-use Rattle.text_lines.specs.declared.fault.ReadingFault.TheVariants.{Read}
-use Rattle.text_lines.specs.declared.line_fault.LineFault.TheVariants.{Field}
-use Rattle.capture_measure.specs.Capture.{capture_begun}
-use Rattle.capture_measure.specs.Measure.{begun}
-use Rattle.capture_measure.proofs.Inputs.{captured, lined, short, failed_ahead, lined_told, captured_told, none_told}
+use Rattle.std.proofs.Common.{ℕ, List, ap, subst}
+use Rattle.std.specs.Prelude.{option_and_then}
+use Rattle.datagram_source.specs.Input.{AnswersInput}
+use Rattle.datagram_source.proofs.LeftAs.{left_as}
+use Rattle.capture_measure.specs.Measure.{begun, measure_rules}
+use Rattle.capture_measure.specs.declared.input.Summary.{Summary}
+use Rattle.capture_measure.specs.Told.{IsSummary}
+use Rattle.capture_measure.specs.Inner.Measuring.{IsMeasuring}
+use Rattle.capture_measure.proofs.Summaries.{place_chosen}
 use Rattle.capture_measure.proofs.input.measure.Goals as goal
-
-pub returns-in_default-read-clause-measured : goal.returns-in_default-read-clause-measured
-returns-in_default-read-clause-measured g c =
-    let (seen, read, few) = c.in_default-read.ensures.read in
-    rw c.stopped-in_default-read.ensures.outcome
-    (inr (failed_ahead c.args.form c.args.wanted.now _ _ _ _ seen read few c.in_default.ensures.written))
-
-pub returns-then-is_capture-clause-measured : goal.returns-then-is_capture-clause-measured
-returns-then-is_capture-clause-measured g c =
-    let (read, first) = c.in-Ok.ensures.read in
-    let told = c.measure_packets.ensures.answered (capture_begun c.args.form c.args.wanted.now) c.new-capture.ensures in
-    inr (captured c.args.form c.args.wanted.now _ _ _ _ _ _ (first_octets c.in-Ok.beginning) c.measure_packets.result.0 read first
-    (c.if-is_capture.ensures.magic.0 refl) c.in_default.ensures.written (rw c.octets-start.ensures.octets at told))
-
-pub returns-then-has_lf-clause-measured : goal.returns-then-has_lf-clause-measured
-returns-then-has_lf-clause-measured g c =
-    let (read, first) = c.in-Ok.ensures.read in
-    rw c.stopped-then-has_lf.ensures.outcome (inr (short c.args.form c.args.wanted.now _ _ _ _ (first_octets c.in-Ok.beginning) read first
-    (c.if-is_capture.ensures.none.0 refl) (rw c.octets-start.ensures.octets at (c.if-has_lf.ensures.some refl))
-    c.in_default.ensures.written))
 
 pub returns-clause-measured : goal.returns-clause-measured
 returns-clause-measured g c =
-    let (read, first) = c.in-Ok.ensures.read in
-    let told = c.measure_lines.ensures.answered (begun c.args.form c.args.wanted.now) c.new-lines.ensures in
-    inr (lined c.args.form c.args.wanted.now _ _ _ _ _ _ (first_octets c.in-Ok.beginning) c.measure_lines.result.0 read first
-    (c.if-is_capture.ensures.none.0 refl) c.in_default.ensures.written (rw c.octets-start.ensures.octets at told))
-
-pub returns-then-is_capture-clause-summary : goal.returns-then-is_capture-clause-summary
-returns-then-is_capture-clause-summary g c =
-    let (read, first) = c.in-Ok.ensures.read in
-    let told = c.measure_packets.ensures.summary c.args.form c.args.wanted.now c.new-capture.ensures in
-    captured_told c.args.form c.args.wanted.now _ _ (first_octets c.in-Ok.beginning) c.measure_packets.result.0 c.measure_packets.result.1
-    read first (rw c.octets-start.ensures.octets at told)
+    let outcome = c.answer_datagrams-outcome in
+    subst (λ (head : List ℕ). AnswersInput measure_rules head (begun c.args.form c.args.wanted.now) g.R.Read.remaining g.W.Write.contents
+    outcome.result.0 c.args.input.now outcome.new.input c.args.output.now outcome.new.output) c.head.ensures
+    (outcome.ensures.answered (begun c.args.form c.args.wanted.now) c.new-task.ensures)
 
 pub returns-clause-summary : goal.returns-clause-summary
-returns-clause-summary g c =
-    let (read, first) = c.in-Ok.ensures.read in
-    let told = c.measure_lines.ensures.summary c.args.form c.args.wanted.now c.new-lines.ensures in
-    lined_told c.args.form c.args.wanted.now _ _ (first_octets c.in-Ok.beginning) c.measure_lines.result.0 c.measure_lines.result.1
-    read first (rw c.octets-start.ensures.octets at told)
-
-pub returns-in_default-read-clause-summary : goal.returns-in_default-read-clause-summary
-returns-in_default-read-clause-summary g c = λ octets known.
-    none_told c.args.form c.args.wanted.now octets (Reading Read) _ _ c.stopped-in_default-read.ensures.outcome
-    (c.stopped-in_default-read.ensures.summary (begun c.args.form c.args.wanted.now) c.new-lines.ensures)
-
-pub returns-then-has_lf-clause-summary : goal.returns-then-has_lf-clause-summary
-returns-then-has_lf-clause-summary g c = λ octets known.
-    none_told c.args.form c.args.wanted.now octets (Task Field) _ _ c.stopped-then-has_lf.ensures.outcome
-    (c.stopped-then-has_lf.ensures.summary (begun c.args.form c.args.wanted.now) c.new-lines.ensures)
+returns-clause-summary g c = λ octets known.
+    let outcome = c.answer_datagrams-outcome in
+    let summary : Summary = record {
+      whom = c.whom.result;
+      counts = c.counts.result;
+      task = outcome.result.1;
+      packets = outcome.result.2;
+    } in
+    left_as measure_rules (begun c.args.form c.args.wanted.now) octets (IsMeasuring outcome.result.1) (IsSummary summary)
+    (λ r at. record {
+      whom = c.whom.ensures r at;
+      interface = ap (option_and_then (λ place. place))
+          (place_chosen r.wanted r.rows outcome.result.1.recordings.recordings.items outcome.result.1.stage at.stage);
+      counts = c.counts.ensures r at;
+    }) outcome.result.0 (outcome.ensures.left (begun c.args.form c.args.wanted.now) c.new-task.ensures octets known)

@@ -1,24 +1,23 @@
 use Rattle.std.proofs.Common.{◌≡◌, ◌∙◌, ◌<◌, length, get_or, sym, ap, arith}
 use Rattle.std.proofs.lemmas.List.{get_or_default}
-use Rattle.capture_file.specs.Name.{name_of}
-use Rattle.capture_file.specs.Packet.{interface_of}
+use Rattle.datagram_source.specs.Datagram.{place_of}
 use Rattle.capture_measure.specs.declared.recording.Recording.{Recording}
-use Rattle.capture_measure.specs.Interfaces.{is_same_interface}
-use Rattle.capture_measure.specs.Told.{interface_in}
-use Rattle.capture_measure.proofs.Interfaces.{same_interface}
+use Rattle.capture_measure.specs.Places.{name_in, is_same_place}
+use Rattle.capture_measure.specs.Told.{place_in}
+use Rattle.capture_measure.proofs.Places.{same_place}
 use Rattle.capture_measure.proofs.Recordings.{none_among, among_recordings}
 use Rattle.capture_measure.proofs.recording.Recordings.find.Goals as goal
 
 pub returns-then-is : goal.returns-then-is
 returns-then-is c =
     let xs = c.args.self.now.recordings.items in
-    let within : c.loop-place.place < length xs = omega arith in
-    let is : (d : Recording) → interface_in (get_or xs c.loop-place.place d) ≡ name_of (interface_of c.args.interface.now) =
-    λ d. (same_interface (interface_in (get_or xs c.loop-place.place d)) (name_of (interface_of c.args.interface.now))).0
-    (ap (λ (x : Recording). is_same_interface (interface_in x) (name_of (interface_of c.args.interface.now))) (get_or_default xs c.loop-place.place d c.index.result.now within ∙ sym c.index.ensures) ∙ sym c.is.ensures ∙ c.if-is.true) in
-    (among_recordings (name_of (interface_of c.args.interface.now)) xs c.loop-place.place within is, within, is)
+    let within : c.loop-index.index < length xs = omega arith in
+    let is : (d : Recording) → place_in (get_or xs c.loop-index.index d) ≡ name_in (place_of c.args.met.now) =
+    λ d. (same_place (place_in (get_or xs c.loop-index.index d)) (name_in (place_of c.args.met.now))).0
+    (ap (λ (x : Recording). is_same_place (place_in x) (name_in (place_of c.args.met.now))) (get_or_default xs c.loop-index.index d c.index.result.now within ∙ sym c.index.ensures) ∙ sym c.is.ensures ∙ c.if-is.true) in
+    (among_recordings (name_in (place_of c.args.met.now)) xs c.loop-index.index within is, within, is)
 
 pub returns : goal.returns
 returns c =
     let xs = c.args.self.now.recordings.items in
-    none_among (name_of (interface_of c.args.interface.now)) xs (λ k d within. c.loop-place.invariant k d (omega (arith, within)))
+    none_among (name_in (place_of c.args.met.now)) xs (λ k d within. c.loop-index.invariant k d (omega (arith, within)))

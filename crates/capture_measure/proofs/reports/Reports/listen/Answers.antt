@@ -11,7 +11,8 @@ use Rattle.recording_quality.specs.Others.{AreOthers}
 use Rattle.std.specs.Prelude.{filter_map}
 use Rattle.std.specs.List.{cons_option}
 use Rattle.capture_measure.specs.Inner.Counting.{with_why, with_anew, why_by}
-use Rattle.capture_measure.specs.Inner.Hearing.{reading_of, recorded_of}
+use Rattle.datagram_source.specs.Said.{reading_of}
+use Rattle.capture_measure.specs.Inner.Hearing.{recorded_of}
 use Rattle.capture_measure.proofs.Counting.{IsNoted, heard_counts, refused_counts, noted_counts}
 use Rattle.capture_measure.proofs.reports.Reports.listen.Goals as goal
 

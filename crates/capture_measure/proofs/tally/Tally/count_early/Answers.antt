@@ -5,7 +5,8 @@ use Rattle.measure_summary.specs.declared.kind.Kind.{Kind}
 use Rattle.measure_summary.specs.declared.no_report.NoReport.TheVariants.{TooEarly}
 use Rattle.capture_measure.specs.Counts.{early_fate, IsCounts}
 use Rattle.measure_summary.specs.Counts.{with_unreported}
-use Rattle.capture_measure.specs.Inner.Hearing.{reading_of, recorded_of}
+use Rattle.datagram_source.specs.Said.{reading_of}
+use Rattle.capture_measure.specs.Inner.Hearing.{recorded_of}
 use Rattle.capture_measure.proofs.Counting.{early_counts, early_refused_counts, noted_counts}
 use Rattle.capture_measure.proofs.tally.Tally.count_early.Goals as goal
 
