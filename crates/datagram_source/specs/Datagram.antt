@@ -6,6 +6,7 @@ use Rattle.event_codec.specs.declared.message.Message.{Message}
 use Rattle.event_codec.specs.declared.refusal.DecodeRefusal.{DecodeRefusal}
 use Rattle.event_codec.specs.Packet.{contents}
 use Rattle.event_codec.specs.Reading.{Reading, IsReading}
+use Rattle.datagram_text.specs.Shown.{stamp_text}
 use Rattle.capture_lines.specs.Timed.{LineParts, timed_in, parted}
 use Rattle.capture_file.specs.Packet.{InterfaceOf, PacketOf, Captured, Timeless, Simple, interface_of}
 use Rattle.capture_frame.specs.Found as found
@@ -13,17 +14,23 @@ use Rattle.tap_choice.specs.TapName.{IsTapName}
 use Rattle.datagram_source.specs.declared.datagram.Datagram as given
 use Rattle.datagram_source.specs.declared.datagram.Place as met
 use Rattle.datagram_source.specs.declared.datagram.Place.TheVariants as places
+use Rattle.datagram_source.specs.declared.datagram.Stamp as told
+use Rattle.datagram_source.specs.declared.datagram.Stamp.TheVariants as stamps
+use Rattle.datagram_source.specs.declared.lines.LineForm.{LineForm}
+use Rattle.datagram_source.specs.declared.lines.LineForm.TheVariants.{Timed, AtTaps}
 
--- where a datagram was met: at the tap that its line names, or at an interface
+-- where a datagram was met: at no place of a name, since its line tells none; at the tap that its line names; or at an interface
 pub data PlaceOf : Type 0 where
+  Line : PlaceOf
   Tap : (name : List ℕ) → PlaceOf
   Interface : (interface : InterfaceOf) → PlaceOf
 
--- a datagram, by the number and the time of its line or packet
+-- a datagram, by the number and the time of its line or packet, and by the text of this time
 pub record DatagramOf : Type 0 where
   pub place : PlaceOf
   pub number : ℕ
   pub time : ℕ
+  pub written : List ℕ
   pub octets : List ℕ
   pub said : Reading
 
@@ -34,8 +41,14 @@ reading_of (Err refusal) = Err refusal
 
 -- a place without where its name lies in memory
 abbrev pub place_of : met.Place → PlaceOf
+place_of places.Line = Line
 place_of (places.Tap name) = Tap name
 place_of (places.Interface interface) = Interface (interface_of interface)
+
+-- the text of a time: as a line has it, or of a packet seconds, a point and nine decimals
+abbrev pub text_of : told.Stamp → List ℕ
+text_of (stamps.Written text) = text.now
+text_of (stamps.Clock time) = stamp_text time
 
 -- a datagram without where its octets lie in memory
 abbrev pub datagram_of : given.Datagram → DatagramOf
@@ -43,28 +56,39 @@ datagram_of d = record {
   place = place_of d.place;
   number = d.number;
   time = d.time;
+  written = text_of d.stamp;
   octets = d.octets.now;
   said = reading_of d.said;
 }
 
+-- the end of the line of this number, which was met at this place: a time, a blank, and a datagram in hexadecimal
+pub record IsTimedDatagram (number : ℕ) (rest : List ℕ) (place : PlaceOf) (d : DatagramOf) : Type 0 where
+  pub parts : LineParts
+  pub there : timed_in rest ≡ Some parts
+  pub decoded : decode_of parts.digits ≡ Ok d.octets
+  pub placed : d.place ≡ place
+  pub numbered : d.number ≡ number
+  pub moment_is : d.time ≡ parts.time
+  pub written : d.written ≡ parts.text
+  pub said : IsReading d.octets d.said
+
 -- a line of this number: the name of a tap, a blank, a time, a blank, and a datagram in hexadecimal
-pub record IsDatagramLine (number : ℕ) (line : List ℕ) (d : DatagramOf) : Type 0 where
+pub record IsTapDatagram (number : ℕ) (line : List ℕ) (d : DatagramOf) : Type 0 where
   pub tap : List ℕ
   pub rest : List ℕ
   pub split : parted 32 line ≡ Some (tap, rest)
   pub named : IsTapName tap
-  pub parts : LineParts
-  pub there : timed_in rest ≡ Some parts
-  pub decoded : decode_of parts.digits ≡ Ok d.octets
-  pub placed : d.place ≡ Tap tap
-  pub numbered : d.number ≡ number
-  pub moment_is : d.time ≡ parts.time
-  pub said : IsReading d.octets d.said
+  pub timed : IsTimedDatagram number rest (Tap tap) d
+
+-- a line of this form and this number tells this datagram
+abbrev pub IsDatagramLine : LineForm → (number : ℕ) → List ℕ → DatagramOf → Type 0
+IsDatagramLine Timed number line d = IsTimedDatagram number line Line d
+IsDatagramLine AtTaps number line d = IsTapDatagram number line d
 
 -- the packet of this number carries this datagram
 abbrev pub IsDatagramPacket : (number : ℕ) → PacketOf → DatagramOf → Type 0
 IsDatagramPacket number (Captured interface time link octets) d =
     found.IsFound link octets (found.Datagram d.octets) × (d.place ≡ Interface interface)
-    × (d.number ≡ number) × (d.time ≡ moment time 0) × IsReading d.octets d.said
+    × (d.number ≡ number) × (d.time ≡ moment time 0) × (d.written ≡ stamp_text time) × IsReading d.octets d.said
 IsDatagramPacket number Timeless d = ⊥
 IsDatagramPacket number Simple d = ⊥

@@ -30,8 +30,8 @@ pub enum InputOutcome<F> {
 }
 
 /// Gives all datagrams of an input to a task in turn, and ends after the last. An input whose first four octets are a magic of a
-/// capture is one, and each packet that carries a datagram of PTP gives it, as one that was met at its interface. Any other is lines,
-/// each of a tap, a time and a datagram. The head goes out before anything is read.
+/// capture is one, and each packet that carries a datagram of PTP gives it, as one that was met at its interface, unless the task asks
+/// for another. Any other is lines, each of the form that the task reads. The head goes out before anything is read.
 ///
 /// Answers what came of the input; the task, as its calls left it; and of a capture how many packets there were of each kind.
 ///
@@ -152,9 +152,10 @@ fn answer_capture<T: DatagramTask, R: Read, W: Write, E: Write>(
         PacketsLeave T.rules state (start.now ++ octets) result.0 (T.is_at result.1)) }
     ensures failures { OutcomeFailed T.rules result.0 input.old input.new output.old output.new }
 {
+    let counts = Summary::new(task.asked());
     let mut source = PacketSource {
         task,
-        counts: Summary::new(None),
+        counts,
         errors,
     };
     let answer = answer_packets_behind(alloc, start, &mut source, input, output);

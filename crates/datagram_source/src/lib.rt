@@ -8,6 +8,7 @@ mod lines;
 mod packets;
 mod task;
 
-pub use datagram::{Datagram, Place};
+pub use datagram::{Datagram, Place, Stamp};
 pub use input::{InputOutcome, answer_datagrams};
+pub use lines::LineForm;
 pub use task::DatagramTask;

@@ -1,13 +1,13 @@
-//! Lines, each of which tells a tap, a time and a datagram.
+//! Lines, each of which tells a time and a datagram, and maybe a tap.
 ghost use Rattle.std.specs.Prelude.{◌≡◌, ◌≤◌, ◌+◌, ◌==◌, length, MatchOption, MatchResult};
 ghost use Rattle.std.specs.List.{position};
 ghost use Rattle.text_lines.specs.Lines.{line_limit};
-ghost use Rattle.datagram_source.specs.Datagram.{datagram_of, IsDatagramLine};
+ghost use Rattle.datagram_source.specs.Datagram.{place_of, datagram_of, IsDatagramLine};
 ghost use Rattle.datagram_source.specs.Rules.{LinesRead, line_rules};
-ghost use Rattle.datagram_source.specs.Inner.LineReading.{NoOctets, HasOctets, NoDatagram, IsLine, IsUnread};
+ghost use Rattle.datagram_source.specs.Inner.LineReading.{IsPlaced, NoPlace, NoOctets, HasOctets, NoDatagram, IsLine, IsUnread};
 ghost use Rattle.datagram_source.specs.Inner.Outcomes.{IsKept, IsEnded};
 
-use crate::datagram::{Datagram, Place, message_in};
+use crate::datagram::{Datagram, Place, Stamp, message_in};
 use crate::task::DatagramTask;
 use capture_extract::tell_compressed;
 use capture_lines::{Timed, read_timed};
@@ -18,10 +18,26 @@ use text_lines::{Counted, LINE_LIMIT, LineFault, LineTask};
 /// The most octets of a datagram, which is written in two digits each.
 const DATAGRAM_LIMIT: usize = LINE_LIMIT / 2;
 
+/// Which of two forms lines have.
+#[derive(Clone, Copy, Debug, PartialEq, Eq)]
+pub enum LineForm {
+    /// A time, a blank, and a datagram in hexadecimal.
+    Timed,
+    /// The name of a tap, a blank, and then a time, a blank, and a datagram in hexadecimal.
+    AtTaps,
+}
+
+/// What a line begins with, and what stands behind it.
+#[derive(Clone, Copy)]
+struct Placed<'line> {
+    place: Place<'line>,
+    rest: &'line [u8],
+}
+
 /// The parts of a line.
 #[derive(Clone, Copy)]
 struct Line<'line> {
-    tap: TapName,
+    place: Place<'line>,
     timed: Timed<'line>,
 }
 
@@ -32,7 +48,38 @@ fn blank_in(line: &[u8]) -> Option<usize>
     line.iter().position(|octet| *octet == b' ')
 }
 
-/// What stands behind the tap: a time, a blank, and octets in hexadecimal, which come to stand at the front of the room.
+/// The tap that a line begins with, and what stands behind the blank after it.
+fn read_tap(line: &[u8]) -> Option<Placed<'_>>
+    ensures { MatchOption result (NoPlace LineForm.AtTaps line.now)
+        (λ read. IsPlaced LineForm.AtTaps line.now (place_of read.place) read.rest.now) }
+{
+    let Some(blank) = blank_in(line) else {
+        return None;
+    };
+    match TapName::new(&line[..blank]) {
+        Some(tap) => Some(Placed {
+            place: Place::Tap(tap),
+            rest: &line[blank + 1..],
+        }),
+        None => None,
+    }
+}
+
+/// What stands before the time of a line of this form, and what begins with the time.
+fn read_place(form: LineForm, line: &[u8]) -> Option<Placed<'_>>
+    ensures { MatchOption result (NoPlace form line.now)
+        (λ read. IsPlaced form line.now (place_of read.place) read.rest.now) }
+{
+    match form {
+        LineForm::Timed => Some(Placed {
+            place: Place::Line,
+            rest: line,
+        }),
+        LineForm::AtTaps => read_tap(line),
+    }
+}
+
+/// What stands behind the place: a time, a blank, and octets in hexadecimal, which come to stand at the front of the room.
 fn read_octets<'line>(rest: &'line [u8], room: &mut [u8; DATAGRAM_LIMIT]) -> Option<Timed<'line>>
     requires { length rest.now ≤ line_limit }
     ensures { MatchOption result (NoOctets rest.now) (λ timed. HasOctets rest.now room.new timed) }
@@ -47,45 +94,50 @@ fn read_octets<'line>(rest: &'line [u8], room: &mut [u8; DATAGRAM_LIMIT]) -> Opt
     }
 }
 
-/// The parts of a line: the name of a tap, a blank, a time, a blank, and octets in hexadecimal, which come to stand at the front
-/// of the room.
-fn read_parts<'line>(line: &'line [u8], room: &mut [u8; DATAGRAM_LIMIT]) -> Option<Line<'line>>
+/// The parts of a line of this form, whose octets come to stand at the front of the room.
+fn read_parts<'line>(
+    form: LineForm,
+    line: &'line [u8],
+    room: &mut [u8; DATAGRAM_LIMIT],
+) -> Option<Line<'line>>
     requires { length line.now ≤ line_limit }
-    ensures { MatchOption result (NoDatagram line.now) (λ read. IsLine line.now room.new read) }
+    ensures { MatchOption result (NoDatagram form line.now) (λ read. IsLine form line.now room.new read) }
 {
-    let Some(blank) = blank_in(line) else {
+    let Some(placed) = read_place(form, line) else {
         return None;
     };
-    let Some(tap) = TapName::new(&line[..blank]) else {
-        return None;
-    };
-    match read_octets(&line[blank + 1..], room) {
-        Some(timed) => Some(Line { tap, timed }),
+    match read_octets(placed.rest, room) {
+        Some(timed) => Some(Line {
+            place: placed.place,
+            timed,
+        }),
         None => None,
     }
 }
 
-/// Reads the line after so many. A number that can't be counted would be want of memory: `lines_limit` comes before it.
-fn read_line<'room>(
+/// Reads the line of this form after so many. A number that can't be counted would be want of memory: `lines_limit` comes before it.
+fn read_line<'line>(
+    form: LineForm,
     earlier: u64,
-    line: &[u8],
-    room: &'room mut [u8; DATAGRAM_LIMIT],
-) -> Result<Datagram<'room>, LineFault>
+    line: &'line [u8],
+    room: &'line mut [u8; DATAGRAM_LIMIT],
+) -> Result<Datagram<'line>, LineFault>
     requires { length line.now ≤ line_limit }
     ensures { MatchResult result
-        (λ datagram. IsDatagramLine (earlier + 1) line.now (datagram_of datagram))
-        (λ fault. IsUnread fault (earlier + 1) line.now) }
+        (λ datagram. IsDatagramLine form (earlier + 1) line.now (datagram_of datagram))
+        (λ fault. IsUnread fault form (earlier + 1) line.now) }
 {
-    let Some(read) = read_parts(line, room) else {
+    let Some(read) = read_parts(form, line, room) else {
         return Err(LineFault::Field);
     };
     let octets = &room[..read.timed.digits.len() / 2];
     let said = message_in(octets);
     match earlier.checked_add(1) {
         Some(number) => Ok(Datagram {
-            place: Place::Tap(read.tap),
+            place: read.place,
             number,
             time: read.timed.time,
+            stamp: Stamp::Written(read.timed.text),
             octets,
             said,
         }),
@@ -125,7 +177,7 @@ impl<T: DatagramTask, E: Write> LineTask for LineSource<'_, T, E> {
     fn take<W: Write>(&mut self, line: &[u8], output: &mut Counted<W>) -> Result<(), T::Fault> {
         tell_compressed(line, T::subcommand(), self.errors);
         let mut room = [0; DATAGRAM_LIMIT];
-        match read_line(self.count, line, &mut room) {
+        match read_line(T::line_form(), self.count, line, &mut room) {
             Ok(datagram) => {
                 self.task.take(&datagram, output, self.errors)?;
                 self.count = datagram.number;

@@ -7,10 +7,10 @@ ghost use Rattle.capture_file.specs.Packet.{packet_of};
 ghost use Rattle.datagram_source.specs.Rules.{packet_rules, TakesPacket, StopsAtPacket};
 ghost use Rattle.datagram_source.specs.Inner.Outcomes.{IsKept, IsEnded};
 
-use crate::datagram::{Datagram, Place, message_in};
+use crate::datagram::{Datagram, Place, Stamp, message_in};
 use crate::task::DatagramTask;
 use capture_extract::Summary as PacketCounts;
-use capture_file::{Captured, Packet, PacketTask};
+use capture_file::{Captured, Packet, PacketTask, is_asked};
 use capture_frame::{Found, find_datagram};
 use ptp_units::ScaledTime;
 use std::io::Write;
@@ -26,7 +26,7 @@ pub(crate) struct PacketSource<'errors, T, E> {
 }
 
 impl<T: DatagramTask, E: Write> PacketSource<'_, T, E> {
-    /// Takes a packet, if it carries a datagram.
+    /// Takes a packet, if it is of the interface that is asked for and carries a datagram.
     fn take_captured<W: Write>(
         &mut self,
         number: u64,
@@ -48,6 +48,11 @@ impl<T: DatagramTask, E: Write> PacketSource<'_, T, E> {
             (λ _. HasNotFailed output.old output.new)
             (λ what. HasFailedIf (T.rules.is_of_writer what) output.old output.new) }
     {
+        let asked = self.task.asked();
+        if !is_asked(asked.as_ref(), &captured.interface) {
+            self.counts.count_elsewhere(&captured.interface);
+            return Ok(());
+        }
         let found = find_datagram(captured.link, captured.octets);
         self.counts
             .count_captured(captured.time, captured.link, found);
@@ -58,6 +63,7 @@ impl<T: DatagramTask, E: Write> PacketSource<'_, T, E> {
             place: Place::Interface(captured.interface),
             number,
             time: ScaledTime::join(captured.time, 0),
+            stamp: Stamp::Clock(captured.time),
             octets,
             said: message_in(octets),
         };

@@ -8,6 +8,8 @@ ghost use Rattle.datagram_source.specs.Datagram.{datagram_of};
 ghost use Rattle.datagram_source.specs.Rules.{DatagramRules, is_field};
 
 use crate::datagram::Datagram;
+use crate::lines::LineForm;
+use capture_file::InterfaceName;
 use std::io::Write;
 use text_lines::{Counted, LineFault};
 
@@ -28,11 +30,19 @@ pub trait DatagramTask {
     /// The name of the subcommand that does this, which is told where the input is compressed.
     fn subcommand() -> &'static str;
 
+    /// Which of the two forms lines have.
+    fn line_form() -> LineForm
+        ensures { result ≡ rules.line_form };
+
     /// What a fault of a line is among those of the task. Of the three `Field` alone is one that leaves the task in its state.
     fn fault_of(fault: LineFault) -> Self::Fault
         ensures value { result ≡ rules.fault_of fault }
         ensures writer { rules.is_of_writer result ≡ is_write fault }
         ensures kept { rules.keeps result ≡ is_field fault };
+
+    /// The interface of a capture of which packets are asked for, if one is; packets of others are counted and not looked at.
+    fn asked(&self) -> Option<InterfaceName>
+        ensures { (state : State) → is_at self.now state → result ≡ rules.asked state };
 
     /// Takes one more datagram.
     fn take<W: Write, E: Write>(
