@@ -1,5 +1,5 @@
 -- Lines have one answer, but for faults of the writer and of memory.
-use Rattle.std.proofs.Common.{◌≡◌, ◌∙◌, ℕ, ◌+◌, List, ◌++◌, take, true, Option, Some, None, Result, Ok, Err, inl, inr, sym, ap, subst}
+use Rattle.std.proofs.Common.{◌≡◌, ◌∙◌, ℕ, ◌+◌, List, ◌++◌, take, true, Option, Some, None, Result, Ok, Err, inl, inr, refl, sym, ap, subst}
 use Rattle.std.specs.Prelude.{⊤}
 use Rattle.std.specs.Option.{option_map_or}
 use Rattle.capture_lines.specs.Timed.{LineParts, timed_in}
@@ -20,9 +20,9 @@ use Rattle.tap_following.specs.declared.follower.Arrival.TheVariants as arrivals
 use Rattle.tap_following.specs.Course.{Course, arrival_of, begun, ended, end_text}
 use Rattle.tap_follow.specs.declared.fault.FollowFault.{FollowFault}
 use Rattle.tap_follow.specs.declared.fault.FollowFault.TheVariants.{Write, Field, Memory, ThirdTap}
-use Rattle.datagram_source.specs.Datagram.{PlaceOf, Tap, DatagramOf, IsDatagramLine}
+use Rattle.datagram_source.specs.Datagram.{PlaceOf, Tap, DatagramOf, IsTapDatagram}
 use Rattle.datagram_source.specs.Rules.{LinesRead, TakesLine, IsNotGiven, StopsAtLine, nothing_read, line_rules}
-use Rattle.tap_follow.specs.Datagram.{IsTapAt, met_in}
+use Rattle.tap_follow.specs.Datagram.{IsTapAt, HasNoTap, met_in}
 use Rattle.tap_follow.specs.Fault.{is_write}
 use Rattle.tap_follow.specs.Input.{head_text}
 use Rattle.tap_follow.specs.OneAnswer.{IsOfInput, IsSure, LinesHaveOneAnswer}
@@ -43,27 +43,28 @@ one_reading octets (Ok m) (Err refusal) h k = absurd (no_refusal octets m refusa
 one_reading octets (Err refusal) (Ok n) h k = absurd (no_refusal octets n refusal k h)
 one_reading octets (Err one) (Err other) h k = cc (h, k)
 
-one_datagram : (number : ℕ) (line : List ℕ) (one other : DatagramOf) → IsDatagramLine number line one → IsDatagramLine number line other
+one_datagram : (number : ℕ) (line : List ℕ) (one other : DatagramOf) → IsTapDatagram number line one → IsTapDatagram number line other
     → other ≡ one
 one_datagram number line one other h k =
     let tap : k.tap ≡ h.tap = ap (λ o. option_map_or (λ p. p.0) o k.tap) (sym k.split ∙ h.split) in
     let rest : k.rest ≡ h.rest = ap (λ o. option_map_or (λ p. p.1) o k.rest) (sym k.split ∙ h.split) in
-    let parts : k.parts ≡ h.parts =
-    ap (λ o. option_map_or (λ (p : LineParts). p) o k.parts) (sym k.there ∙ ap timed_in rest ∙ h.there) in
-    let octets : other.octets ≡ one.octets = cc (parts, h.decoded, k.decoded) in
-    let placed : other.place ≡ one.place = k.placed ∙ ap Tap tap ∙ sym h.placed in
-    let numbered : other.number ≡ one.number = k.numbered ∙ sym h.numbered in
-    let moment : other.time ≡ one.time = k.moment_is ∙ ap (λ p. p.time) parts ∙ sym h.moment_is in
+    let parts : k.timed.parts ≡ h.timed.parts =
+    ap (λ o. option_map_or (λ (p : LineParts). p) o k.timed.parts) (sym k.timed.there ∙ ap timed_in rest ∙ h.timed.there) in
+    let octets : other.octets ≡ one.octets = cc (parts, h.timed.decoded, k.timed.decoded) in
+    let placed : other.place ≡ one.place = k.timed.placed ∙ ap Tap tap ∙ sym h.timed.placed in
+    let numbered : other.number ≡ one.number = k.timed.numbered ∙ sym h.timed.numbered in
+    let moment : other.time ≡ one.time = k.timed.moment_is ∙ ap (λ p. p.time) parts ∙ sym h.timed.moment_is in
+    let written : other.written ≡ one.written = k.timed.written ∙ ap (λ p. p.text) parts ∙ sym h.timed.written in
     let said : other.said ≡ one.said =
-    one_reading one.octets one.said other.said h.said (subst (λ (o : List ℕ). IsReading o other.said) octets k.said) in
-    λ i. record { place = placed i; number = numbered i; time = moment i; octets = octets i; said = said i }
+    one_reading one.octets one.said other.said h.timed.said (subst (λ (o : List ℕ). IsReading o other.said) octets k.timed.said) in
+    λ i. record { place = placed i; number = numbered i; time = moment i; written = written i; octets = octets i; said = said i }
 
 -- its tap is the one that the line names
-tap_named : (number : ℕ) (line : List ℕ) (d : DatagramOf) (tap : List ℕ) (is : IsDatagramLine number line d) → IsTapAt d.place tap
+tap_named : (number : ℕ) (line : List ℕ) (d : DatagramOf) (tap : List ℕ) (is : IsTapDatagram number line d) → IsTapAt d.place tap
     → tap ≡ is.tap
-tap_named number line d tap is at = subst (λ (p : PlaceOf). IsTapAt p tap) is.placed at
+tap_named number line d tap is at = subst (λ (p : PlaceOf). IsTapAt p tap) is.timed.placed at
 
-one_tap : (number : ℕ) (line : List ℕ) (d : DatagramOf) (tap tap' : List ℕ) → IsDatagramLine number line d → IsTapAt d.place tap
+one_tap : (number : ℕ) (line : List ℕ) (d : DatagramOf) (tap tap' : List ℕ) → IsTapDatagram number line d → IsTapAt d.place tap
     → IsTapAt d.place tap' → tap' ≡ tap
 one_tap number line d tap tap' is at at' = tap_named number line d tap' is at' ∙ sym (tap_named number line d tap is at)
 
@@ -79,19 +80,26 @@ one_taking (arrivals.At side) tap d c one other text text' h k = one_change (met
 one_taking arrivals.Elsewhere tap d c one other text text' h k = (k.0 ∙ sym h.0, k.1 ∙ sym h.1)
 one_taking arrivals.Third tap d c one other text text' h k = absurd h
 
-one_taken : (number : ℕ) (line : List ℕ) (d : DatagramOf) (c one other : Course) (text text' : List ℕ) → IsDatagramLine number line d
+-- a datagram of a line has a tap
+has_tap : (number : ℕ) (line : List ℕ) (d : DatagramOf) → IsTapDatagram number line d → HasNoTap d.place → ⊥
+has_tap number line d is none = none is.tap (subst (λ (p : PlaceOf). IsTapAt p is.tap) (sym is.timed.placed) refl)
+
+one_taken : (number : ℕ) (line : List ℕ) (d : DatagramOf) (c one other : Course) (text text' : List ℕ) → IsTapDatagram number line d
     → TakesDatagram d c one text → TakesDatagram d c other text' → (other ≡ one) × (text' ≡ text)
-one_taken number line d c one other text text' is (tap, at, takes) (tap', at', takes') =
+one_taken number line d c one other text text' is (inl (tap, at, takes)) (inl (tap', at', takes')) =
     let same = one_tap number line d tap tap' is at at' in
     one_taking (arrival_of c tap) tap d c one other text text' takes
     (subst (λ (t : List ℕ). TakesAt (arrival_of c t) t d c other text') same takes')
+one_taken number line d c one other text text' is (inl takes) (inr none) = absurd (has_tap number line d is none.0)
+one_taken number line d c one other text text' is (inr none) takes = absurd (has_tap number line d is none.0)
 
-no_third : (number : ℕ) (line : List ℕ) (d : DatagramOf) (c later : Course) (text tap : List ℕ) → IsDatagramLine number line d
+no_third : (number : ℕ) (line : List ℕ) (d : DatagramOf) (c later : Course) (text tap : List ℕ) → IsTapDatagram number line d
     → TakesDatagram d c later text → IsTapAt d.place tap → arrival_of c tap ≡ arrivals.Third → ⊥
-no_third number line d c later text tap is (tap', at', takes) at third =
+no_third number line d c later text tap is (inl (tap', at', takes)) at third =
     let same = one_tap number line d tap tap' is at at' in
     subst (λ (a : Arrival). TakesAt a tap d c later text) third
     (subst (λ (t : List ℕ). TakesAt (arrival_of c t) t d c later text) same takes)
+no_third number line d c later text tap is (inr none) at third = none.0 tap at
 
 -- ---- lines
 abbrev IsDevice : FollowFault → Type 0
@@ -111,7 +119,7 @@ one_step line r one other text text' (d, is, counted, takes) (d', is', counted',
 
 -- a line that isn't given, where no memory was refused, tells no datagram
 not_given : (line : List ℕ) (r : LinesRead Course) (fault : FollowFault) → (IsDevice fault → ⊥) → IsNotGiven follow_rules line r fault
-    → ((d : DatagramOf) → IsDatagramLine (r.count + 1) line d → ⊥) × (fault ≡ Field)
+    → ((d : DatagramOf) → IsTapDatagram (r.count + 1) line d → ⊥) × (fault ≡ Field)
 not_given line r fault sure (inl (none, is)) = (none, is)
 not_given line r fault sure (inr (d, told, many, is)) = absurd (sure (subst IsDevice (sym is) tt))
 
@@ -126,7 +134,7 @@ no_fault line r later text text' (ThirdTap name) sure (d, is, counted, takes) (i
     no_third (r.count + 1) line d r.state later.state text name is takes (subst (λ (it : DatagramOf). IsTapAt it.place name) same at) third
 
 one_stop : (line : List ℕ) (r : LinesRead Course) (text text' : List ℕ) (one other : FollowFault) → (IsDevice one → ⊥) → (IsDevice other → ⊥)
-    → (d d' : DatagramOf) → IsDatagramLine (r.count + 1) line d → IsDatagramLine (r.count + 1) line d'
+    → (d d' : DatagramOf) → IsTapDatagram (r.count + 1) line d → IsTapDatagram (r.count + 1) line d'
     → follow_rules.Stops d r.state one text → follow_rules.Stops d' r.state other text' → (other ≡ one) × (text' ≡ text)
 one_stop line r text text' Write other sure sure' d d' is is' h k = absurd (sure tt)
 one_stop line r text text' Memory other sure sure' d d' is is' h k = absurd (sure tt)

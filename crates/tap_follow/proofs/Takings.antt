@@ -1,5 +1,5 @@
 -- A datagram is taken as the rules have it, by what came of its message.
-use Rattle.std.proofs.Common.{◌≡◌, ◌∙◌, ℕ, Bool, true, false, List, [], ◌++◌, Option, Some, None, Result, Ok, Err, refl, sym, ap, subst}
+use Rattle.std.proofs.Common.{◌≡◌, ◌∙◌, ℕ, Bool, true, false, List, [], ◌++◌, Option, Some, None, Result, Ok, Err, inl, refl, sym, ap, subst}
 use Rattle.std.specs.Prelude.{◌≢◌, MatchResult, is_none, if◌then◌else◌}
 use Rattle.std.specs.Io.KnownBytes.{Appends}
 use Rattle.std.proofs.KnownBytes.{Appends-nil}
@@ -61,9 +61,9 @@ module _ {T : Type 0} (d : DatagramOf) (tap : List ℕ) (c : Course) (new : Hold
   pub taken_at : (r : Result T FollowFault) (side : Side) → IsTapAt d.place tap → arrival_of c tap ≡ arrivals.At side
       → ChangesAs r (met_in side d) (with_tap tap c) new before after → TakesAs r d c new before after
   taken_at (Ok done) side met is (later, out, at, changes, went) =
-      (later, out, at, (tap, met, subst (λ (a : Arrival). TakesAt a tap d c later out) (sym is) changes), went)
+      (later, out, at, inl (tap, met, subst (λ (a : Arrival). TakesAt a tap d c later out) (sym is) changes), went)
   taken_at (Err Write) side met is (out, (later, text, some, changes), went) =
-      (out, (later, text, some, (tap, met, subst (λ (a : Arrival). TakesAt a tap d c later text) (sym is) changes)), went)
+      (out, (later, text, some, inl (tap, met, subst (λ (a : Arrival). TakesAt a tap d c later text) (sym is) changes)), went)
   taken_at (Err Memory) side met is (out, (none, m, has), went) = (out, (none, tap, met, side, m, is, has), went)
   taken_at (Err Field) side met is (out, stops, went) = absurd stops
   taken_at (Err (ThirdTap name)) side met is (out, stops, went) = absurd stops

@@ -4,7 +4,7 @@ use Rattle.std.specs.Result.{result_ok}
 use Rattle.event_codec.specs.Packet.{Contents}
 use Rattle.capture_file.specs.Packet.{InterfaceOf}
 use Rattle.capture_file.specs.Name.{place_text}
-use Rattle.datagram_source.specs.Datagram.{PlaceOf, Tap, Interface, DatagramOf}
+use Rattle.datagram_source.specs.Datagram.{PlaceOf, Line, Tap, Interface, DatagramOf}
 use Rattle.tap_choice.specs.TapName.{IsTapName}
 use Rattle.tap_choice.specs.declared.met.Met.{Met}
 use Rattle.tap_choice.specs.declared.met.Side.{Side}
@@ -22,7 +22,12 @@ pub data IsTapOf : InterfaceOf → List ℕ → Type 0 where
   Place : (interface : InterfaceOf) → ((name : List ℕ) → interface.name ≡ Some name → IsTapName name → ⊥)
       → IsTapOf interface (place_text interface.place)
 
--- what the tap is called at which a datagram was met
+-- what the tap is called at which a datagram was met; one whose line tells no place has none
 abbrev pub IsTapAt : PlaceOf → List ℕ → Type 0
+IsTapAt Line tap = ⊥
 IsTapAt (Tap name) tap = tap ≡ name
 IsTapAt (Interface interface) tap = IsTapOf interface tap
+
+-- a place is no tap
+abbrev pub HasNoTap : PlaceOf → Type 0
+HasNoTap place = (tap : List ℕ) → IsTapAt place tap → ⊥

@@ -1,9 +1,9 @@
 //! The tap at which a datagram was met.
-ghost use Rattle.std.specs.Prelude.{◌≡◌, Some, IsSome, IfSome};
+ghost use Rattle.std.specs.Prelude.{◌≡◌, Some, IsSome, IfSome, MatchOption};
 ghost use Rattle.capture_file.specs.Name.{place_text};
 ghost use Rattle.capture_file.specs.Packet.{interface_of};
 ghost use Rattle.datagram_source.specs.Datagram.{place_of};
-ghost use Rattle.tap_follow.specs.Datagram.{IsTapAt, IsTapOf};
+ghost use Rattle.tap_follow.specs.Datagram.{IsTapAt, HasNoTap, IsTapOf};
 
 use capture_file::Interface;
 use datagram_source::Place;
@@ -36,12 +36,12 @@ fn tap_of(interface: &Interface<'_>) -> Option<TapName>
     }
 }
 
-/// The tap that a place is.
+/// The tap that a place is, if it is one.
 pub(crate) fn tap_met(place: &Place<'_>) -> Option<TapName>
-    ensures some { IsSome result }
-    ensures name { IfSome result (λ name. IsTapAt (place_of place.now) name) }
+    ensures { MatchOption result (HasNoTap (place_of place.now)) (λ name. IsTapAt (place_of place.now) name) }
 {
     match place {
+        Place::Line => None,
         Place::Tap(tap) => Some(*tap),
         Place::Interface(interface) => tap_of(interface),
     }

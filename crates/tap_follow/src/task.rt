@@ -14,7 +14,8 @@ ghost use Rattle.tap_follow.specs.Inner.Taking.{ChangesAs};
 use crate::fault::FollowFault;
 use crate::tap::tap_met;
 use crate::told::Told;
-use datagram_source::{Datagram, DatagramTask};
+use capture_file::InterfaceName;
+use datagram_source::{Datagram, DatagramTask, LineForm};
 use std::alloc::Global;
 use std::io::Write;
 use tap_choice::{Met, Side, WantedTaps};
@@ -103,12 +104,21 @@ impl DatagramTask for Taking {
         "follow"
     }
 
+    fn line_form() -> LineForm {
+        LineForm::AtTaps
+    }
+
     fn fault_of(fault: LineFault) -> FollowFault {
         match fault {
             LineFault::Write => FollowFault::Write,
             LineFault::Field => FollowFault::Field,
             LineFault::Memory => FollowFault::Memory,
         }
+    }
+
+    /// Packets of each interface are followed.
+    fn asked(&self) -> Option<InterfaceName> {
+        None
     }
 
     fn take<W: Write, E: Write>(
