@@ -5,3 +5,4 @@ mod PacketTakings
 mod Inputs
 mod Lefts
 pub mod LeftAs
+pub mod OneCourse

@@ -30,8 +30,8 @@ pub enum InputOutcome<F> {
 }
 
 /// Gives all datagrams of an input to a task in turn, and ends after the last. An input whose first four octets are a magic of a
-/// capture is one, and each packet that carries a datagram of PTP gives it, as one that was met at its interface. Any other is lines,
-/// each of the form that the task reads. The head goes out before anything is read.
+/// capture is one, and each packet that carries a datagram of PTP gives it, as one that was met at its interface, unless the task asks
+/// for another. Any other is lines, each of the form that the task reads. The head goes out before anything is read.
 ///
 /// Answers what came of the input; the task, as its calls left it; and of a capture how many packets there were of each kind.
 ///
