@@ -7,7 +7,8 @@ use Rattle.std.specs.Result.{result_ok}
 use Rattle.text_lines.specs.Task.{WentOut}
 use Rattle.event_codec.specs.declared.message.Message.{Message}
 use Rattle.event_codec.specs.declared.refusal.DecodeRefusal.{DecodeRefusal}
-use Rattle.datagram_source.specs.Datagram.{DatagramOf, reading_of}
+use Rattle.datagram_source.specs.Said.{reading_of}
+use Rattle.datagram_source.specs.Datagram.{DatagramOf}
 use Rattle.tap_choice.specs.declared.met.Met.{Met}
 use Rattle.tap_choice.specs.declared.met.Side.{Side}
 use Rattle.tap_choice.specs.declared.met.Side.TheVariants as taps

@@ -4,7 +4,8 @@ use Rattle.std.specs.Result.{result_ok}
 use Rattle.std.proofs.KnownBytes.{Appends-nil}
 use Rattle.std.proofs.lemmas.Result.{err_from_is_err_and}
 use Rattle.tap_follow.specs.Datagram.{met_as}
-use Rattle.datagram_source.specs.Datagram.{datagram_of, reading_of}
+use Rattle.datagram_source.specs.Said.{reading_of}
+use Rattle.datagram_source.specs.Datagram.{datagram_of}
 use Rattle.tap_follow.proofs.Takings.{no_change, no_message, no_memory, wrote, cleared}
 use Rattle.tap_follow.proofs.task.Taking.take_at.Goals as goal
 
