@@ -16,13 +16,13 @@ use Rattle.tap_choice.specs.declared.sides.Sides.{Sides}
 use Rattle.tap_choice.specs.Sides.{is_named, side_of, sides_after, both_named}
 use Rattle.tap_following.specs.declared.follower.Arrival.{Arrival}
 use Rattle.tap_following.specs.declared.follower.Arrival.TheVariants as arrivals
-use Rattle.tap_following.specs.Course.{Course, arrival_as, arrival_of, with_tap, after, ended, new_text, end_text}
+use Rattle.tap_following.specs.Course.{Course, arrival_as, arrival_of, with_tap, after, new_text}
 use Rattle.tap_following.specs.Held.{Holding, IsFollower}
 use Rattle.tap_follow.specs.declared.fault.FollowFault.{FollowFault}
 use Rattle.tap_follow.specs.declared.fault.FollowFault.TheVariants.{Write, Field, Memory, ThirdTap}
 use Rattle.tap_follow.specs.Datagram.{met_in, IsTapAt}
 use Rattle.tap_follow.specs.Fault.{is_write, keeps}
-use Rattle.tap_follow.specs.Rules.{Changes, TakesAt, TakesDatagram, StopsAtDatagram, StopsAtEnd}
+use Rattle.tap_follow.specs.Rules.{Changes, TakesAt, TakesDatagram, StopsAtDatagram}
 use Rattle.tap_follow.specs.Inner.Taking.{ChangesAs}
 
 -- ---- a third tap changes none of the two
@@ -99,7 +99,7 @@ no_message (Err refusal) never = refl
 pub no_change : (m : Option Met) (c : Course) → m ≡ None → Changes m c c []
 no_change m c none = subst (λ (o : Option Met). Changes o c c []) (sym none) (refl, refl)
 
--- ---- what was written of a message, or at the end
+-- ---- what was written of a message
 module _ {T : Type 0} (c : Course) (new : Holding) (before : Option (List ℕ)) (text : List ℕ) where
   pub wrote : (r : Result T FollowFault) (o : Option Met) (m : Met) (went : Option (List ℕ)) → o ≡ Some m → IsFollower new (after m c)
       → text ≡ new_text m c
@@ -124,18 +124,6 @@ module _ {T : Type 0} (c : Course) (new : Holding) (before : Option (List ℕ)) 
   wrote (Err Field) o m went is at same (failed, some) = absurd cc
   wrote (Err Memory) o m went is at same (failed, some) = absurd cc
   wrote (Err (ThirdTap name)) o m went is at same (failed, some) = absurd cc
-
-  pub ended_by : (r : Result T FollowFault) (went : Option (List ℕ)) → IsFollower new (ended c) → text ≡ end_text c
-      → MatchResult r (λ done. Appends before went text) (λ fault. (fault ≡ Write) × (text ≢ []))
-      → MatchResult r
-      (λ done. (later : Course) × (out : List ℕ) × IsFollower new later × (later ≡ ended c) × (out ≡ end_text c)
-      × Appends before went out)
-      (λ fault. (out : List ℕ) × StopsAtEnd c fault out × WentOut (is_write fault) (Appends before went out))
-  ended_by (Ok done) went at same out = (ended c, end_text c, at, refl, refl, subst (Appends before went) same out)
-  ended_by (Err Write) went at same (failed, some) = ([], λ none. some (same ∙ none), tt)
-  ended_by (Err Field) went at same (failed, some) = absurd cc
-  ended_by (Err Memory) went at same (failed, some) = absurd cc
-  ended_by (Err (ThirdTap name)) went at same (failed, some) = absurd cc
 
 -- memory was refused
 pub no_memory : (T : Type 0) (o : Option Met) (m : Met) (c : Course) (new : Holding) (before : Option (List ℕ)) → o ≡ Some m
