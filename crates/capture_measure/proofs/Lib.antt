@@ -7,7 +7,7 @@ pub mod Goes
 pub mod Heard
 pub mod KeptRows
 pub mod Looking
-pub mod Readings
+pub mod OneCourse
 pub mod CaptureFates
 pub mod Chosen
 pub mod Recordings

@@ -32,7 +32,7 @@ use Rattle.capture_measure.specs.Told.{place_in}
 use Rattle.capture_measure.specs.Inner.Recordings.{HasAdded, IsFoundAt, KeepsMore}
 use Rattle.capture_measure.proofs.Places.{AreDistinct, distinct_in, not_among, no_rows, same_place}
 use Rattle.capture_measure.proofs.Chosen.{or_stays}
-use Rattle.capture_measure.proofs.Readings.{one_reading}
+use Rattle.datagram_source.proofs.OneCourse.{one_reading}
 
 -- ---- what was met
 or_swap : (a b : Bool) → (a || b) ≡ (b || a)

@@ -1,12 +1,14 @@
 -- How `measure` runs.
 use Rattle.std.specs.Prelude.{◌≡◌, ℕ, List, Option, if◌then◌else◌}
 use Rattle.text_lines.specs.declared.counted.Counted.{Counted}
-use Rattle.capture_measure.specs.declared.input.InputOutcome.{InputOutcome}
-use Rattle.capture_measure.specs.declared.input.InputOutcome.TheVariants.{Lines, Capture}
-use Rattle.capture_measure.specs.declared.measuring.Form.{Form}
-use Rattle.capture_measure.specs.declared.measuring.Form.TheVariants.{Json, Table, FullJson, FullTable}
+use Rattle.text_lines.specs.declared.line_fault.LineFault.{LineFault}
+use Rattle.datagram_source.specs.declared.input.InputOutcome.{InputOutcome}
+use Rattle.datagram_source.specs.declared.input.InputOutcome.TheVariants.{Lines, Capture}
+use Rattle.datagram_source.specs.Input.{AnswersInput, OutcomeFailed}
+use Rattle.capture_measure.specs.declared.form.Form.{Form}
+use Rattle.capture_measure.specs.declared.form.Form.TheVariants.{Json, Table, FullJson, FullTable}
 use Rattle.capture_measure.specs.declared.watch.WantedPorts.{WantedPorts}
-use Rattle.capture_measure.specs.Input.{MeasuresInput, OutcomeFailed}
+use Rattle.capture_measure.specs.Measure.{begun, head_text, measure_rules}
 use Rattle.command_options.specs.declared.MeasureOptions.{MeasureOptions}
 use Rattle.fault_report.specs.Status.{status_of}
 
@@ -26,7 +28,7 @@ form_of options =
     else if options.csv then Table else Json
 
 -- the exit status of `measure`, by what came of its input
-abbrev pub outcome_status : InputOutcome → ℕ
+abbrev pub outcome_status : InputOutcome LineFault → ℕ
 outcome_status (Lines answer) = status_of answer
 outcome_status (Capture answer) = status_of answer
 
@@ -34,6 +36,7 @@ outcome_status (Capture answer) = status_of answer
 abbrev pub RunsMeasure : {R W : Type 0} → (R → Option (List ℕ)) → (W → Option (List ℕ)) → MeasureOptions → ℕ
     → (input input' : Counted R) (output output' : Counted W) → Type 0
 RunsMeasure remaining contents options status input input' output output' =
-    (outcome : InputOutcome) × (status ≡ outcome_status outcome)
-    × OutcomeFailed outcome input input' output output'
-    × MeasuresInput (form_of options) (wanted_of options) remaining contents outcome input input' output output'
+    (outcome : InputOutcome LineFault) × (status ≡ outcome_status outcome)
+    × OutcomeFailed measure_rules outcome input input' output output'
+    × AnswersInput measure_rules (head_text (form_of options)) (begun (form_of options) (wanted_of options)) remaining contents outcome
+    input input' output output'

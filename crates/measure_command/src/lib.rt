@@ -4,13 +4,14 @@
 ghost use Rattle.measure_command.specs.Run.{RunsMeasure, form_of, outcome_status};
 ghost use Rattle.std.specs.Prelude.{◌≡◌};
 
-use capture_measure::{Form, InputOutcome, WantedPorts, measure};
+use capture_measure::{Form, WantedPorts, measure};
 use capture_report::finish_capture;
 use command_options::MeasureOptions;
+use datagram_source::InputOutcome;
 use fault_report::finish;
 use std::alloc::Global;
 use std::io::{Read, Write};
-use text_lines::Counted;
+use text_lines::{Counted, LineFault};
 
 /// What is told where the packets of an interface are asked for, and there are lines.
 const LINES_HAVE_NO_INTERFACE: &[u8] =
@@ -61,7 +62,7 @@ fn form_of(options: &MeasureOptions) -> Form
 }
 
 /// Says of lines that there are none, and that an interface was asked for in vain.
-fn tell_lines<E: Write>(outcome: &InputOutcome, is_interface_asked: bool, errors: &mut E) {
+fn tell_lines<E: Write>(outcome: &InputOutcome<LineFault>, is_interface_asked: bool, errors: &mut E) {
     let InputOutcome::Lines(answer) = outcome else {
         return;
     };
@@ -74,7 +75,7 @@ fn tell_lines<E: Write>(outcome: &InputOutcome, is_interface_asked: bool, errors
 }
 
 /// Answers the exit status of `measure`, and says its fault.
-fn finish_outcome<E: Write>(errors: &mut E, outcome: InputOutcome) -> u8
+fn finish_outcome<E: Write>(errors: &mut E, outcome: InputOutcome<LineFault>) -> u8
     ensures { result ≡ outcome_status outcome }
 {
     match outcome {

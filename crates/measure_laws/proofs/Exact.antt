@@ -5,6 +5,7 @@ use Rattle.std.proofs.Common.{refl, sym, ap, arith}
 use Rattle.std.specs.Prelude.{⊤, not, nat_le, if◌then◌else◌, option_map, option_to_list}
 use Rattle.std.specs.List.{All}
 use Rattle.std.specs.Option.{option_map_or}
+use Rattle.std.proofs.lemmas.List.{length-map}
 use Rattle.std.proofs.lemmas.List.Elements.{All-nil, All-cons, All-head, All-tail}
 use Rattle.slave_port.specs.declared.heard.Report.{Report}
 use Rattle.capture_model.specs.declared.watched.Watched.{Watched}
@@ -13,13 +14,18 @@ use Rattle.capture_model.specs.Listening.{reports, report_at}
 use Rattle.capture_model.specs.Told.{AreNumbered}
 use Rattle.capture_model.specs.Exact.{IsExact, EachReportIsExact}
 use Rattle.capture_measure.specs.Made.{Measured}
-use Rattle.capture_measure.specs.declared.measuring.Form.{Form}
+use Rattle.capture_measure.specs.declared.form.Form.{Form}
 use Rattle.capture_measure.specs.declared.watch.WantedPorts.{WantedPorts}
 use Rattle.capture_measure.specs.Watch.{watched_in}
 use Rattle.capture_measure.specs.Row.{Row, datagrams, is_known, heard, kept_most}
 use Rattle.capture_measure.specs.Measured.{texts_as, measurements, written}
+use Rattle.capture_measure.specs.Places.{PlacedRow}
 use Rattle.capture_measure.specs.Measure.{Recording, begun}
-use Rattle.capture_measure.proofs.LinesRead.{AreCounted, IsReadOn, read_on}
+use Rattle.datagram_source.specs.Rules.{LinesRead, nothing_read}
+use Rattle.measure_laws.specs.AsLines.{rows_of}
+use Rattle.measure_laws.proofs.AsLines.{lines_written}
+use Rattle.measure_laws.proofs.LinesRead as lines
+use Rattle.measure_laws.proofs.LinesRead.{IsReadOn, AreOfLines, read_on}
 use Rattle.measure_laws.specs.Exact.{EachMeasurementIsExact}
 
 -- one more report, or none
@@ -47,6 +53,16 @@ numbered_more : (n : ℕ) (d : Recorded) (ds : List Recorded) → AreNumbered ds
     → AreNumbered (d ∷ ds) × IsUpTo (suc n) (d ∷ ds)
 numbered_more n d [] numbered upto is = (tt, omega (arith, is))
 numbered_more n d (before ∷ ds) numbered upto is = ((omega (arith, is, upto), numbered), omega (arith, is))
+
+-- rows have the numbers of lines from 1 on
+abbrev AreCounted : List Row → Type 0
+AreCounted [] = ⊤
+AreCounted (row ∷ rows) = (row.datagram.line ≡ length rows + 1) × AreCounted rows
+
+counted_rows : (rows : List PlacedRow) → lines.AreCounted rows → AreCounted (rows_of rows)
+counted_rows [] counted = tt
+counted_rows (r ∷ rows) counted =
+    (counted.0 ∙ ap (λ (n : ℕ). n + 1) (sym (length-map rows (λ (r : PlacedRow). r.row))), counted_rows rows counted.1)
 
 rows_numbered : (rows : List Row) → AreCounted rows
     → AreNumbered (datagrams rows) × IsUpTo (length rows) (datagrams rows)
@@ -76,28 +92,30 @@ heard_numbered w (row ∷ rows) counted =
     (numbered_more (length rows) row.datagram (datagrams (heard w rows)) before.0 before.1 counted.0)
     (rows_numbered (row ∷ rows) counted)
 
-nothing_of : (watched : Option Watched) → option_map_or {U = List Measured} (λ w. []) watched [] ≡ []
-nothing_of (Some w) = refl
-nothing_of None = refl
+-- nothing was read
+begun_of_lines : (form : Form) (wanted : WantedPorts) → AreOfLines (nothing_read (begun form wanted))
+begun_of_lines form wanted = record { count = refl; counted = tt; nameless = All-nil (λ (r : PlacedRow). r.place ≡ None) }
 
 -- what was written of lines whose watch is known
-written_exactly : (form : Form) (wanted : WantedPorts) (w : Watched) (read : Recording) (text : List ℕ)
-    → IsReadOn (begun form wanted) read text → watched_in wanted (datagrams read.rows) ≡ Some w
-    → text ≡ texts_as form (measurements w (heard wanted read.rows))
+written_exactly : (form : Form) (wanted : WantedPorts) (w : Watched) (read : LinesRead Recording) (text : List ℕ)
+    → IsReadOn (nothing_read (begun form wanted)) read text → watched_in wanted (datagrams (rows_of read.state.rows)) ≡ Some w
+    → text ≡ texts_as form (measurements w (heard wanted (rows_of read.state.rows)))
 written_exactly form wanted w read text on known =
-    sym (on.written ∙ ap (λ (ms : List Measured). texts_as form ms ++ text) (nothing_of (watched_in wanted [])))
-    ∙ (λ i. written (on.form i) (on.wanted i) read.rows)
-    ∙ ap (λ (o : Option Watched). texts_as form (option_map_or (λ v. measurements v (heard wanted read.rows)) o [])) known
+    sym on.written
+    ∙ lines_written read.state.form read.state.wanted read.state.rows (on.lines (begun_of_lines form wanted)).nameless
+    ∙ (λ i. written (on.form i) (on.wanted i) (rows_of read.state.rows))
+    ∙ ap (λ (o : Option Watched). texts_as form (option_map_or (λ v. measurements v (heard wanted (rows_of read.state.rows))) o [])) known
 
 pub each_measurement : EachReportIsExact → EachMeasurementIsExact
 each_measurement each_report network run slave master w moved form wanted lines read text accepted watches taken known tells
     fresh ticked missing =
-    let on = read_on 1 lines (begun form wanted) read text taken in
-    let those = heard wanted read.rows in record {
+    let on = read_on 1 lines (nothing_read (begun form wanted)) read text taken in
+    let those = heard wanted (rows_of read.state.rows) in record {
       written = written_exactly form wanted w read text on known;
       exact = all_measured (IsExact master tells) w those
           (each_report network run slave master w moved (datagrams those) accepted watches tells (record {
-            numbered = (heard_numbered wanted read.rows (on.counted tt)).0;
+            numbered = (heard_numbered wanted (rows_of read.state.rows)
+                (counted_rows read.state.rows (on.lines (begun_of_lines form wanted)).counted)).0;
             fresh = fresh;
             ticked = ticked;
             missing = missing;

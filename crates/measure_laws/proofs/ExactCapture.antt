@@ -6,14 +6,14 @@ use Rattle.std.specs.Option.{option_map_or}
 use Rattle.capture_model.specs.declared.watched.Watched.{Watched}
 use Rattle.capture_model.specs.Told.{AreNumbered}
 use Rattle.capture_model.specs.Exact.{IsExact, EachReportIsExact}
-use Rattle.capture_measure.specs.declared.measuring.Form.{Form}
+use Rattle.capture_measure.specs.declared.form.Form.{Form}
 use Rattle.capture_measure.specs.declared.watch.WantedPorts.{WantedPorts}
 use Rattle.capture_measure.specs.Row.{Row, datagrams, kept_most}
 use Rattle.capture_measure.specs.Measured.{texts_as, measurements}
-use Rattle.capture_measure.specs.Interfaces.{InterfaceRow, is_same_interface, rows_at}
+use Rattle.capture_measure.specs.Places.{PlaceName, PlacedRow, is_same_place, rows_at}
 use Rattle.capture_measure.specs.Chosen.{chosen, heard_with, heard_at, capture_watched, capture_written}
-use Rattle.capture_measure.specs.Capture.{Capture, capture_begun}
-use Rattle.capture_measure.proofs.PacketsRead.{ArePackets, HasReadOn, read_on}
+use Rattle.capture_measure.specs.Measure.{Recording, begun}
+use Rattle.measure_laws.proofs.PacketsRead.{ArePackets, HasReadOn, read_on}
 use Rattle.measure_laws.specs.ExactCapture.{EachMeasurementOfACaptureIsExact}
 use Rattle.measure_laws.proofs.Exact.{all_measured}
 
@@ -31,27 +31,27 @@ rising_if : (n : ℕ) (row : Row) (rows : List Row) (same : Bool) → row.datagr
 rising_if n row rows true most least rising = (most, least, rising)
 rising_if n row rows false most least rising = rising_more (row.datagram.line - 1) n rows (omega (arith, most, least)) rising
 
-rows_rising : (n : ℕ) (interface : List ℕ) (rows : List InterfaceRow) → ArePackets n rows → AreRising n (rows_at interface rows)
-rows_rising n interface [] rising = tt
-rows_rising n interface (r ∷ rows) rising =
-    rising_if n r.row (rows_at interface rows) (is_same_interface interface r.interface) rising.0 rising.1
-    (rows_rising (r.row.datagram.line - 1) interface rows rising.2)
+rows_rising : (n : ℕ) (place : PlaceName) (rows : List PlacedRow) → ArePackets n rows → AreRising n (rows_at place rows)
+rows_rising n place [] rising = tt
+rows_rising n place (r ∷ rows) rising =
+    rising_if n r.row (rows_at place rows) (is_same_place place r.place) rising.0 rising.1
+    (rows_rising (r.row.datagram.line - 1) place rows rising.2)
 
 few_rising : (n : ℕ) (row : Row) (rows : List Row) (few : Bool) → row.datagram.line ≤ n → 1 ≤ row.datagram.line → AreRising n rows
     → AreRising n (if few then rows else row ∷ [])
 few_rising n row rows true most least rising = rising
 few_rising n row rows false most least rising = (most, least, tt)
 
-with_rising : (n : ℕ) (before now : Option (List ℕ)) (r : InterfaceRow) (rows : List InterfaceRow) (heard : List Row)
+with_rising : (n : ℕ) (before now : Option PlaceName) (r : PlacedRow) (rows : List PlacedRow) (heard : List Row)
     → ArePackets n (r ∷ rows) → AreRising (r.row.datagram.line - 1) heard → AreRising n (heard_with before now r rows heard)
-with_rising n (Some interface) now r rows heard rising those =
-    rising_if n r.row heard (is_same_interface interface r.interface) rising.0 rising.1 those
+with_rising n (Some place) now r rows heard rising those =
+    rising_if n r.row heard (is_same_place place r.place) rising.0 rising.1 those
 with_rising n None None r rows heard rising those = tt
-with_rising n None (Some interface) r rows heard rising those =
-    few_rising n r.row (rows_at interface (r ∷ rows)) (nat_le (length (r ∷ rows)) kept_most) rising.0 rising.1
-    (rows_rising n interface (r ∷ rows) rising)
+with_rising n None (Some place) r rows heard rising those =
+    few_rising n r.row (rows_at place (r ∷ rows)) (nat_le (length (r ∷ rows)) kept_most) rising.0 rising.1
+    (rows_rising n place (r ∷ rows) rising)
 
-heard_rising : (n : ℕ) (w : WantedPorts) (rows : List InterfaceRow) → ArePackets n rows → AreRising n (heard_at w rows)
+heard_rising : (n : ℕ) (w : WantedPorts) (rows : List PlacedRow) → ArePackets n rows → AreRising n (heard_at w rows)
 heard_rising n w [] rising = tt
 heard_rising n w (r ∷ rows) rising =
     with_rising n (chosen w rows) (chosen w (r ∷ rows)) r rows (heard_at w rows) rising
@@ -63,8 +63,8 @@ numbered n (row ∷ []) rising = tt
 numbered n (row ∷ before ∷ rows) rising =
     (omega (arith, rising.1, rising.2.0), numbered (row.datagram.line - 1) (before ∷ rows) rising.2)
 
-written_exactly : (form : Form) (wanted : WantedPorts) (w : Watched) (read : Capture) (text : List ℕ) (most : ℕ)
-    → HasReadOn (capture_begun form wanted) read text most → capture_watched wanted read.rows ≡ Some w
+written_exactly : (form : Form) (wanted : WantedPorts) (w : Watched) (read : Recording) (text : List ℕ) (most : ℕ)
+    → HasReadOn (begun form wanted) read text most → capture_watched wanted read.rows ≡ Some w
     → text ≡ texts_as form (measurements w (heard_at wanted read.rows))
 written_exactly form wanted w read text most on known =
     sym on.written

@@ -3,3 +3,5 @@ pub mod Exact
 pub mod ExactCapture
 pub mod Exchanged
 pub mod Once
+pub mod LinesRead
+pub mod PacketsRead

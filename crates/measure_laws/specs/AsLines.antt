@@ -1,13 +1,15 @@
--- The law that a capture of one interface is measured as a recording of lines is, where nothing is asked for.
--- `laws::one_interface_is_measured_as_lines` promises it.
-use Rattle.std.specs.Prelude.{◌≡◌, ℕ, List, map, None}
+-- The law that what was met at one place is measured as a recording is of which that is all.
+-- `laws::one_place_is_measured_alone` promises it.
+use Rattle.std.specs.Prelude.{◌≡◌, List, map, None}
 use Rattle.std.specs.List.{All}
-use Rattle.capture_measure.specs.declared.measuring.Form.{Form}
+use Rattle.capture_measure.specs.declared.form.Form.{Form}
 use Rattle.capture_measure.specs.declared.watch.WantedPorts.{WantedPorts}
-use Rattle.capture_measure.specs.Row.{Row}
+use Rattle.capture_measure.specs.Row.{Row, datagrams}
 use Rattle.capture_measure.specs.Measured.{written}
-use Rattle.capture_measure.specs.Interfaces.{InterfaceRow}
+use Rattle.capture_measure.specs.Places.{PlaceName, PlacedRow}
 use Rattle.capture_measure.specs.Chosen.{capture_written}
+use Rattle.capture_measure.specs.Counts.{fates_in, told_fates}
+use Rattle.capture_measure.specs.Summary.{whom_in, told_whom}
 
 -- neither a slave nor a master nor a domain is asked for
 pub record AsksForNothing (w : WantedPorts) : Type 0 where
@@ -15,12 +17,20 @@ pub record AsksForNothing (w : WantedPorts) : Type 0 where
   pub master : w.master ≡ None
   pub domain : w.domain ≡ None
 
--- the rows without their interfaces
-abbrev pub rows_of : List InterfaceRow → List Row
+-- the rows without their places
+abbrev pub rows_of : List PlacedRow → List Row
 rows_of rows = map (λ r. r.row) rows
 
--- what is written of the packets at one interface is what is written of lines with the same times, numbers and datagrams
-abbrev pub OneInterfaceIsMeasuredAsLines : Type 0
-OneInterfaceIsMeasuredAsLines =
-    (form : Form) (w : WantedPorts) (interface : List ℕ) (rows : List InterfaceRow) → AsksForNothing w
-    → All (λ r. r.interface ≡ interface) rows → capture_written form w rows ≡ written form w (rows_of rows)
+-- all were met at this place
+abbrev pub AreAt : PlaceName → List PlacedRow → Type 0
+AreAt place rows = All (λ r. r.place ≡ place) rows
+
+-- Of lines, which are met at no place of a name: what is written, whom they are of, and what comes of each, is by their datagrams
+-- alone. Of the packets at one interface what is written is, where nothing is asked for.
+pub record OnePlaceIsMeasuredAlone : Type 0 where
+  pub lines : (form : Form) (w : WantedPorts) (rows : List PlacedRow) → AreAt None rows
+      → capture_written form w rows ≡ written form w (rows_of rows)
+  pub whom : (w : WantedPorts) (rows : List PlacedRow) → AreAt None rows → told_whom w rows ≡ whom_in w (datagrams (rows_of rows))
+  pub fates : (w : WantedPorts) (rows : List PlacedRow) → AreAt None rows → told_fates w rows ≡ fates_in w (rows_of rows)
+  pub interface : (form : Form) (w : WantedPorts) (place : PlaceName) (rows : List PlacedRow) → AsksForNothing w → AreAt place rows
+      → capture_written form w rows ≡ written form w (rows_of rows)

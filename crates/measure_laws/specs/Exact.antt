@@ -11,12 +11,14 @@ use Rattle.capture_model.specs.Agreement.{Moved}
 use Rattle.capture_model.specs.Told.{Tells}
 use Rattle.capture_model.specs.Premises.{IsFresh, IsTicked, MissesFew}
 use Rattle.capture_model.specs.Exact.{Watches, IsExact}
-use Rattle.capture_measure.specs.declared.measuring.Form.{Form}
+use Rattle.capture_measure.specs.declared.form.Form.{Form}
 use Rattle.capture_measure.specs.declared.watch.WantedPorts.{WantedPorts}
 use Rattle.capture_measure.specs.Watch.{watched_in}
 use Rattle.capture_measure.specs.Row.{Row, datagrams, heard}
 use Rattle.capture_measure.specs.Measured.{texts_as, measurements}
+use Rattle.datagram_source.specs.Rules.{LinesRead, nothing_read, line_rules}
 use Rattle.capture_measure.specs.Measure.{Recording, begun, measure_rules}
+use Rattle.measure_laws.specs.AsLines.{rows_of}
 
 -- a text is that of what is measured at lines that are heard, whose reports are exact for the events that they tell
 pub record WritesExact {network : Network} {slave : NodeName} {run : Run} {moved : Moved} (master : NodeName)
@@ -31,11 +33,11 @@ pub record WritesExact {network : Network} {slave : NodeName} {run : Run} {moved
 abbrev pub EachMeasurementIsExact : Type 0
 EachMeasurementIsExact =
     (network : Network) (run : Run) (slave master : NodeName) (w : Watched) (moved : Moved) (form : Form) (wanted : WantedPorts)
-    (lines : List (List ℕ)) (read : Recording) (text : List ℕ)
+    (lines : List (List ℕ)) (read : LinesRead Recording) (text : List ℕ)
     → IsAcceptedRun network run → Watches network slave master w
-    → TakesLines measure_rules 1 lines (begun form wanted) read text
-    → watched_in wanted (datagrams read.rows) ≡ Some w
-    → (tells : Tells network slave w moved run (datagrams (heard wanted read.rows)))
+    → TakesLines (line_rules measure_rules) 1 lines (nothing_read (begun form wanted)) read text
+    → watched_in wanted (datagrams (rows_of read.state.rows)) ≡ Some w
+    → (tells : Tells network slave w moved run (datagrams (heard wanted (rows_of read.state.rows))))
     → IsFresh exact_limits.late tells → IsTicked exact_limits.between_ticks master tells
     → MissesFew exact_limits.late tells
-    → WritesExact master w (heard wanted read.rows) tells form text
+    → WritesExact master w (heard wanted (rows_of read.state.rows)) tells form text

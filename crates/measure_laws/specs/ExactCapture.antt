@@ -11,11 +11,12 @@ use Rattle.capture_model.specs.Agreement.{Moved}
 use Rattle.capture_model.specs.Told.{Tells}
 use Rattle.capture_model.specs.Premises.{IsFresh, IsTicked, MissesFew}
 use Rattle.capture_model.specs.Exact.{Watches}
-use Rattle.capture_measure.specs.declared.measuring.Form.{Form}
+use Rattle.capture_measure.specs.declared.form.Form.{Form}
 use Rattle.capture_measure.specs.declared.watch.WantedPorts.{WantedPorts}
 use Rattle.capture_measure.specs.Row.{datagrams}
 use Rattle.capture_measure.specs.Chosen.{capture_watched, heard_at}
-use Rattle.capture_measure.specs.Capture.{Capture, capture_begun, capture_rules}
+use Rattle.datagram_source.specs.Rules.{packet_rules}
+use Rattle.capture_measure.specs.Measure.{Recording, begun, measure_rules}
 use Rattle.measure_laws.specs.Exact.{WritesExact}
 
 -- Over any accepted run of a network, and packets of which those that are heard tell it at one of its slaves: what is
@@ -23,9 +24,9 @@ use Rattle.measure_laws.specs.Exact.{WritesExact}
 abbrev pub EachMeasurementOfACaptureIsExact : Type 0
 EachMeasurementOfACaptureIsExact =
     (network : Network) (run : Run) (slave master : NodeName) (w : Watched) (moved : Moved) (form : Form) (wanted : WantedPorts)
-    (packets : List PacketOf) (read : Capture) (text : List ℕ)
+    (packets : List PacketOf) (read : Recording) (text : List ℕ)
     → IsAcceptedRun network run → Watches network slave master w
-    → TakesPackets capture_rules (capture_begun form wanted) packets read text
+    → TakesPackets (packet_rules measure_rules) (begun form wanted) packets read text
     → capture_watched wanted read.rows ≡ Some w
     → (tells : Tells network slave w moved run (datagrams (heard_at wanted read.rows)))
     → IsFresh exact_limits.late tells → IsTicked exact_limits.between_ticks master tells

@@ -1,6 +1,6 @@
 //! Laws of recordings and captures that are measured: each is the contract of a function that does nothing.
 
-ghost use Rattle.measure_laws.specs.AsLines.{OneInterfaceIsMeasuredAsLines};
+ghost use Rattle.measure_laws.specs.AsLines.{OnePlaceIsMeasuredAlone};
 ghost use Rattle.measure_laws.specs.Exact.{EachMeasurementIsExact};
 ghost use Rattle.measure_laws.specs.ExactCapture.{EachMeasurementOfACaptureIsExact};
 ghost use Rattle.measure_laws.specs.EachExchange.{EachReportIsOfItsExchange};
@@ -28,10 +28,11 @@ pub fn each_measurement_of_a_capture_is_exact()
     each_report_is_exact();
 }
 
-/// Where all packets are of one interface, and nothing is asked for, what is written of a capture is what is written of lines with
-/// the times and datagrams of its packets, numbered as these are.
-pub fn one_interface_is_measured_as_lines()
-    ensures { OneInterfaceIsMeasuredAsLines }
+/// What was met at one place is measured as a recording of which that is all: of lines what is written, whom they are of and what
+/// comes of each is by their times and datagrams alone, and of the packets at one interface what is written is, where nothing is asked
+/// for.
+pub fn one_place_is_measured_alone()
+    ensures { OnePlaceIsMeasuredAlone }
 {}
 
 /// Each datagram is counted once, whatever is recorded. One that is heard, of lines or of a capture, has a reason why

@@ -8,10 +8,13 @@ use Rattle.text_lines.proofs.OneAnswer.{IsSure, answers_one}
 use Rattle.datagram_text.specs.Show.{show_rules}
 use Rattle.datagram_text.specs.Show as lines
 use Rattle.datagram_text.proofs.OneCourse.{show_course}
-use Rattle.capture_measure.specs.declared.measuring.Form.{Form}
+use Rattle.capture_measure.specs.declared.form.Form.{Form}
 use Rattle.capture_measure.specs.declared.watch.WantedPorts.{WantedPorts}
-use Rattle.capture_measure.specs.Measure.{begun, measure_rules, head_text, Measures}
-use Rattle.capture_measure.proofs.OneCourse.{measure_course}
+use Rattle.datagram_source.specs.Input.{AnswersLines}
+use Rattle.datagram_source.specs.Rules.{nothing_read, line_rules}
+use Rattle.datagram_source.proofs.OneCourse.{line_course}
+use Rattle.capture_measure.specs.Measure.{begun, measure_rules, head_text}
+use Rattle.capture_measure.proofs.OneCourse.{measure_sole}
 use Rattle.transcript_text.specs.Fault.{of_line, kind_at, line_kind}
 use Rattle.transcript_text.specs.OneAnswer.{IsOfInput, HasOneAnswer}
 use Rattle.transcript_text.proofs.OneAnswer.{IsDevicesBy, sure_cause, says_one}
@@ -29,10 +32,10 @@ lines_one octets left before after left' before' after' answer answer' says says
     answers_one show_rules tt (IsDevicesBy of_line) (show_course (IsDevicesBy of_line) tt tt) octets left before after left' before' after' answer answer' says says'
     (is_sure answer sure) (is_sure answer' sure')
 
-pub measures_one : (form : Form) (wanted : WantedPorts) → HasOneAnswer line_kind (Measures form wanted)
+pub measures_one : (form : Form) (wanted : WantedPorts) → HasOneAnswer line_kind (AnswersLines measure_rules (head_text form) (begun form wanted))
 measures_one form wanted octets left before after left' before' after' answer answer' (headed, head, says) (headed', head', says') sure sure' =
-    let course = measure_course (IsDevicesBy of_line) tt tt in
-    let same = answers_one measure_rules (begun form wanted) (IsDevicesBy of_line) course octets left headed after left' headed' after' answer answer' says says'
+    let course = line_course measure_rules (IsDevicesBy of_line) (measure_sole (IsDevicesBy of_line) tt tt) in
+    let same = answers_one (line_rules measure_rules) (nothing_read (begun form wanted)) (IsDevicesBy of_line) course octets left headed after left' headed' after' answer answer' says says'
     (is_sure answer sure) (is_sure answer' sure') in
     let (text, out, out') = same.2 in (
       same.0,

@@ -1,7 +1,8 @@
 //! What follows from the definitions alone, for any octets.
-ghost use Rattle.capture_measure.specs.declared.measuring.Form.{Form};
+ghost use Rattle.capture_measure.specs.declared.form.Form.{Form};
 ghost use Rattle.capture_measure.specs.declared.watch.WantedPorts.{WantedPorts};
-ghost use Rattle.capture_measure.specs.Measure.{Measures};
+ghost use Rattle.capture_measure.specs.Measure.{begun, head_text, measure_rules};
+ghost use Rattle.datagram_source.specs.Input.{AnswersLines};
 ghost use Rattle.datagram_text.specs.Show as lines;
 ghost use Rattle.schedule_replay.specs.Show.{Shows};
 ghost use Rattle.transcript_text.specs.CheckText.{Checks};
@@ -24,5 +25,5 @@ pub fn octets_have_one_answer()
     ensures show_lines { HasOneAnswer line_kind lines.Shows }
     ensures replay { HasOneAnswer kind_at Replays }
     ensures check_text { HasOneAnswer kind_at Checks }
-    ensures measure { (form : Form) (wanted : WantedPorts) → HasOneAnswer line_kind (Measures form wanted) }
+    ensures measure { (form : Form) (wanted : WantedPorts) → HasOneAnswer line_kind (AnswersLines measure_rules (head_text form) (begun form wanted)) }
 {}
