@@ -1,5 +1,5 @@
 -- Lines have one answer, but for faults of the writer and of memory.
-use Rattle.std.proofs.Common.{◌≡◌, ◌∙◌, ℕ, List, ◌++◌, true, Option, Some, None, Result, Ok, Err, inl, inr, refl, sym, ap, subst}
+use Rattle.std.proofs.Common.{◌≡◌, ◌∙◌, ℕ, List, ◌++◌, true, Option, Some, None, Result, Ok, Err, inl, inr, sym, ap, subst}
 use Rattle.std.specs.Prelude.{⊤}
 use Rattle.std.proofs.KnownBytes.{Appends-trans}
 use Rattle.text_lines.specs.declared.fault.Cause.{Cause}
@@ -13,10 +13,10 @@ use Rattle.tap_following.specs.declared.follower.Arrival.TheVariants as arrivals
 use Rattle.tap_following.specs.Course.{Course, arrival_of, begun}
 use Rattle.tap_follow.specs.declared.fault.FollowFault.{FollowFault}
 use Rattle.tap_follow.specs.declared.fault.FollowFault.TheVariants.{Write, Field, Memory, ThirdTap}
-use Rattle.datagram_source.specs.Datagram.{PlaceOf, DatagramOf, IsTapDatagram}
+use Rattle.datagram_source.specs.Datagram.{PlaceOf, Line, DatagramOf, IsTapDatagram}
 use Rattle.datagram_source.specs.Rules.{nothing_read, line_rules}
 use Rattle.datagram_source.proofs.OneCourse.{IsSole, line_course}
-use Rattle.tap_follow.specs.Datagram.{IsTapAt, HasNoTap, met_in}
+use Rattle.tap_follow.specs.Datagram.{IsTapAt, met_in}
 use Rattle.tap_follow.specs.Fault.{is_write}
 use Rattle.tap_follow.specs.Input.{head_text}
 use Rattle.tap_follow.specs.OneAnswer.{IsOfInput, IsSure, LinesHaveOneAnswer}
@@ -44,8 +44,8 @@ one_taking arrivals.Elsewhere tap d c one other text text' h k = (k.0 ∙ sym h.
 one_taking arrivals.Third tap d c one other text text' h k = absurd h
 
 -- a datagram of a line has a tap
-has_tap : (number : ℕ) (line : List ℕ) (d : DatagramOf) → IsTapDatagram number line d → HasNoTap d.place → ⊥
-has_tap number line d is none = none is.tap (subst (λ (p : PlaceOf). IsTapAt p is.tap) (sym is.timed.placed) refl)
+has_tap : (number : ℕ) (line : List ℕ) (d : DatagramOf) → IsTapDatagram number line d → d.place ≡ Line → ⊥
+has_tap number line d is none = cc (none, is.timed.placed)
 
 one_taken : (number : ℕ) (line : List ℕ) (d : DatagramOf) (c one other : Course) (text text' : List ℕ) → IsTapDatagram number line d
     → TakesDatagram d c one text → TakesDatagram d c other text' → (other ≡ one) × (text' ≡ text)
@@ -62,7 +62,7 @@ no_third number line d c later text tap is (inl (tap', at', takes)) at third =
     let same = one_tap number line d tap tap' is at at' in
     subst (λ (a : Arrival). TakesAt a tap d c later text) third
     (subst (λ (t : List ℕ). TakesAt (arrival_of c t) t d c later text) same takes)
-no_third number line d c later text tap is (inr none) at third = none.0 tap at
+no_third number line d c later text tap is (inr none) at third = absurd (has_tap number line d is none.0)
 
 -- ---- a datagram of a line, and the end, stop at one thing, but for faults of devices and of memory
 abbrev IsDevice : FollowFault → Type 0

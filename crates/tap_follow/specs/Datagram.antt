@@ -27,7 +27,3 @@ abbrev pub IsTapAt : PlaceOf → List ℕ → Type 0
 IsTapAt Line tap = ⊥
 IsTapAt (Tap name) tap = tap ≡ name
 IsTapAt (Interface interface) tap = IsTapOf interface tap
-
--- a place is no tap
-abbrev pub HasNoTap : PlaceOf → Type 0
-HasNoTap place = (tap : List ℕ) → IsTapAt place tap → ⊥

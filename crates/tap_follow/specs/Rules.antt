@@ -1,7 +1,7 @@
 -- What `follow` makes of datagrams.
 use Rattle.std.specs.Prelude.{◌≡◌, ◌≢◌, ◌⊎◌, ℕ, List, [], Option, Some, None}
 use Rattle.datagram_source.specs.declared.lines.LineForm.TheVariants.{AtTaps}
-use Rattle.datagram_source.specs.Datagram.{DatagramOf}
+use Rattle.datagram_source.specs.Datagram.{Line, DatagramOf}
 use Rattle.datagram_source.specs.Rules.{DatagramRules}
 use Rattle.tap_choice.specs.declared.met.Met.{Met}
 use Rattle.tap_choice.specs.declared.met.Side.{Side}
@@ -10,7 +10,7 @@ use Rattle.tap_following.specs.declared.follower.Arrival.TheVariants as arrivals
 use Rattle.tap_following.specs.Course.{Course, arrival_of, with_tap, after, ended, new_text, end_text}
 use Rattle.tap_follow.specs.declared.fault.FollowFault.{FollowFault}
 use Rattle.tap_follow.specs.declared.fault.FollowFault.TheVariants.{Write, Field, Memory, ThirdTap}
-use Rattle.tap_follow.specs.Datagram.{met_in, IsTapAt, HasNoTap}
+use Rattle.tap_follow.specs.Datagram.{met_in, IsTapAt}
 use Rattle.tap_follow.specs.Fault.{is_write, keeps, fault_of}
 
 -- this message, if it is one, changes a course so, and this is written
@@ -24,12 +24,12 @@ TakesAt (arrivals.At side) tap d c later out = Changes (met_in side d) (with_tap
 TakesAt arrivals.Elsewhere tap d c later out = (later ≡ with_tap tap c) × (out ≡ [])
 TakesAt arrivals.Third tap d c later out = ⊥
 
--- A datagram is taken: it changes a course so, and this is written. One that was met at no tap, which no line and no packet of
--- an input gives, changes nothing.
+-- A datagram is taken: it changes a course so, and this is written. One whose line tells no place changes nothing; lines
+-- at taps give none such.
 abbrev pub TakesDatagram : DatagramOf → Course → Course → List ℕ → Type 0
 TakesDatagram d c later out =
     ((tap : List ℕ) × IsTapAt d.place tap × TakesAt (arrival_of c tap) tap d c later out)
-    ⊎ (HasNoTap d.place × (later ≡ c) × (out ≡ []))
+    ⊎ ((d.place ≡ Line) × (later ≡ c) × (out ≡ []))
 
 -- why a datagram isn't taken: the tap is a third one; or its message changes what is written, and the writer failed; or it has a
 -- message, at one of the two taps, and memory was refused, and nothing of that went out

@@ -2,8 +2,8 @@
 ghost use Rattle.std.specs.Prelude.{◌≡◌, Some, IsSome, IfSome, MatchOption};
 ghost use Rattle.capture_file.specs.Name.{place_text};
 ghost use Rattle.capture_file.specs.Packet.{interface_of};
-ghost use Rattle.datagram_source.specs.Datagram.{place_of};
-ghost use Rattle.tap_follow.specs.Datagram.{IsTapAt, HasNoTap, IsTapOf};
+ghost use Rattle.datagram_source.specs.Datagram.{Line, place_of};
+ghost use Rattle.tap_follow.specs.Datagram.{IsTapAt, IsTapOf};
 
 use capture_file::Interface;
 use datagram_source::Place;
@@ -38,7 +38,7 @@ fn tap_of(interface: &Interface<'_>) -> Option<TapName>
 
 /// The tap that a place is, if it is one.
 pub(crate) fn tap_met(place: &Place<'_>) -> Option<TapName>
-    ensures { MatchOption result (HasNoTap (place_of place.now)) (λ name. IsTapAt (place_of place.now) name) }
+    ensures { MatchOption result (place_of place.now ≡ Line) (λ name. IsTapAt (place_of place.now) name) }
 {
     match place {
         Place::Line => None,
