@@ -1,17 +1,13 @@
 -- What comes of rows, with one more.
-use Rattle.std.proofs.Common.{◌≡◌, ◌∙◌, List, [], ◌∷◌, ◌++◌, length, drop, Option, Some, None, refl, sym, ap, arith}
+use Rattle.std.proofs.Common.{◌≡◌, List, [], ◌∷◌, Option, Some, None, refl, sym, ap}
 use Rattle.std.specs.Prelude.{option_to_list}
-use Rattle.std.specs.Option.{option_map_or}
-use Rattle.std.proofs.Math.ListN.{drop_of_length-le}
 use Rattle.capture_model.specs.declared.watched.Watched.{Watched}
 use Rattle.capture_model.specs.Listening.{after_all}
 use Rattle.capture_model.specs.Recorded.{Recorded}
 use Rattle.capture_measure.specs.Made.{Measured}
-use Rattle.capture_measure.specs.declared.watch.WantedPorts.{WantedPorts}
-use Rattle.capture_measure.specs.Watch.{watched_in}
-use Rattle.capture_measure.specs.Row.{Row, datagrams, heard}
+use Rattle.capture_measure.specs.Row.{Row, datagrams}
 use Rattle.capture_measure.specs.Measured.{measured_at}
-use Rattle.capture_measure.specs.Counts.{Fate, fate_in, fate_at, fates, early_fate, early_fates, fates_in}
+use Rattle.capture_measure.specs.Counts.{fate_in, fate_at}
 
 -- ---- what is measured at a row
 abbrev head_or : {T : Type 0} → T → List T → T

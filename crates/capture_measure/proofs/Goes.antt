@@ -1,18 +1,17 @@
 -- What goes out of a recording before a fault.
-use Rattle.std.proofs.Common.{◌≡◌, ◌∙◌, ◌+◌, ◌<◌, ℕ, Bool, true, false, List, [], ◌∷◌, ◌++◌, length, map, drop, get_or}
-use Rattle.std.proofs.Common.{Option, Result, Vec, Global, Ok, Err, refl, sym, ap, subst}
-use Rattle.std.specs.Prelude.{MatchResult, OnOk, option_to_list}
+use Rattle.std.proofs.Common.{◌≡◌, ◌∙◌, ℕ, Bool, true, false, List, [], ◌∷◌, ◌++◌}
+use Rattle.std.proofs.Common.{Option, Result, Ok, Err, refl, sym, ap, subst}
 use Rattle.std.specs.Io.KnownBytes.{Appends}
 use Rattle.std.proofs.KnownBytes.{Appends-nil, Appends-trans}
-use Rattle.std.proofs.lemmas.List.{append_assoc, append-nil, drop_more}
+use Rattle.std.proofs.lemmas.List.{append_assoc, append-nil}
 use Rattle.text_lines.specs.Task.{WentOut}
 use Rattle.text_lines.specs.declared.line_fault.LineFault.{LineFault}
 use Rattle.text_lines.specs.declared.line_fault.LineFault.TheVariants.{Write, Field, Memory}
 use Rattle.text_lines.specs.Fault.{is_write}
 use Rattle.capture_measure.specs.Made.{Measured}
 use Rattle.capture_measure.specs.declared.form.Form.{Form}
-use Rattle.capture_measure.specs.Measured.{text_as, texts_as, measured_at, measurements, GoesWhole}
-use Rattle.capture_measure.specs.Inner.Hearing.{IsOfOutput, GoesAtOnce, MayLeave, Goes, GoesUntil}
+use Rattle.capture_measure.specs.Measured.{text_as, texts_as, GoesWhole}
+use Rattle.capture_measure.specs.Inner.Hearing.{GoesAtOnce, MayLeave, Goes, GoesUntil}
 
 went_on : {A B : Type 0} (of_writer : Bool) → (A → B) → WentOut of_writer A → WentOut of_writer B
 went_on true f known = tt

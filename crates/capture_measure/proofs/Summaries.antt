@@ -1,7 +1,7 @@
 -- What is told at the end, by what is kept.
-use Rattle.std.proofs.Common.{◌≡◌, ◌∙◌, ℕ, zero, suc, ◌+◌, ◌<◌, Bool, true, false, List, [], ◌∷◌, length, map, Option, Some, None}
+use Rattle.std.proofs.Common.{◌≡◌, ◌∙◌, ℕ, zero, suc, ◌<◌, Bool, true, false, List, [], ◌∷◌, length, map, Option, Some, None}
 use Rattle.std.proofs.Common.{refl, sym, ap, subst, arith}
-use Rattle.std.specs.Prelude.{get_or, slice_get, option_map, option_and_then, if◌then◌else◌}
+use Rattle.std.specs.Prelude.{get_or, slice_get, option_map, if◌then◌else◌}
 use Rattle.std.specs.Option.{option_map_or}
 use Rattle.measure_summary.specs.declared.counts.Counts.{Counts}
 use Rattle.measure_summary.specs.declared.whom.Whom.{Whom}
@@ -22,7 +22,6 @@ use Rattle.capture_measure.specs.Inner.Recordings.{AreRecordings, IsFoundAt}
 use Rattle.capture_measure.specs.Inner.Stages.{capture_whom}
 use Rattle.capture_measure.specs.Inner.Watching.{whom_of}
 use Rattle.capture_measure.proofs.CaptureFates.{so_far_known}
-use Rattle.capture_measure.proofs.KeptRows.{one_there as one_at}
 use Rattle.capture_measure.proofs.Watches.{whom_known}
 
 -- ---- which place is measured

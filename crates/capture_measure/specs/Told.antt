@@ -1,5 +1,5 @@
 -- What is told of an input beside its reports.
-use Rattle.std.specs.Prelude.{◌≡◌, ℕ, List, Option, Some, None, option_map, option_and_then, slice_get}
+use Rattle.std.specs.Prelude.{◌≡◌, ℕ, List, Option, None, option_map, option_and_then, slice_get}
 use Rattle.measure_summary.specs.declared.counts.Counts.{Counts}
 use Rattle.measure_summary.specs.declared.whom.Whom.{Whom}
 use Rattle.capture_measure.specs.declared.input.Summary.{Summary}

@@ -89,8 +89,14 @@ pub fn measure<R: Read, W: Write, E: Write>(
     ensures failures { OutcomeFailed measure_rules result.0 input.old input.new output.old output.new }
 {
     let task = Measuring::new(alloc, wanted, form);
-    let (outcome, task, packets) =
-        answer_datagrams(alloc, form.head(), task, input, output, errors);
+    let (outcome, task, packets) = answer_datagrams(
+        alloc,
+        form.head(),
+        task,
+        input,
+        output,
+        errors,
+    );
     let summary = Summary {
         whom: task.whom(),
         counts: task.counts(),

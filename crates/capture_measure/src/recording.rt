@@ -133,11 +133,7 @@ pub(crate) struct Recording {
 
 impl Recording {
     /// Before its first datagram.
-    fn new(
-        alloc: Global,
-        wanted: &WantedPorts,
-        met: &Met<'_>,
-    ) -> Result<Recording, AllocError>
+    fn new(alloc: Global, wanted: &WantedPorts, met: &Met<'_>) -> Result<Recording, AllocError>
         ensures { IfOk result (λ recording. IsFresh wanted.now (name_in (place_of met.now)) recording) }
     {
         Ok(Recording {

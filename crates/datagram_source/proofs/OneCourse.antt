@@ -1,5 +1,5 @@
 -- Lines have one course where a task does one thing with each datagram, but for faults of devices and of memory.
-use Rattle.std.proofs.Common.{◌≡◌, ◌∙◌, ℕ, ◌+◌, List, take, true, Option, None, Ok, Err, inl, inr, sym, ap, subst}
+use Rattle.std.proofs.Common.{◌≡◌, ◌∙◌, ℕ, ◌+◌, List, take, true, None, Ok, Err, inl, inr, sym, ap, subst}
 use Rattle.std.specs.Option.{option_map_or}
 use Rattle.text_lines.specs.declared.line_fault.LineFault.TheVariants.{Field, Memory}
 use Rattle.text_lines.proofs.OneAnswer.{HasOneCourse}

@@ -1,5 +1,5 @@
 -- A datagram, by the line or the packet that tells it.
-use Rattle.std.specs.Prelude.{◌≡◌, ℕ, List, Some, Result, Ok, Err}
+use Rattle.std.specs.Prelude.{◌≡◌, ℕ, List, Some, Ok}
 use Rattle.hex.specs.Hex.{decode_of}
 use Rattle.ptp_units.specs.Moment.{moment}
 use Rattle.event_codec.specs.Reading.{Reading, IsReading}

@@ -62,7 +62,11 @@ fn form_of(options: &MeasureOptions) -> Form
 }
 
 /// Says of lines that there are none, and that an interface was asked for in vain.
-fn tell_lines<E: Write>(outcome: &InputOutcome<LineFault>, is_interface_asked: bool, errors: &mut E) {
+fn tell_lines<E: Write>(
+    outcome: &InputOutcome<LineFault>,
+    is_interface_asked: bool,
+    errors: &mut E,
+) {
     let InputOutcome::Lines(answer) = outcome else {
         return;
     };

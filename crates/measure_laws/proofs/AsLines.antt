@@ -2,7 +2,6 @@
 use Rattle.std.proofs.Common.{◌≡◌, ◌∙◌, ℕ, suc, nat_le, Bool, true, false, ◌||◌, ◌&&◌, not, List, [], ◌∷◌, ◌++◌, length, drop}
 use Rattle.std.proofs.Common.{Option, Some, None, refl, sym, ap, arith}
 use Rattle.std.specs.Prelude.{if◌then◌else◌, is_some, option_map, option_and_then}
-use Rattle.std.specs.List.{All}
 use Rattle.std.specs.Option.{option_or, option_map_or}
 use Rattle.std.proofs.Math.ListN.{drop_of_length-le}
 use Rattle.std.proofs.lemmas.List.{length-map}
@@ -13,7 +12,7 @@ use Rattle.capture_measure.specs.declared.watch.WantedPorts.{WantedPorts}
 use Rattle.capture_measure.specs.declared.form.Form.{Form}
 use Rattle.capture_measure.specs.Made.{Measured}
 use Rattle.capture_measure.specs.Watch.{watched_in}
-use Rattle.capture_measure.specs.Row.{Row, datagrams, is_known, heard, kept_most}
+use Rattle.capture_measure.specs.Row.{Row, datagrams, heard, kept_most}
 use Rattle.capture_measure.specs.Measured.{texts_as, measurements, written}
 use Rattle.capture_measure.specs.Places.{PlaceName, PlacedRow, rows_at, rows_looked_at, is_among, places_in, places_most}
 use Rattle.capture_measure.specs.Chosen.{is_domain_met, is_port_met, is_met, is_enough, watched_at, chosen_by, chosen, heard_with, heard_at}

@@ -1,9 +1,8 @@
 -- Lines that were read took a recording on, and are met at no place of a name.
 use Rattle.std.proofs.Common.{◌≡◌, ◌∙◌, ◌+◌, ℕ, List, [], ◌∷◌, ◌++◌, length, None, sym, ap, subst, arith}
 use Rattle.std.specs.Prelude.{⊤}
-use Rattle.std.specs.List.{All}
 use Rattle.std.proofs.lemmas.List.{append_assoc, append-nil}
-use Rattle.std.proofs.lemmas.List.Elements.{All-nil, All-cons}
+use Rattle.std.proofs.lemmas.List.Elements.{All-cons}
 use Rattle.text_lines.specs.Task.{TakesLines}
 use Rattle.datagram_source.specs.Rules.{LinesRead, line_rules}
 use Rattle.capture_measure.specs.Places.{PlacedRow, name_in}

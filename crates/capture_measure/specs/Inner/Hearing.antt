@@ -1,13 +1,9 @@
 -- What becomes of a datagram that a port hears, and what goes out of it.
-use Rattle.std.specs.Prelude.{◌≡◌, ◌≢◌, ℕ, ⊤, List, [], ◌++◌, Ok, Err, Option, Result, MatchResult, option_map}
+use Rattle.std.specs.Prelude.{◌≡◌, ◌≢◌, ℕ, ⊤, List, [], ◌++◌, Option, Result, MatchResult, option_map}
 use Rattle.std.specs.Prelude.{option_and_then}
 use Rattle.std.specs.Option.{option_map_or}
 use Rattle.std.specs.Result.{result_ok}
 use Rattle.std.specs.Io.KnownBytes.{Appends}
-use Rattle.event_codec.specs.declared.message.Message.{Message}
-use Rattle.event_codec.specs.declared.refusal.DecodeRefusal.{DecodeRefusal}
-use Rattle.event_codec.specs.Packet.{contents}
-use Rattle.event_codec.specs.Reading.{Reading}
 use Rattle.slave_port.specs.declared.heard.Report.{Report}
 use Rattle.text_lines.specs.declared.line_fault.LineFault.{LineFault}
 use Rattle.text_lines.specs.declared.line_fault.LineFault.TheVariants.{Write, Field, Memory}

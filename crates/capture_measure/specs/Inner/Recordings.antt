@@ -17,7 +17,6 @@ use Rattle.capture_measure.specs.Places.{PlaceName, PlacedRow, rows_at, is_among
 use Rattle.capture_measure.specs.Chosen.{is_domain_met, is_port_met}
 use Rattle.capture_measure.specs.Counts.{early_at, IsCounts}
 use Rattle.capture_measure.specs.Told.{place_in}
-use Rattle.capture_measure.specs.Inner.Hearing.{recorded_of}
 use Rattle.capture_measure.specs.Inner.Watching.{IsWatch}
 
 -- a row is that of what was kept of its datagram

@@ -1,5 +1,5 @@
 -- Whom an input is of, by what is kept of it.
-use Rattle.std.specs.Prelude.{ℕ, List, Option, None, option_map, slice_get}
+use Rattle.std.specs.Prelude.{List, Option, None, option_map, slice_get}
 use Rattle.measure_summary.specs.declared.whom.Whom.{Whom}
 use Rattle.capture_measure.specs.declared.measuring.Stage.{Stage}
 use Rattle.capture_measure.specs.declared.measuring.Stage.TheVariants.{Looking, Hearing}
