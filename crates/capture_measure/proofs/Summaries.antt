@@ -43,21 +43,6 @@ pub is_looking : (w : WantedPorts) (rows : List PlacedRow) (known : List Recordi
 is_looking w rows known (Looking count) (none, are, few) other = (none, are)
 is_looking w rows known (Hearing index listener) is other = absurd (other index listener refl)
 
--- ---- once it is known
-pub whom_chosen : (w : WantedPorts) (rows : List PlacedRow) (place : PlaceName) (whom : Whom) → chosen w rows ≡ Some place
-    → Some whom ≡ capture_whom w rows → whom ≡ told_whom w rows
-whom_chosen w rows place whom is of =
-    ap (λ (o : Option Whom). option_map_or (λ x. x) o whom)
-    (of ∙ ap (option_map (λ i. whom_in w (datagrams (rows_at i rows)))) is)
-    ∙ sym (ap (λ (o : Option PlaceName). whom_in w (datagrams (option_map_or (λ i. rows_at i rows) o (rows_looked_at None rows)))) is)
-
-pub counts_chosen : (w : WantedPorts) (rows : List PlacedRow) (place : PlaceName) (counts : Counts) → chosen w rows ≡ Some place
-    → CountsSoFar w (chosen w rows) rows counts → IsCounts (told_fates w rows) counts
-counts_chosen w rows place counts is so_far =
-    subst (λ (all : List Fate). IsCounts all counts)
-    (sym (ap (λ (o : Option PlaceName). option_map_or (λ i. capture_fates w i rows) o (early_at w None (rows_looked_at None rows))) is))
-    (so_far_known w rows place counts is so_far)
-
 -- ---- while it isn't
 module _ (w : WantedPorts) (rows : List PlacedRow) (none : chosen w rows ≡ None) where
   whom_unchosen : told_whom w rows ≡ whom_in w (datagrams (rows_looked_at None rows))
@@ -71,23 +56,10 @@ module _ (w : WantedPorts) (rows : List PlacedRow) (none : chosen w rows ≡ Non
       → rows_looked_at None rows ≡ (if there then rows_at None rows else [])
   rows_looked there is = ap (λ b. if b then rows_at None rows else []) is
 
-  pub whom_nowhere : is_among None (places_in rows) ≡ false → told_whom w rows ≡ whom_in w []
-  whom_nowhere is = whom_unchosen ∙ ap (λ (rs : List Row). whom_in w (datagrams rs)) (rows_looked false is)
-
-  pub fates_nowhere : is_among None (places_in rows) ≡ false → told_fates w rows ≡ []
-  fates_nowhere is = fates_unchosen ∙ ap (early_at w None) (rows_looked false is)
-
   module _ (known : List Recording) (are : AreRecordings w rows known) (index : ℕ)
       (found : IsFoundAt None (map place_in known) (Some index) known) where
     among : is_among None (places_in rows) ≡ true
     among = ap (is_among None) (sym are.places) ∙ found.0
-
-    pub whom_there : (d : Recording) → whom_of (get_or known index d).watch ≡ told_whom w rows
-    whom_there d =
-        whom_known w (datagrams (rows_at (place_in (get_or known index d)) rows)) (get_or known index d).watch
-        (are.each index d found.1).noticed.watch
-        ∙ ap (λ (i : PlaceName). whom_in w (datagrams (rows_at i rows))) (found.2 d)
-        ∙ sym (whom_unchosen ∙ ap (λ (rs : List Row). whom_in w (datagrams rs)) (rows_looked true among))
 
     pub counts_there : (d : Recording) → IsCounts (told_fates w rows) (get_or known index d).early.counts
     counts_there d =
