@@ -1,11 +1,10 @@
 """What `ptpx measure` owes for a capture, written apart from it: at which interface it measures, which datagrams are heard there, and what it tells of
 that at the end. The rules are those of FORMATS.md, and the packets those that reading.py finds."""
-import collections
 import typing
 
 import measured
 import shown
-from texts import counted, escaped, listed, port, seconds
+from texts import counted, escaped, port, seconds
 
 # How many datagrams are kept until it is known whom to watch, and how many interfaces are looked at.
 KEPT, LOOKED_AT = 1_024, 16
@@ -109,19 +108,9 @@ class Choice:
                     yield f'at {escaped(place)}:'
                 yield from measured.whom(watch_of(self.wanted, datagrams), 'packet')
                 yield from summary(None, datagrams, [])
-                yield from callers(self.wanted, datagrams)
+                yield from measured.callers(self.wanted, [it.said for it in datagrams if it.is_message()])
         if self.others:
             yield f'{counted(self.others, "datagram")} at other interfaces, which weren\'t looked at'
-
-
-def callers(wanted, datagrams):
-    """Who sent Syncs and Delay_Reqs, where the master or the slave that is asked for sent no message."""
-    messages = [it.said for it in datagrams if it.is_message()]
-    for asked, kind in (wanted.master, 'Sync'), (wanted.slave, 'Delay_Req'):
-        if asked is None or any(said.source == asked for said in messages):
-            continue
-        sources = collections.Counter(port(said.source) for said in messages if said.kind == kind)
-        yield f'{kind}s of others: {listed(sources)}' if sources else f'nobody sent a {kind}'
 
 
 def summary(watched, early, heard):

@@ -440,6 +440,15 @@ def whom(watch, unit='line'):
             yield f'{name} {printed}, ' + (f'told by {unit} {line}' if line else 'as asked for')
 
 
+def callers(given, said):
+    """Of messages who sent Syncs and Delay_Reqs, where the master or the slave that is asked for sent none."""
+    for asked, kind in (given.master, 'Sync'), (given.slave, 'Delay_Req'):
+        if asked is None or any(it.source == asked for it in said):
+            continue
+        sources = collections.Counter(texts.port(it.source) for it in said if it.kind == kind)
+        yield f'{kind}s of others: {texts.listed(sources)}' if sources else f'nobody sent a {kind}'
+
+
 def summary(counts, reads, written, became, unit='line'):
     """What is told at the end: of reads the times, in order, and what was said; of reports what they are of; of messages what became of them."""
     for sentence in worth.beware(unit, counts, reads, written, became):
@@ -485,7 +494,10 @@ def reckoned(lines, given=Options(), unit='line'):
     counts.update(one.said if isinstance(one.said, str) else f'{one.said.kind} too early' for one in early + kept)
     reports, became = (measurer.reports, measurer.became) if measurer else ([], [])
     those, told = list(whom(watch, unit)), list(summary(counts.copy(), reads, reports, became, unit))
-    return Reckoned(written, counts, those, told) if measurer else Reckoned(written, counts, [], those + told)
+    if measurer and reads:
+        return Reckoned(written, counts, those, told)
+    messages = [said for _, said in reads if not isinstance(said, str)]
+    return Reckoned(written, counts, [], those + told + (list(callers(given, messages)) if reads else []))
 
 
 def measured(text, given=Options()):
