@@ -14,7 +14,7 @@ use Rattle.capture_measure.specs.Row.{Row, datagrams, kept_most}
 use Rattle.capture_measure.specs.Measured.{measured_at, measurements}
 use Rattle.capture_measure.specs.Places.{PlaceName, PlacedRow, is_same_place, rows_at, is_among, places_in}
 use Rattle.capture_measure.specs.Chosen.{tells, is_domain_met, is_port_met, is_met, is_enough, watched_at, chosen_by, chosen}
-use Rattle.capture_measure.specs.Chosen.{heard_with, heard_at, capture_watched, capture_measured}
+use Rattle.capture_measure.specs.Chosen.{heard_with, heard_at, input_watched, input_measured}
 use Rattle.capture_measure.proofs.Told.{watched-stays}
 
 -- ---- what was met stays so
@@ -71,9 +71,9 @@ module _ (w : WantedPorts) (rows : List PlacedRow) (r : PlacedRow) where
   pub chosen-stays : (place : PlaceName) → chosen w rows ≡ Some place → chosen w (r ∷ rows) ≡ Some place
   chosen-stays place is = ap (λ o. option_or o (chosen_by w r rows)) is
 
-  pub capture-stays : (place : PlaceName) (watched : Watched) → chosen w rows ≡ Some place
-      → capture_watched w rows ≡ Some watched → capture_watched w (r ∷ rows) ≡ Some watched
-  capture-stays place watched is known =
+  pub input-stays : (place : PlaceName) (watched : Watched) → chosen w rows ≡ Some place
+      → input_watched w rows ≡ Some watched → input_watched w (r ∷ rows) ≡ Some watched
+  input-stays place watched is known =
       ap (option_and_then (λ i. watched_at w i (datagrams (rows_at i (r ∷ rows))))) (chosen-stays place is)
       ∙ rows_more place r rows w watched (is_same_place place r.place)
       (sym (ap (option_and_then (λ i. watched_at w i (datagrams (rows_at i rows)))) is) ∙ known)
@@ -115,17 +115,17 @@ module _ (w : WantedPorts) (rows : List PlacedRow) (r : PlacedRow) where
       ap (λ o. if is_among r.place (places_in (r ∷ rows)) && is_some o then Some r.place else None) is
       ∙ ap (λ b. if b && true then Some r.place else None) there
 
-  pub capture-first : (watched : Watched) → chosen w (r ∷ rows) ≡ Some r.place
-      → watched_at w r.place (datagrams (rows_at r.place (r ∷ rows))) ≡ Some watched → capture_watched w (r ∷ rows) ≡ Some watched
-  capture-first watched is known =
+  pub input-first : (watched : Watched) → chosen w (r ∷ rows) ≡ Some r.place
+      → watched_at w r.place (datagrams (rows_at r.place (r ∷ rows))) ≡ Some watched → input_watched w (r ∷ rows) ≡ Some watched
+  input-first watched is known =
       ap (option_and_then (λ i. watched_at w i (datagrams (rows_at i (r ∷ rows))))) is ∙ known
 
 -- ---- what is measured
-pub measured-known : (w : WantedPorts) (rows : List PlacedRow) (watched : Watched) → capture_watched w rows ≡ Some watched
-    → capture_measured w rows ≡ measurements watched (heard_at w rows)
+pub measured-known : (w : WantedPorts) (rows : List PlacedRow) (watched : Watched) → input_watched w rows ≡ Some watched
+    → input_measured w rows ≡ measurements watched (heard_at w rows)
 measured-known w rows watched known = ap (λ o. option_map_or (λ watched. measurements watched (heard_at w rows)) o []) known
 
-pub measured-unknown : (w : WantedPorts) (rows : List PlacedRow) → chosen w rows ≡ None → capture_measured w rows ≡ []
+pub measured-unknown : (w : WantedPorts) (rows : List PlacedRow) → chosen w rows ≡ None → input_measured w rows ≡ []
 measured-unknown w rows none =
     ap (λ o. option_map_or (λ watched. measurements watched (heard_at w rows))
     (option_and_then (λ i. watched_at w i (datagrams (rows_at i rows))) o) []) none
@@ -133,29 +133,29 @@ measured-unknown w rows none =
 module _ (w : WantedPorts) (rows : List PlacedRow) (r : PlacedRow) where
   -- one more that is heard
   pub measured-more : (place : PlaceName) (watched : Watched) → chosen w rows ≡ Some place
-      → capture_watched w rows ≡ Some watched → is_same_place place r.place ≡ true
-      → capture_measured w (r ∷ rows) ≡ option_to_list (measured_at watched (heard_at w rows) r.row) ++ capture_measured w rows
+      → input_watched w rows ≡ Some watched → is_same_place place r.place ≡ true
+      → input_measured w (r ∷ rows) ≡ option_to_list (measured_at watched (heard_at w rows) r.row) ++ input_measured w rows
   measured-more place watched is known same =
-      measured-known w (r ∷ rows) watched (capture-stays w rows r place watched is known)
+      measured-known w (r ∷ rows) watched (input-stays w rows r place watched is known)
       ∙ ap (measurements watched) (heard-known w rows r place true is same)
       ∙ ap (λ (ms : List Measured). option_to_list (measured_at watched (heard_at w rows) r.row) ++ ms)
       (sym (measured-known w rows watched known))
 
   -- one at another place
   pub measured-other : (place : PlaceName) (watched : Watched) → chosen w rows ≡ Some place
-      → capture_watched w rows ≡ Some watched → is_same_place place r.place ≡ false
-      → capture_measured w (r ∷ rows) ≡ capture_measured w rows
+      → input_watched w rows ≡ Some watched → is_same_place place r.place ≡ false
+      → input_measured w (r ∷ rows) ≡ input_measured w rows
   measured-other place watched is known other =
-      measured-known w (r ∷ rows) watched (capture-stays w rows r place watched is known)
+      measured-known w (r ∷ rows) watched (input-stays w rows r place watched is known)
       ∙ ap (measurements watched) (heard-known w rows r place false is other) ∙ sym (measured-known w rows watched known)
 
   -- the one by which it is known whom the capture is of
-  pub measured-first : (watched : Watched) (heard : List Row) → chosen w rows ≡ None → capture_watched w (r ∷ rows) ≡ Some watched
-      → heard_at w (r ∷ rows) ≡ heard → capture_measured w (r ∷ rows) ≡ measurements watched heard ++ capture_measured w rows
+  pub measured-first : (watched : Watched) (heard : List Row) → chosen w rows ≡ None → input_watched w (r ∷ rows) ≡ Some watched
+      → heard_at w (r ∷ rows) ≡ heard → input_measured w (r ∷ rows) ≡ measurements watched heard ++ input_measured w rows
   measured-first watched heard none known is =
       measured-known w (r ∷ rows) watched known ∙ ap (measurements watched) is ∙ sym (append-nil (measurements watched heard))
       ∙ ap (λ (ms : List Measured). measurements watched heard ++ ms) (sym (measured-unknown w rows none))
 
   -- while it isn't known nothing is measured
-  pub measured-still : chosen w rows ≡ None → chosen w (r ∷ rows) ≡ None → capture_measured w (r ∷ rows) ≡ capture_measured w rows
+  pub measured-still : chosen w rows ≡ None → chosen w (r ∷ rows) ≡ None → input_measured w (r ∷ rows) ≡ input_measured w rows
   measured-still none still = measured-unknown w (r ∷ rows) still ∙ sym (measured-unknown w rows none)

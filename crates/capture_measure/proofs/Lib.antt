@@ -8,7 +8,7 @@ pub mod Heard
 pub mod KeptRows
 pub mod Looking
 pub mod OneCourse
-pub mod CaptureFates
+pub mod InputFates
 pub mod Chosen
 pub mod Recordings
 pub mod Rows

@@ -11,7 +11,6 @@ use Rattle.text_lines.specs.Fault.{is_write}
 use Rattle.text_lines.specs.Task.{WentOut}
 use Rattle.datagram_source.specs.declared.datagram.Datagram.{Datagram}
 use Rattle.datagram_source.specs.Datagram.{datagram_of}
-use Rattle.datagram_source.specs.Rules.{is_field}
 use Rattle.capture_measure.specs.Made.{Measured}
 use Rattle.capture_model.specs.declared.watched.Watched.{Watched}
 use Rattle.capture_model.specs.Listening.{after_all}
@@ -24,11 +23,11 @@ use Rattle.capture_measure.specs.declared.watch.WantedPorts.{WantedPorts}
 use Rattle.capture_measure.specs.Row.{Row, datagrams, kept_most}
 use Rattle.capture_measure.specs.Measured.{texts_as, measured_at}
 use Rattle.capture_measure.specs.Places.{PlaceName, PlacedRow, placed, is_same_place, rows_at, is_among, places_in}
-use Rattle.capture_measure.specs.Chosen.{is_enough, watched_at, chosen, heard_at, capture_watched, capture_measured}
+use Rattle.capture_measure.specs.Chosen.{is_enough, watched_at, chosen, heard_at, input_watched, input_measured}
 use Rattle.capture_measure.specs.Measure.{Recording as Read, with_row, measured_so_far, measure_rules}
 use Rattle.std.proofs.lemmas.Option.{slice_get-get_or}
 use Rattle.capture_measure.specs.Summary.{whom_in}
-use Rattle.capture_measure.specs.Inner.Stages.{whom_at, capture_whom}
+use Rattle.capture_measure.specs.Inner.Stages.{whom_at, input_whom}
 use Rattle.capture_measure.specs.Inner.Watching.{whom_of}
 use Rattle.capture_measure.proofs.Watches.{whom_known, whom_stays}
 use Rattle.capture_measure.specs.Inner.Measuring.{IsMeasuring, IsStage, IsHearingAt, AddsRow}
@@ -36,10 +35,10 @@ use Rattle.recording_listener.specs.StandsFor.{StandsFor}
 use Rattle.capture_measure.specs.Inner.Recordings.{AreKeptRows, AreRecordings, BeginsWith, IsFoundAt, IsNoticed}
 use Rattle.capture_measure.specs.Told.{place_in}
 use Rattle.capture_measure.specs.Counts.{early_at, IsCounts}
-use Rattle.capture_measure.proofs.CaptureFates.{none_so_far}
+use Rattle.capture_measure.proofs.InputFates.{none_so_far}
 use Rattle.capture_measure.proofs.KeptRows.{one_there}
-use Rattle.capture_measure.proofs.Chosen.{chosen-stays, capture-stays, heard-known, measured-more, measured-other}
-use Rattle.capture_measure.proofs.Chosen.{chosen-after, unlooked, unknown, known_there, capture-first, heard-first, measured-unknown, where_met}
+use Rattle.capture_measure.proofs.Chosen.{chosen-stays, input-stays, heard-known, measured-more, measured-other}
+use Rattle.capture_measure.proofs.Chosen.{chosen-after, unlooked, unknown, known_there, input-first, heard-first, measured-unknown, where_met}
 use Rattle.capture_measure.proofs.Goes.{texts-append, until_whole}
 
 -- it isn't known yet
@@ -122,7 +121,7 @@ began w rows r recordings index watched heard (Hearing at listener) within there
   watched,
   subst (λ (n : ℕ). n < length recordings) (sym here) within,
   λ d. is ∙ ap Some (sym (ap (λ (n : ℕ). place_in (get_or recordings n d)) here ∙ there d)),
-  capture-first w rows r watched is known,
+  input-first w rows r watched is known,
   subst (λ (rs : List Row). StandsFor watched listener (after_all watched (datagrams rs))) (sym same) listens,
 )
 
@@ -135,7 +134,7 @@ not_found place known (Some index) recordings is none = absurd (none index refl)
 -- ---- once it is known, those at the place are heard, and no others
 module _ (w : WantedPorts) (rows : List PlacedRow) (r : PlacedRow) (recordings : List Recording) (index : ℕ) (watched : Watched)
     (within : index < length recordings) (is : (d : Recording) → chosen w rows ≡ Some (place_in (get_or recordings index d)))
-    (known : capture_watched w rows ≡ Some watched) where
+    (known : input_watched w rows ≡ Some watched) where
   pub hears_more : (listener : Listener) → ((d : Recording) → is_same_place (place_in (get_or recordings index d)) r.place ≡ true)
       → StandsFor watched listener (after_all watched (datagrams (r.row ∷ heard_at w rows)))
       → IsStage w (r ∷ rows) recordings (Hearing index listener)
@@ -143,7 +142,7 @@ module _ (w : WantedPorts) (rows : List PlacedRow) (r : PlacedRow) (recordings :
     watched,
     within,
     λ d. chosen-stays w rows r (place_in (get_or recordings index d)) (is d),
-    one_there recordings index within (λ d. capture-stays w rows r (place_in (get_or recordings index d)) watched (is d) known),
+    one_there recordings index within (λ d. input-stays w rows r (place_in (get_or recordings index d)) watched (is d) known),
     one_there recordings index within (λ d. subst (λ (rs : List Row). StandsFor watched listener (after_all watched (datagrams rs)))
         (sym (heard-known w rows r (place_in (get_or recordings index d)) true (is d) (same d))) listens),
   )
@@ -155,18 +154,18 @@ module _ (w : WantedPorts) (rows : List PlacedRow) (r : PlacedRow) (recordings :
     watched,
     within,
     λ d. chosen-stays w rows r (place_in (get_or recordings index d)) (is d),
-    one_there recordings index within (λ d. capture-stays w rows r (place_in (get_or recordings index d)) watched (is d) known),
+    one_there recordings index within (λ d. input-stays w rows r (place_in (get_or recordings index d)) watched (is d) known),
     one_there recordings index within (λ d. subst (λ (rs : List Row). StandsFor watched listener (after_all watched (datagrams rs)))
         (sym (heard-known w rows r (place_in (get_or recordings index d)) false (is d) (other d))) listens),
   )
 
   pub measures_more : ((d : Recording) → is_same_place (place_in (get_or recordings index d)) r.place ≡ true)
-      → capture_measured w (r ∷ rows) ≡ option_to_list (measured_at watched (heard_at w rows) r.row) ++ capture_measured w rows
+      → input_measured w (r ∷ rows) ≡ option_to_list (measured_at watched (heard_at w rows) r.row) ++ input_measured w rows
   measures_more same = one_there recordings index within
       (λ d. measured-more w rows r (place_in (get_or recordings index d)) watched (is d) known (same d))
 
   pub measures_nothing : ((d : Recording) → is_same_place (place_in (get_or recordings index d)) r.place ≡ false)
-      → capture_measured w (r ∷ rows) ≡ capture_measured w rows
+      → input_measured w (r ∷ rows) ≡ input_measured w rows
   measures_nothing other = one_there recordings index within
       (λ d. measured-other w rows r (place_in (get_or recordings index d)) watched (is d) known (other d))
 
@@ -180,9 +179,9 @@ row_whom w place r rows watched true known = whom_stays w r.row.datagram (datagr
     (where_met w place (datagrams (rows_at place rows)) watched (is_enough w place (datagrams (rows_at place rows))) refl known).1
 row_whom w place r rows watched false known = refl
 
-pub capture_whom_stays : (w : WantedPorts) (rows : List PlacedRow) (r : PlacedRow) (place : PlaceName) (watched : Watched)
-    → chosen w rows ≡ Some place → capture_watched w rows ≡ Some watched → capture_whom w (r ∷ rows) ≡ capture_whom w rows
-capture_whom_stays w rows r place watched is known =
+pub input_whom_stays : (w : WantedPorts) (rows : List PlacedRow) (r : PlacedRow) (place : PlaceName) (watched : Watched)
+    → chosen w rows ≡ Some place → input_watched w rows ≡ Some watched → input_whom w (r ∷ rows) ≡ input_whom w rows
+input_whom_stays w rows r place watched is known =
     ap (option_map (λ i. whom_in w (datagrams (rows_at i (r ∷ rows))))) (chosen-stays w rows r place is)
     ∙ ap Some (row_whom w place r rows watched (is_same_place place r.place)
     (sym (ap (option_and_then (λ i. watched_at w i (datagrams (rows_at i rows)))) is) ∙ known))
@@ -192,7 +191,7 @@ capture_whom_stays w rows r place watched is known =
 pub whom_began : (w : WantedPorts) (rows : List PlacedRow) (r : PlacedRow) (recordings : List Recording) (index : ℕ)
     (watched : Watched) (heard : List Row) (stage : Stage) → AreRecordings w (r ∷ rows) recordings → index < length recordings
     → ((d : Recording) → place_in (get_or recordings index d) ≡ r.place) → chosen w (r ∷ rows) ≡ Some r.place
-    → IsHearingAt watched index heard stage → whom_at stage recordings ≡ capture_whom w (r ∷ rows)
+    → IsHearingAt watched index heard stage → whom_at stage recordings ≡ input_whom w (r ∷ rows)
 whom_began w rows r recordings index watched heard (Looking count) are within there is hearing = absurd hearing
 whom_began w rows r recordings index watched heard (Hearing at listener) are within there is (here, listens) =
     one_there recordings index within (λ d.
@@ -233,12 +232,3 @@ taken_row (Err Memory) k d new a b (is, ms, grown, goes) =
     let (left, may, out, whole, known) =
     until_whole k.form Memory ms (measured_so_far k) (measured_so_far (with_row (placed (datagram_of d)) k)) a b grown goes in
     (out, (left, whole), known)
-
--- no datagram is refused as one that isn't asked for
-pub never_field : {T : Type 0} (result : Result T LineFault) (what : LineFault) (k : Read) (d : Datagram) (new : Measuring)
-    (a b : Option (List ℕ)) → AddsRow result k d new a b → result ≡ Err what → is_field what ≡ true → ⊥
-never_field (Ok x) what k d new a b adds is field = absurd cc
-never_field (Err Write) what k d new a b adds is field = absurd cc
-never_field (Err Memory) what k d new a b adds is field = absurd cc
-never_field (Err Field) what k d new a b (is, ms, grown, goes) same field =
-    absurd (until_whole k.form Field ms (measured_so_far k) (measured_so_far (with_row (placed (datagram_of d)) k)) a b grown goes).1

@@ -27,7 +27,7 @@ use Rattle.capture_measure.specs.Places.{PlaceName, PlacedRow, is_same_place, ro
 use Rattle.capture_measure.specs.Places.{places_most}
 use Rattle.capture_measure.specs.Chosen.{tells, is_domain_met, is_port_met}
 use Rattle.capture_measure.specs.Counts.{Fate, early_at, IsCounts}
-use Rattle.capture_measure.specs.Inner.Recordings.{IsRowOf, IsMet, IsNoticed, IsFresh, AreKeptRows, IsRecording, AreRecordings}
+use Rattle.capture_measure.specs.Inner.Recordings.{IsRowOf, IsSought, IsNoticed, IsFresh, AreKeptRows, IsRecording, AreRecordings}
 use Rattle.capture_measure.specs.Told.{place_in}
 use Rattle.capture_measure.specs.Inner.Recordings.{HasAdded, IsFoundAt, KeepsMore}
 use Rattle.capture_measure.proofs.Places.{AreDistinct, distinct_in, not_among, no_rows, same_place}
@@ -62,11 +62,11 @@ port_more (Some port) d ds m old new said was is =
     ∙ or_swap (is_port_met (Some port) ds) (is_same_port m.header.source port)
     ∙ ap (λ b. b || is_port_met (Some port) ds) (sym (tells_said (λ header. is_same_port header.source port) d m said))
 
-pub IsMet-said : (w : WantedPorts) (d : Recorded) (ds : List Recorded) (m : Contents) (old new : Sought) → d.said ≡ Ok m
-    → IsMet w ds old → new.domain ≡ (old.domain || option_map_or (λ n. m.header.domain == n) w.domain false)
+pub IsSought-said : (w : WantedPorts) (d : Recorded) (ds : List Recorded) (m : Contents) (old new : Sought) → d.said ≡ Ok m
+    → IsSought w ds old → new.domain ≡ (old.domain || option_map_or (λ n. m.header.domain == n) w.domain false)
     → new.master ≡ (old.master || option_map_or (is_same_port m.header.source) w.master false)
-    → new.slave ≡ (old.slave || option_map_or (is_same_port m.header.source) w.slave false) → IsMet w (d ∷ ds) new
-IsMet-said w d ds m old new said is domain master slave = record {
+    → new.slave ≡ (old.slave || option_map_or (is_same_port m.header.source) w.slave false) → IsSought w (d ∷ ds) new
+IsSought-said w d ds m old new said is domain master slave = record {
   domain = domain_more w.domain d ds m old.domain new.domain said is.domain domain;
   master = port_more w.master d ds m old.master new.master said is.master master;
   slave = port_more w.slave d ds m old.slave new.slave said is.slave slave;

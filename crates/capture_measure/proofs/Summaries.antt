@@ -1,28 +1,21 @@
 -- What is told at the end, by what is kept.
-use Rattle.std.proofs.Common.{◌≡◌, ◌∙◌, ℕ, zero, suc, ◌<◌, Bool, true, false, List, [], ◌∷◌, length, map, Option, Some, None}
+use Rattle.std.proofs.Common.{◌≡◌, ◌∙◌, ℕ, zero, suc, ◌<◌, Bool, true, List, [], ◌∷◌, length, map, Option, Some, None}
 use Rattle.std.proofs.Common.{refl, sym, ap, subst, arith}
 use Rattle.std.specs.Prelude.{get_or, slice_get, option_map, if◌then◌else◌}
 use Rattle.std.specs.Option.{option_map_or}
-use Rattle.measure_summary.specs.declared.counts.Counts.{Counts}
-use Rattle.measure_summary.specs.declared.whom.Whom.{Whom}
 use Rattle.recording_listener.specs.declared.listener.Listener.{Listener}
 use Rattle.capture_measure.specs.declared.measuring.Stage.{Stage}
 use Rattle.capture_measure.specs.declared.measuring.Stage.TheVariants.{Looking, Hearing}
 use Rattle.capture_measure.specs.declared.recording.Recording.{Recording}
 use Rattle.capture_measure.specs.declared.watch.WantedPorts.{WantedPorts}
-use Rattle.capture_measure.specs.Row.{Row, datagrams}
+use Rattle.capture_measure.specs.Row.{datagrams}
 use Rattle.capture_measure.specs.Places.{PlaceName, PlacedRow, rows_at, rows_looked_at, is_among, places_in}
 use Rattle.capture_measure.specs.Chosen.{chosen}
-use Rattle.capture_measure.specs.Counts.{Fate, early_at, capture_fates, told_fates, IsCounts}
+use Rattle.capture_measure.specs.Counts.{Fate, early_at, input_fates, told_fates, IsCounts}
 use Rattle.capture_measure.specs.Summary.{whom_in, told_whom}
 use Rattle.capture_measure.specs.Told.{place_in, place_at}
-use Rattle.capture_measure.specs.Inner.Counting.{CountsSoFar}
 use Rattle.capture_measure.specs.Inner.Measuring.{IsStage}
 use Rattle.capture_measure.specs.Inner.Recordings.{AreRecordings, IsFoundAt}
-use Rattle.capture_measure.specs.Inner.Stages.{capture_whom}
-use Rattle.capture_measure.specs.Inner.Watching.{whom_of}
-use Rattle.capture_measure.proofs.CaptureFates.{so_far_known}
-use Rattle.capture_measure.proofs.Watches.{whom_known}
 
 -- ---- which place is measured
 at_place : (index : ℕ) (known : List Recording) (place : Option PlaceName) → index < length known
@@ -50,7 +43,7 @@ module _ (w : WantedPorts) (rows : List PlacedRow) (none : chosen w rows ≡ Non
 
   fates_unchosen : told_fates w rows ≡ early_at w None (rows_looked_at None rows)
   fates_unchosen =
-      ap (λ (o : Option PlaceName). option_map_or (λ i. capture_fates w i rows) o (early_at w None (rows_looked_at None rows))) none
+      ap (λ (o : Option PlaceName). option_map_or (λ i. input_fates w i rows) o (early_at w None (rows_looked_at None rows))) none
 
   rows_looked : (there : Bool) → is_among None (places_in rows) ≡ there
       → rows_looked_at None rows ≡ (if there then rows_at None rows else [])

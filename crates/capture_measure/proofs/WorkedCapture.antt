@@ -7,10 +7,11 @@ use Rattle.ptp_units.specs.Nanoseconds.{decimals}
 use Rattle.std.specs.Fmt.{digits}
 use Rattle.capture_measure.specs.declared.form.Form.TheVariants.{Table}
 use Rattle.capture_file.specs.Name.{called}
+use Rattle.capture_measure.specs.declared.watch.WantedPorts.{WantedPorts}
 use Rattle.capture_measure.specs.Row.{Row}
 use Rattle.capture_measure.specs.Places.{PlacedRow, places_in}
-use Rattle.capture_measure.specs.Chosen.{chosen, heard_at, capture_written}
-use Rattle.capture_measure.specs.Counts.{capture_fates}
+use Rattle.capture_measure.specs.Chosen.{chosen, heard_at, input_written}
+use Rattle.capture_measure.specs.Counts.{input_fates}
 use Rattle.measure_summary.specs.declared.no_report.NoReport.TheVariants.{OfSlave, Alone}
 use Rattle.capture_measure.proofs.Worked.{port, said, a_line, anybody}
 
@@ -70,11 +71,29 @@ unfolding digits
 no_slave = refl
 
 -- (5,000 - 3,000) / 2 ns and (5,000 + 3,000) / 2 ns
-row_written : capture_written Table anybody rows ≡ codes "8.1,1000,4000,response,8\n"
+row_written : input_written Table anybody rows ≡ codes "8.1,1000,4000,response,8\n"
 unfolding digits decimals
 row_written = refl
 
 -- of those at the tap the Delay_Resp brings the report, and those at the first interface aren't counted
-why_not : map (λ fate. fate.why) (capture_fates anybody (Some tap) rows) ≡ None ∷ Some OfSlave ∷ Some Alone ∷ []
+why_not : map (λ fate. fate.why) (input_fates anybody (Some tap) rows) ≡ None ∷ Some OfSlave ∷ Some Alone ∷ []
 unfolding digits
 why_not = refl
+
+-- ---- lines, which are met at no place of a name
+abbrev lines : List PlacedRow
+lines = map (λ it. record { place = None; row = it }) (response ∷ request ∷ sync ∷ [])
+
+measured_lines : chosen anybody lines ≡ Some None
+measured_lines = refl
+
+-- where all three are asked for the first is heard, though a slave that is asked for at an interface has to be met there
+abbrev asked_for : WantedPorts
+asked_for = record { slave = Some (port 2 0).identity; master = Some (port 1 0).identity; domain = Some 0; interface = None }
+
+heard_at_once : heard_at asked_for (record { place = None; row = sync } ∷ []) ≡ sync ∷ []
+heard_at_once = refl
+
+waits_at_the_tap : heard_at asked_for (at tap sync ∷ []) ≡ []
+unfolding digits
+waits_at_the_tap = refl

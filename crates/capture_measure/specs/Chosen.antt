@@ -1,4 +1,4 @@
--- Whom an input is of, and at which of the places at which its datagrams were met: the first at which that is known.
+-- Whom an input is of, lines or a capture, and at which of the places at which its datagrams were met: the first at which that is known.
 use Rattle.std.specs.Prelude.{ℕ, nat_le, Bool, true, false, ◌==◌, ◌&&◌, List, [], ◌∷◌, length, if◌then◌else◌, is_some}
 use Rattle.std.specs.Prelude.{Option, Some, None, option_and_then}
 use Rattle.std.specs.List.{list_any}
@@ -73,14 +73,14 @@ heard_at w [] = []
 heard_at w (r ∷ earlier) = heard_with (chosen w earlier) (chosen w (r ∷ earlier)) r earlier (heard_at w earlier)
 
 -- whom the input is of
-abbrev pub capture_watched : WantedPorts → List PlacedRow → Option Watched
-capture_watched w rows =
+abbrev pub input_watched : WantedPorts → List PlacedRow → Option Watched
+input_watched w rows =
     option_and_then (λ place. watched_at w place (datagrams (rows_at place rows))) (chosen w rows)
 
 -- all that is measured once these rows were read
-abbrev pub capture_measured : WantedPorts → List PlacedRow → List Measured
-capture_measured w rows = option_map_or (λ watched. measurements watched (heard_at w rows)) (capture_watched w rows) []
+abbrev pub input_measured : WantedPorts → List PlacedRow → List Measured
+input_measured w rows = option_map_or (λ watched. measurements watched (heard_at w rows)) (input_watched w rows) []
 
 -- all that is written of them
-abbrev pub capture_written : Form → WantedPorts → List PlacedRow → List ℕ
-capture_written form w rows = texts_as form (capture_measured w rows)
+abbrev pub input_written : Form → WantedPorts → List PlacedRow → List ℕ
+input_written form w rows = texts_as form (input_measured w rows)

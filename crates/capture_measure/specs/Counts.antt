@@ -40,7 +40,7 @@ use Rattle.capture_measure.specs.Row.{Row, datagrams, heard}
 use Rattle.capture_measure.specs.Measured.{measured_at}
 use Rattle.capture_measure.specs.Meetings.{meeting_at}
 use Rattle.capture_measure.specs.Places.{PlaceName, PlacedRow, rows_at, rows_looked_at}
-use Rattle.capture_measure.specs.Chosen.{chosen, heard_at, watched_at, capture_watched}
+use Rattle.capture_measure.specs.Chosen.{chosen, heard_at, watched_at, input_watched}
 
 -- ---- what a datagram is
 abbrev pub kind_of : Body → Kind
@@ -216,14 +216,14 @@ early_at w place (row ∷ earlier) =
     early_with (watched_at w place (datagrams (row ∷ earlier))) row.datagram (early_at w place earlier)
 
 -- what comes of the rows at the place that is measured: of those that are heard, and of those before them
-abbrev pub capture_fates : WantedPorts → PlaceName → List PlacedRow → List Fate
-capture_fates w place rows = option_map_or (λ watched. fates watched (heard_at w rows)) (capture_watched w rows) []
+abbrev pub input_fates : WantedPorts → PlaceName → List PlacedRow → List Fate
+input_fates w place rows = option_map_or (λ watched. fates watched (heard_at w rows)) (input_watched w rows) []
     ++ early_at w place (drop (length (heard_at w rows)) (rows_at place rows))
 
 -- Of which datagrams something is told: of those at the place that is measured; while none is, of those that were met at none that
 -- has a name.
 abbrev pub told_fates : WantedPorts → List PlacedRow → List Fate
-told_fates w rows = option_map_or (λ place. capture_fates w place rows) (chosen w rows) (early_at w None (rows_looked_at None rows))
+told_fates w rows = option_map_or (λ place. input_fates w place rows) (chosen w rows) (early_at w None (rows_looked_at None rows))
 
 -- ---- what the numbers are worth
 -- what is noted of it

@@ -14,7 +14,7 @@ use Rattle.capture_measure.specs.declared.form.Form.TheVariants.{Json, Table, Fu
 use Rattle.capture_measure.specs.declared.watch.WantedPorts.{WantedPorts}
 use Rattle.capture_measure.specs.Places.{PlacedRow, placed}
 use Rattle.capture_measure.specs.Measured.{GoesWhole}
-use Rattle.capture_measure.specs.Chosen.{capture_measured, capture_written}
+use Rattle.capture_measure.specs.Chosen.{input_measured, input_written}
 
 -- what is asked for, and the rows that were read, newest first
 pub record Recording : Type 0 where
@@ -28,11 +28,11 @@ begun form w = record { form = form; wanted = w; rows = [] }
 
 -- all that is measured once these were read
 abbrev pub measured_so_far : Recording → List Measured
-measured_so_far r = capture_measured r.wanted r.rows
+measured_so_far r = input_measured r.wanted r.rows
 
 -- all that is written of them
 abbrev pub written_of : Recording → List ℕ
-written_of r = capture_written r.form r.wanted r.rows
+written_of r = input_written r.form r.wanted r.rows
 
 -- after one more row
 abbrev pub with_row : PlacedRow → Recording → Recording

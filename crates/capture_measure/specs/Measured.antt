@@ -1,4 +1,4 @@
--- What is written of a recording: the reports of the lines that are heard, in order. A list of measurements has the
+-- What is written of a recording: the reports of the datagrams that are heard, in order. A list of measurements has the
 -- newest in front.
 use Rattle.std.specs.Prelude.{◌≡◌, ℕ, List, [], ◌∷◌, ◌++◌, Option, option_map, option_to_list}
 use Rattle.std.specs.Option.{option_map_or}
@@ -38,7 +38,7 @@ abbrev pub texts_as : Form → List Measured → List ℕ
 texts_as form [] = []
 texts_as form (m ∷ earlier) = texts_as form earlier ++ text_as form m
 
--- what is measured at a line, after these lines that were heard, if it brings a report
+-- what is measured at a datagram, after these that were heard, if it brings a report
 abbrev pub measured_at : Watched → List Row → Row → Option Measured
 measured_at watched earlier row = option_map
     (λ report. record {
@@ -50,7 +50,7 @@ measured_at watched earlier row = option_map
     })
     (report_at watched (datagrams earlier) row.datagram)
 
--- all that is measured at lines that are heard
+-- all that is measured at datagrams that are heard
 abbrev pub measurements : Watched → List Row → List Measured
 measurements watched [] = []
 measurements watched (row ∷ earlier) = option_to_list (measured_at watched earlier row) ++ measurements watched earlier

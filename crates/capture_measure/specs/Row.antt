@@ -1,4 +1,4 @@
--- The datagrams of a recording, and those of them that are heard, where all were met at one place.
+-- The datagrams of a recording, and those of lines that are heard.
 use Rattle.std.specs.Prelude.{ℕ, nat_le, Bool, not, List, [], ◌∷◌, length, map, is_some, if◌then◌else◌}
 use Rattle.datagram_source.specs.Datagram.{DatagramOf}
 use Rattle.capture_model.specs.Recorded.{Recorded}

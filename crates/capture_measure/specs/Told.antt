@@ -21,11 +21,11 @@ abbrev pub counts_told : Summary → Counts
 counts_told summary = summary.counts
 
 -- what a place is called that is kept
-abbrev pub place_of : Place → PlaceName
-place_of place = option_map (λ name. name.items) place.name
+abbrev pub kept_name : Place → PlaceName
+kept_name place = option_map (λ name. name.items) place.name
 
 abbrev pub place_in : Known → PlaceName
-place_in known = place_of known.place
+place_in known = kept_name known.place
 
 abbrev pub place_at : Stage → List Known → Option PlaceName
 place_at (Looking count) known = None

@@ -37,7 +37,7 @@ impl Summary {
         self.whom
     }
 
-    /// What was counted of the datagrams that are measured. While it isn't known where to measure, of all lines; of no packets.
+    /// What was counted of the datagrams that are measured. While it isn't known where to measure, all lines are counted, and no packet.
     pub fn counts(&self) -> Counts
         ensures { result ≡ counts_told self.now }
     {
@@ -72,7 +72,7 @@ impl Summary {
 /// What a packet or line brings goes out before an octet behind it is read, but for a first line that is refused: where a magic begins
 /// with the first octet, four are read.
 ///
-/// Whom the input is of goes to `errors`, in lines, once it is known, before the first report goes out. What can't be written there is
+/// Whom the input is of goes to `errors`, in lines, with the first datagram by which it is known, before the first report goes out. What can't be written there is
 /// lost: all that is promised holds whatever that writer does.
 pub fn measure<R: Read, W: Write, E: Write>(
     alloc: Global,

@@ -1,7 +1,6 @@
 //! What is done with the datagrams of an input that is measured.
 
 ghost use Rattle.std.specs.Prelude.{◌≡◌, ◌++◌, ◌<◌, List, [], length, get_or, MatchResult, OnOk, option_map, option_and_then, if◌then◌else◌};
-ghost use Rattle.std.specs.Io.KnownBytes.{Appends};
 ghost use Rattle.text_lines.specs.Counted.{device_of, HasNotFailed, HasFailedIf};
 ghost use Rattle.text_lines.specs.Fault.{is_write};
 ghost use Rattle.event_codec.specs.Reading.{IsReading};
@@ -54,7 +53,7 @@ pub(crate) struct Measuring {
     recordings: Recordings,
     stage: Stage,
     reports: TimedReports,
-    met: PlaceCounts,
+    at_places: PlaceCounts,
 }
 
 impl DatagramTask for Measuring {
@@ -111,7 +110,7 @@ impl Measuring {
             recordings: Recordings::new(alloc),
             stage: Stage::Looking(0),
             reports: TimedReports::new(alloc, form),
-            met: PlaceCounts::new(),
+            at_places: PlaceCounts::new(),
         }
     }
 
@@ -142,7 +141,7 @@ impl Measuring {
                 if self.recordings.is_at(*index, &datagram.place) {
                     self.reports.hear(listener, datagram, output)
                 } else {
-                    self.met.count(self.recordings.find(&datagram.place));
+                    self.at_places.count(self.recordings.find(&datagram.place));
                     Ok(())
                 }
             }
@@ -168,7 +167,7 @@ impl Measuring {
         let found = self
             .recordings
             .take(self.alloc, &self.wanted, datagram, is_kept)?;
-        self.met.count(found);
+        self.at_places.count(found);
         let Some(index) = found else {
             return Ok(());
         };
@@ -288,7 +287,7 @@ impl Measuring {
         counts.tell(recording.place.unit(), errors);
         for (index, other) in recordings.iter().enumerate() {
             if index != measured {
-                let count = self.met.at(index);
+                let count = self.at_places.at(index);
                 let _ = writeln!(
                     errors,
                     "ptpx: {} at {}, which isn't measured",
@@ -303,6 +302,10 @@ impl Measuring {
     /// Tells what is known at each place, where that isn't enough.
     fn tell_unknown<E: Write>(&self, errors: &mut E) {
         for recording in self.recordings.all() {
+            if recording.watched().is_some() {
+                // it stopped within the first reports, and was told before them
+                continue;
+            }
             if self.has_others() {
                 let _ = writeln!(errors, "ptpx: at {}:", recording.place);
             }
@@ -316,12 +319,12 @@ impl Measuring {
 
     /// Whether there were several places.
     fn has_others(&self) -> bool {
-        self.recordings.all().len() > 1 || self.met.others() > 0
+        self.recordings.all().len() > 1 || self.at_places.others() > 0
     }
 
     /// Tells how many datagrams there were at places that weren't looked at, if any were.
     fn tell_others<E: Write>(&self, errors: &mut E) {
-        let count = self.met.others();
+        let count = self.at_places.others();
         if count > 0 {
             let _ = writeln!(
                 errors,

@@ -3,9 +3,9 @@
 ghost use Rattle.std.specs.Prelude.{◌≡◌, None, IfOk, option_map};
 ghost use Rattle.datagram_source.specs.Datagram.{place_of as met_at};
 ghost use Rattle.capture_measure.specs.Places.{name_in, is_same_place};
-ghost use Rattle.capture_measure.specs.Told.{place_of};
+ghost use Rattle.capture_measure.specs.Told.{kept_name};
 
-use datagram_source::Place as Met;
+use datagram_source::Place as MetAt;
 use std::alloc::{AllocError, Global};
 use std::fmt;
 use std::fmt::{Display, Formatter};
@@ -19,20 +19,20 @@ pub(crate) struct Place {
 
 impl Place {
     /// The place of a datagram.
-    pub(crate) fn new(alloc: Global, met: &Met<'_>) -> Result<Place, AllocError>
-        ensures { IfOk result (λ place. place_of place ≡ name_in (met_at met.now)) }
+    pub(crate) fn new(alloc: Global, met: &MetAt<'_>) -> Result<Place, AllocError>
+        ensures { IfOk result (λ place. kept_name place ≡ name_in (met_at met.now)) }
     {
         let name = match met {
-            Met::Line => None,
-            Met::Tap(tap) => Some(Vec::from_slice(alloc, tap.text().as_bytes())?),
-            Met::Interface(interface) => Some(interface.called(alloc)?),
+            MetAt::Line => None,
+            MetAt::Tap(tap) => Some(Vec::from_slice(alloc, tap.text().as_bytes())?),
+            MetAt::Interface(interface) => Some(interface.called(alloc)?),
         };
         Ok(Place { name })
     }
 
     /// What it is called, if it has a name.
     pub(crate) fn name(&self) -> Option<&[u8]>
-        ensures { option_map (λ name. name.now) result ≡ place_of self.now }
+        ensures { option_map (λ name. name.now) result ≡ kept_name self.now }
     {
         match &self.name {
             Some(name) => Some(name),
@@ -42,19 +42,19 @@ impl Place {
 
     /// Whether it has no name.
     pub(crate) fn is_nameless(&self) -> bool
-        ensures { result ≡ is_same_place (place_of self.now) None }
+        ensures { result ≡ is_same_place (kept_name self.now) None }
     {
         self.name.is_none()
     }
 
     /// Whether it is that of a datagram.
-    pub(crate) fn is(&self, met: &Met<'_>) -> bool
-        ensures { result ≡ is_same_place (place_of self.now) (name_in (met_at met.now)) }
+    pub(crate) fn is(&self, met: &MetAt<'_>) -> bool
+        ensures { result ≡ is_same_place (kept_name self.now) (name_in (met_at met.now)) }
     {
         match (&self.name, met) {
-            (None, Met::Line) => true,
-            (Some(name), Met::Tap(tap)) => name.as_slice() == tap.text().as_bytes(),
-            (Some(name), Met::Interface(interface)) => interface.is_called(name),
+            (None, MetAt::Line) => true,
+            (Some(name), MetAt::Tap(tap)) => name.as_slice() == tap.text().as_bytes(),
+            (Some(name), MetAt::Interface(interface)) => interface.is_called(name),
             _ => false,
         }
     }

@@ -1,9 +1,8 @@
-//! How many datagrams of PTP were captured at which place.
+//! How many datagrams were met at which place.
 
-/// How many places are counted by themselves.
-const PLACES_MOST: usize = 16;
+use crate::recording::PLACES_MOST;
 
-/// The datagrams at each of the places that are looked at, by their places, and at all others. Counts stay at 2^64 - 1.
+/// The datagrams at each of the places that are looked at, by their indices, and at all others. Counts stay at 2^64 - 1.
 #[derive(Clone, Copy, Debug)]
 pub(crate) struct PlaceCounts {
     counts: [u64; PLACES_MOST],

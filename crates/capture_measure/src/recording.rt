@@ -12,7 +12,7 @@ ghost use Rattle.capture_measure.specs.Places.{PlacedRow, name_in, placed, place
 ghost use Rattle.capture_measure.specs.Chosen.{is_enough, watched_at};
 ghost use Rattle.capture_measure.specs.Counts.{Fate, early_with, IsCounts};
 ghost use Rattle.capture_measure.specs.Inner.Hearing.{recorded_of};
-ghost use Rattle.capture_measure.specs.Inner.Recordings.{IsCopy, IsRowOf, IsMet, IsNoticed, IsFresh, AreRecordings};
+ghost use Rattle.capture_measure.specs.Inner.Recordings.{IsCopy, IsRowOf, IsSought, IsNoticed, IsFresh, AreRecordings};
 ghost use Rattle.capture_measure.specs.Inner.Recordings.{IsFoundAt, HasAdded, KeepsMore};
 ghost use Rattle.capture_measure.specs.Inner.Watching.{whom_of};
 ghost use Rattle.capture_measure.specs.Told.{place_in};
@@ -21,7 +21,7 @@ use crate::place::Place;
 use crate::tally::Tally;
 use crate::watch::{WantedPorts, Watch};
 use capture_model::Watched;
-use datagram_source::{Datagram, Place as Met, Stamp, message_in};
+use datagram_source::{Datagram, Place as MetAt, Stamp, message_in};
 use event_codec::{Header, PortIdentity};
 use measure_summary::{Callers, Whom};
 use ptp_units::ScaledTime;
@@ -29,7 +29,7 @@ use std::alloc::{AllocError, Global};
 use std::io::Write;
 
 /// How many places are looked at.
-const PLACES_MOST: usize = 16;
+pub(crate) const PLACES_MOST: usize = 16;
 
 /// A datagram that is kept, but for its place.
 #[derive(Drop)]
@@ -62,7 +62,7 @@ impl Kept {
         ensures only { (row : Row) → IsRowOf self.now row → row ≡ row_of (datagram_of result) }
     {
         Datagram {
-            place: Met::Line,
+            place: MetAt::Line,
             number: self.number,
             time: self.time,
             stamp: Stamp::Written(self.written.as_str()),
@@ -90,7 +90,7 @@ fn is_wanted(wanted: Option<PortIdentity>, port: PortIdentity) -> bool
 impl Sought {
     /// Before any datagram.
     fn new(wanted: &WantedPorts) -> Sought
-        ensures { IsMet wanted.now [] result }
+        ensures { IsSought wanted.now [] result }
     {
         Sought {
             domain: wanted.domain.is_none(),
@@ -133,7 +133,7 @@ pub(crate) struct Recording {
 
 impl Recording {
     /// Before its first datagram.
-    fn new(alloc: Global, wanted: &WantedPorts, met: &Met<'_>) -> Result<Recording, AllocError>
+    fn new(alloc: Global, wanted: &WantedPorts, met: &MetAt<'_>) -> Result<Recording, AllocError>
         ensures { IfOk result (λ recording. IsFresh wanted.now (name_in (place_of met.now)) recording) }
     {
         Ok(Recording {
@@ -230,7 +230,7 @@ impl Recordings {
     }
 
     /// The index of a place.
-    pub(crate) fn find(&self, met: &Met<'_>) -> Option<usize>
+    pub(crate) fn find(&self, met: &MetAt<'_>) -> Option<usize>
         ensures { IsFoundAt (name_in (place_of met.now)) (map place_in self.now.recordings.items) result self.now.recordings.items }
     {
         for index in 0..self.recordings.len() {
@@ -258,7 +258,7 @@ impl Recordings {
         &mut self,
         alloc: Global,
         wanted: &WantedPorts,
-        met: &Met<'_>,
+        met: &MetAt<'_>,
     ) -> Result<Option<usize>, AllocError>
         ensures { IfOk result (λ found. HasAdded wanted.now (name_in (place_of met.now)) found
             self.old.recordings.items self.new.recordings.items) }
@@ -340,7 +340,7 @@ impl Recordings {
     }
 
     /// Whether a datagram was met at the place of this index.
-    pub(crate) fn is_at(&self, index: usize, met: &Met<'_>) -> bool
+    pub(crate) fn is_at(&self, index: usize, met: &MetAt<'_>) -> bool
         requires { index < length self.now.recordings.items }
         ensures { (d : Recording) → result
             ≡ is_same_place (place_in (get_or self.now.recordings.items index d)) (name_in (place_of met.now)) }

@@ -48,8 +48,8 @@ FailsAhead head octets left before after answer =
     (seen : List ℕ) × (unread : List ℕ) × (octets ≡ seen ++ unread) × (length seen < 4)
     × StopsEarly head left before after unread (Reading Read) answer
 
--- An LF is among the four octets that tell which it is, as a magic begins with the first. Then the first line is refused, since none of
--- so few octets tells a datagram; of the octets behind it up to three were read.
+-- An LF is among the four octets that tell which it is, as a magic begins with the first. Then the first line is refused, since no
+-- time begins so, and a tap, a time and a datagram are more octets; of the octets behind it up to three were read.
 abbrev pub HasShortLine : {S F : Type 0} → DatagramRules S F → (head octets : List ℕ) → (left before after : Option (List ℕ))
     → Result ℕ (Stopped (Cause F)) → Type 0
 HasShortLine rules head octets left before after answer =

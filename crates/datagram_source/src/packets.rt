@@ -1,5 +1,5 @@
 //! A capture, each packet of which may carry a datagram.
-ghost use Rattle.std.specs.Prelude.{◌≡◌, List, ℕ, Err, true, MatchResult};
+ghost use Rattle.std.specs.Prelude.{◌≡◌, List, ℕ, Err, MatchResult};
 ghost use Rattle.std.specs.Io.KnownBytes.{Appends};
 ghost use Rattle.text_lines.specs.Counted.{device_of, HasNotFailed, HasFailedIf};
 ghost use Rattle.text_lines.specs.Task.{WentOut};

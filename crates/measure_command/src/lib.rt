@@ -11,7 +11,7 @@ use datagram_source::InputOutcome;
 use fault_report::finish;
 use std::alloc::Global;
 use std::io::{Read, Write};
-use text_lines::{Counted, LineFault};
+use text_lines::{Counted, LineFault, Stopped};
 
 /// What is told where the packets of an interface are asked for, and there are lines.
 const LINES_HAVE_NO_INTERFACE: &[u8] =
@@ -73,7 +73,8 @@ fn tell_lines<E: Write>(
     if matches!(answer, Ok(0)) {
         let _ = errors.write_all(EMPTY);
     }
-    if is_interface_asked {
+    let is_unread = matches!(answer, Err(Stopped { line: 0, .. }));
+    if is_interface_asked && !is_unread {
         let _ = errors.write_all(LINES_HAVE_NO_INTERFACE);
     }
 }

@@ -1,7 +1,7 @@
 -- What is written of lines is the texts of reports that are exact.
 use Rattle.std.proofs.Common.{◌≡◌, ◌∙◌, ◌≤◌, ◌+◌, ℕ, suc, Bool, true, false, List, [], ◌∷◌, ◌++◌, length}
 use Rattle.std.proofs.Common.{Option, Some, None}
-use Rattle.std.proofs.Common.{refl, sym, ap, arith}
+use Rattle.std.proofs.Common.{sym, ap, arith}
 use Rattle.std.specs.Prelude.{⊤, not, nat_le, if◌then◌else◌, option_map, option_to_list}
 use Rattle.std.specs.List.{All}
 use Rattle.std.specs.Option.{option_map_or}
@@ -22,10 +22,10 @@ use Rattle.capture_measure.specs.Measured.{texts_as, measurements, written}
 use Rattle.capture_measure.specs.Places.{PlacedRow}
 use Rattle.capture_measure.specs.Measure.{Recording, begun}
 use Rattle.datagram_source.specs.Rules.{LinesRead, nothing_read}
-use Rattle.measure_laws.specs.AsLines.{rows_of}
-use Rattle.measure_laws.proofs.AsLines.{lines_written}
+use Rattle.measure_laws.specs.Alone.{rows_of}
+use Rattle.measure_laws.proofs.Alone.{lines_written}
 use Rattle.measure_laws.proofs.LinesRead as lines
-use Rattle.measure_laws.proofs.LinesRead.{IsReadOn, AreOfLines, read_on}
+use Rattle.measure_laws.proofs.LinesRead.{IsReadOn, begun_of_lines, read_on}
 use Rattle.measure_laws.specs.Exact.{EachMeasurementIsExact}
 
 -- one more report, or none
@@ -91,10 +91,6 @@ heard_numbered w (row ∷ rows) counted =
     (nat_le (length (row ∷ rows)) kept_most)
     (numbered_more (length rows) row.datagram (datagrams (heard w rows)) before.0 before.1 counted.0)
     (rows_numbered (row ∷ rows) counted)
-
--- nothing was read
-begun_of_lines : (form : Form) (wanted : WantedPorts) → AreOfLines (nothing_read (begun form wanted))
-begun_of_lines form wanted = record { count = refl; counted = tt; nameless = All-nil (λ (r : PlacedRow). r.place ≡ None) }
 
 -- what was written of lines whose watch is known
 written_exactly : (form : Form) (wanted : WantedPorts) (w : Watched) (read : LinesRead Recording) (text : List ℕ)

@@ -11,7 +11,7 @@ use Rattle.capture_measure.specs.declared.watch.WantedPorts.{WantedPorts}
 use Rattle.capture_measure.specs.Row.{Row, datagrams, kept_most}
 use Rattle.capture_measure.specs.Measured.{texts_as, measurements}
 use Rattle.capture_measure.specs.Places.{PlaceName, PlacedRow, is_same_place, rows_at}
-use Rattle.capture_measure.specs.Chosen.{chosen, heard_with, heard_at, capture_watched, capture_written}
+use Rattle.capture_measure.specs.Chosen.{chosen, heard_with, heard_at, input_watched, input_written}
 use Rattle.capture_measure.specs.Measure.{Recording, begun}
 use Rattle.measure_laws.proofs.PacketsRead.{ArePackets, HasReadOn, read_on}
 use Rattle.measure_laws.specs.ExactCapture.{EachMeasurementOfACaptureIsExact}
@@ -64,11 +64,11 @@ numbered n (row ∷ before ∷ rows) rising =
     (omega (arith, rising.1, rising.2.0), numbered (row.datagram.line - 1) (before ∷ rows) rising.2)
 
 written_exactly : (form : Form) (wanted : WantedPorts) (w : Watched) (read : Recording) (text : List ℕ) (most : ℕ)
-    → HasReadOn (begun form wanted) read text most → capture_watched wanted read.rows ≡ Some w
+    → HasReadOn (begun form wanted) read text most → input_watched wanted read.rows ≡ Some w
     → text ≡ texts_as form (measurements w (heard_at wanted read.rows))
 written_exactly form wanted w read text most on known =
     sym on.written
-    ∙ (λ i. capture_written (on.form i) (on.wanted i) read.rows)
+    ∙ (λ i. input_written (on.form i) (on.wanted i) read.rows)
     ∙ ap (λ (o : Option Watched). texts_as form (option_map_or (λ v. measurements v (heard_at wanted read.rows)) o [])) known
 
 pub each_measurement : EachReportIsExact → EachMeasurementOfACaptureIsExact

@@ -1,4 +1,4 @@
-pub mod AsLines
+pub mod Alone
 pub mod Exact
 pub mod ExactCapture
 pub mod Exchanged

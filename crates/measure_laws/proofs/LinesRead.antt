@@ -1,13 +1,15 @@
 -- Lines that were read took a recording on, and are met at no place of a name.
-use Rattle.std.proofs.Common.{◌≡◌, ◌∙◌, ◌+◌, ℕ, List, [], ◌∷◌, ◌++◌, length, None, sym, ap, subst, arith}
+use Rattle.std.proofs.Common.{◌≡◌, ◌∙◌, ◌+◌, ℕ, List, [], ◌∷◌, ◌++◌, length, None, refl, sym, ap, subst, arith}
 use Rattle.std.specs.Prelude.{⊤}
 use Rattle.std.proofs.lemmas.List.{append_assoc, append-nil}
-use Rattle.std.proofs.lemmas.List.Elements.{All-cons}
+use Rattle.std.proofs.lemmas.List.Elements.{All-nil, All-cons}
 use Rattle.text_lines.specs.Task.{TakesLines}
-use Rattle.datagram_source.specs.Rules.{LinesRead, line_rules}
+use Rattle.datagram_source.specs.Rules.{LinesRead, nothing_read, line_rules}
+use Rattle.capture_measure.specs.declared.form.Form.{Form}
+use Rattle.capture_measure.specs.declared.watch.WantedPorts.{WantedPorts}
 use Rattle.capture_measure.specs.Places.{PlacedRow, name_in}
-use Rattle.capture_measure.specs.Measure.{Recording, written_of, measure_rules}
-use Rattle.measure_laws.specs.AsLines.{AreAt}
+use Rattle.capture_measure.specs.Measure.{Recording, begun, written_of, measure_rules}
+use Rattle.measure_laws.specs.Alone.{AreAt}
 
 -- rows have the numbers of lines from 1 on
 abbrev pub AreCounted : List PlacedRow → Type 0
@@ -49,3 +51,7 @@ read_on number (line ∷ lines) r read text (next, first, others, whole, (d, is,
             (All-cons (λ (x : PlacedRow). x.place ≡ None) _ r.state.rows (ap name_in is.placed) are.nameless);
       });
     }
+
+-- nothing was read
+pub begun_of_lines : (form : Form) (wanted : WantedPorts) → AreOfLines (nothing_read (begun form wanted))
+begun_of_lines form wanted = record { count = refl; counted = tt; nameless = All-nil (λ (r : PlacedRow). r.place ≡ None) }

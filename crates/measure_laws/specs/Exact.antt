@@ -18,7 +18,7 @@ use Rattle.capture_measure.specs.Row.{Row, datagrams, heard}
 use Rattle.capture_measure.specs.Measured.{texts_as, measurements}
 use Rattle.datagram_source.specs.Rules.{LinesRead, nothing_read, line_rules}
 use Rattle.capture_measure.specs.Measure.{Recording, begun, measure_rules}
-use Rattle.measure_laws.specs.AsLines.{rows_of}
+use Rattle.measure_laws.specs.Alone.{rows_of}
 
 -- a text is that of what is measured at lines that are heard, whose reports are exact for the events that they tell
 pub record WritesExact {network : Network} {slave : NodeName} {run : Run} {moved : Moved} (master : NodeName)

@@ -14,7 +14,7 @@ use Rattle.capture_model.specs.Exact.{Watches}
 use Rattle.capture_measure.specs.declared.form.Form.{Form}
 use Rattle.capture_measure.specs.declared.watch.WantedPorts.{WantedPorts}
 use Rattle.capture_measure.specs.Row.{datagrams}
-use Rattle.capture_measure.specs.Chosen.{capture_watched, heard_at}
+use Rattle.capture_measure.specs.Chosen.{input_watched, heard_at}
 use Rattle.datagram_source.specs.Rules.{packet_rules}
 use Rattle.capture_measure.specs.Measure.{Recording, begun, measure_rules}
 use Rattle.measure_laws.specs.Exact.{WritesExact}
@@ -27,7 +27,7 @@ EachMeasurementOfACaptureIsExact =
     (packets : List PacketOf) (read : Recording) (text : List ℕ)
     → IsAcceptedRun network run → Watches network slave master w
     → TakesPackets (packet_rules measure_rules) (begun form wanted) packets read text
-    → capture_watched wanted read.rows ≡ Some w
+    → input_watched wanted read.rows ≡ Some w
     → (tells : Tells network slave w moved run (datagrams (heard_at wanted read.rows)))
     → IsFresh exact_limits.late tells → IsTicked exact_limits.between_ticks master tells
     → MissesFew exact_limits.late tells

@@ -1,5 +1,5 @@
 pub mod Exact
 pub mod ExactCapture
-pub mod AsLines
+pub mod Alone
 pub mod Once
 pub mod EachExchange

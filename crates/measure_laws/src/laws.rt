@@ -1,6 +1,6 @@
 //! Laws of recordings and captures that are measured: each is the contract of a function that does nothing.
 
-ghost use Rattle.measure_laws.specs.AsLines.{OnePlaceIsMeasuredAlone};
+ghost use Rattle.measure_laws.specs.Alone.{OnePlaceIsMeasuredAlone};
 ghost use Rattle.measure_laws.specs.Exact.{EachMeasurementIsExact};
 ghost use Rattle.measure_laws.specs.ExactCapture.{EachMeasurementOfACaptureIsExact};
 ghost use Rattle.measure_laws.specs.EachExchange.{EachReportIsOfItsExchange};
@@ -29,7 +29,7 @@ pub fn each_measurement_of_a_capture_is_exact()
 }
 
 /// What was met at one place is measured as a recording of which that is all: of lines what is written, whom they are of and what
-/// comes of each is by their times and datagrams alone, and of the packets at one interface what is written is, where nothing is asked
+/// comes of each is by their numbers, times and datagrams alone, and of the packets at one interface what is written is, where nothing is asked
 /// for.
 pub fn one_place_is_measured_alone()
     ensures { OnePlaceIsMeasuredAlone }

@@ -1,7 +1,5 @@
 //! Whom an input is of.
 
-ghost use Rattle.std.specs.Prelude.{◌≡◌, ◌&&◌, is_some};
-
 use datagram_text::Identity;
 use event_codec::PortIdentity;
 use std::fmt;
@@ -45,13 +43,6 @@ impl Display for Source {
 }
 
 impl Whom {
-    /// Whether all three are known.
-    pub fn is_known(&self) -> bool
-        ensures { result ≡ (is_some self.now.domain && (is_some self.now.master && is_some self.now.slave)) }
-    {
-        self.domain.is_some() && self.master.is_some() && self.slave.is_some()
-    }
-
     /// Tells in lines whom an input is of, and which of its lines or packets told that. What can't be written is lost.
     pub fn tell<E: Write>(&self, unit: &'static str, errors: &mut E) {
         let _ = match self.domain {

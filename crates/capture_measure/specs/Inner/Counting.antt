@@ -11,12 +11,12 @@ use Rattle.measure_summary.specs.declared.no_report.NoReport.TheVariants as whys
 use Rattle.measure_summary.specs.Counts.{with_one, with_unreported}
 use Rattle.capture_measure.specs.declared.watch.WantedPorts.{WantedPorts}
 use Rattle.capture_measure.specs.Places.{PlaceName, PlacedRow}
-use Rattle.capture_measure.specs.Counts.{why_answered, capture_fates, IsCounts}
+use Rattle.capture_measure.specs.Counts.{why_answered, input_fates, IsCounts}
 
 -- what is counted so far: nothing until it is known which place is measured
 abbrev pub CountsSoFar : WantedPorts → (measured : Option PlaceName) → List PlacedRow → Counts → Type 0
 CountsSoFar w None rows counts = IsCounts [] counts
-CountsSoFar w (Some place) rows counts = IsCounts (capture_fates w place rows) counts
+CountsSoFar w (Some place) rows counts = IsCounts (input_fates w place rows) counts
 
 -- one more of a kind that gave no report, where there is a reason
 abbrev pub with_why : Kind → Option NoReport → Counts → Counts

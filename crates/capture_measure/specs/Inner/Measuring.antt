@@ -14,12 +14,12 @@ use Rattle.capture_measure.specs.declared.watch.WantedPorts.{WantedPorts}
 use Rattle.capture_measure.specs.Made.{Measured}
 use Rattle.capture_measure.specs.Row.{Row, datagrams, kept_most}
 use Rattle.capture_measure.specs.Places.{PlacedRow, placed}
-use Rattle.capture_measure.specs.Chosen.{chosen, heard_at, capture_watched}
+use Rattle.capture_measure.specs.Chosen.{chosen, heard_at, input_watched}
 use Rattle.capture_measure.specs.Measure.{Recording, measured_so_far, with_row}
 use Rattle.capture_measure.specs.Counts.{IsCounts}
 use Rattle.capture_measure.specs.Told.{place_in}
 use Rattle.capture_measure.specs.Inner.Counting.{CountsSoFar}
-use Rattle.capture_measure.specs.Inner.Stages.{whom_at, capture_whom}
+use Rattle.capture_measure.specs.Inner.Stages.{whom_at, input_whom}
 use Rattle.capture_measure.specs.Inner.Hearing.{Goes}
 use Rattle.capture_measure.specs.Inner.Recordings.{AreRecordings}
 
@@ -36,7 +36,7 @@ IsStage w rows recordings (Looking count) =
 IsStage w rows recordings (Hearing index listener) =
     (watched : Watched) × (index < length recordings)
     × ((d : Known) → chosen w rows ≡ Some (place_in (get_or recordings index d)))
-    × (capture_watched w rows ≡ Some watched)
+    × (input_watched w rows ≡ Some watched)
     × StandsFor watched listener (after_all watched (datagrams (heard_at w rows)))
 
 -- what is kept is that of these rows
@@ -44,7 +44,7 @@ pub record IsMeasuring (task : Measuring) (r : Recording) : Type 0 where
   pub form : task.reports.reports.form ≡ r.form
   pub wanted : task.wanted ≡ r.wanted
   pub stage : IsStage r.wanted r.rows task.recordings.recordings.items task.stage
-  pub whom : whom_at task.stage task.recordings.recordings.items ≡ capture_whom r.wanted r.rows
+  pub whom : whom_at task.stage task.recordings.recordings.items ≡ input_whom r.wanted r.rows
   pub counts : CountsSoFar r.wanted (chosen r.wanted r.rows) r.rows task.reports.reports.tally.counts
 
 -- A datagram comes by which it isn't known yet whom to watch. It was counted, and is kept where few came before.

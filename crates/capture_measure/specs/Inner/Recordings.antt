@@ -27,7 +27,7 @@ pub record IsRowOf (k : Kept) (row : Row) : Type 0 where
   pub said : IsReading k.octets.items row.datagram.said
 
 -- of what is asked for, what was met in these datagrams
-pub record IsMet (w : WantedPorts) (ds : List Recorded) (met : Sought) : Type 0 where
+pub record IsSought (w : WantedPorts) (ds : List Recorded) (met : Sought) : Type 0 where
   pub domain : met.domain ≡ is_domain_met w.domain ds
   pub master : met.master ≡ is_port_met w.master ds
   pub slave : met.slave ≡ is_port_met w.slave ds
@@ -35,7 +35,7 @@ pub record IsMet (w : WantedPorts) (ds : List Recorded) (met : Sought) : Type 0 
 -- what these datagrams tell was noticed
 pub record IsNoticed (w : WantedPorts) (ds : List Recorded) (recording : Recording) : Type 0 where
   pub watch : IsWatch w ds recording.watch
-  pub met : IsMet w ds recording.sought
+  pub met : IsSought w ds recording.sought
 
 -- before the first datagram of a place
 pub record IsFresh (w : WantedPorts) (place : PlaceName) (recording : Recording) : Type 0 where

@@ -17,5 +17,5 @@ whom_at (Looking count) known = None
 whom_at (Hearing index listener) known = option_map (λ r. whom_of r.watch) (slice_get known index)
 
 -- and by its rows
-abbrev pub capture_whom : WantedPorts → List PlacedRow → Option Whom
-capture_whom w rows = option_map (λ place. whom_in w (datagrams (rows_at place rows))) (chosen w rows)
+abbrev pub input_whom : WantedPorts → List PlacedRow → Option Whom
+input_whom w rows = option_map (λ place. whom_in w (datagrams (rows_at place rows))) (chosen w rows)

@@ -14,14 +14,14 @@ use Rattle.capture_measure.specs.Chosen.{chosen, watched_at}
 use Rattle.capture_measure.specs.Inner.Measuring.{IsStage}
 use Rattle.capture_measure.specs.Inner.Hearing.{Goes}
 use Rattle.capture_measure.specs.Inner.Recordings.{AreRecordings, IsFoundAt}
-use Rattle.capture_measure.proofs.Chosen.{capture-first, measured-first, measured-still}
+use Rattle.capture_measure.proofs.Chosen.{input-first, measured-first, measured-still}
 use Rattle.capture_measure.proofs.Goes.{GoesUntil-none}
 use Rattle.capture_measure.proofs.KeptRows.{one_there}
 use Rattle.capture_measure.proofs.Looking.{still_looking, adds_all, unlooked_still, unknown_still, noticed_there, begins_with, chosen_now, not_found}
 use Rattle.capture_measure.proofs.Looking.{heard_now, began, whom_began}
-use Rattle.capture_measure.specs.Inner.Stages.{whom_at, capture_whom}
+use Rattle.capture_measure.specs.Inner.Stages.{whom_at, input_whom}
 use Rattle.capture_measure.specs.Counts.{Fate, early_at, IsCounts}
-use Rattle.capture_measure.proofs.CaptureFates.{so_far, first-fates}
+use Rattle.capture_measure.proofs.InputFates.{so_far, first-fates}
 use Rattle.capture_measure.proofs.Places.{same_place}
 use Rattle.capture_measure.proofs.Looking.{early_there}
 use Rattle.capture_measure.proofs.Heard.{on_ok_both}
@@ -78,7 +78,7 @@ returns-in-Some-watched-clause-taken g c = λ k at.
             (sym c.begin.ensures.recordings)
             (began k.wanted k.rows r recordings c.in-Some.index c.in-Some-watched.watched heard c.begin.new.self.stage within there is known
             same hearing);
-        whom = subst (λ (it : Recordings). whom_at c.begin.new.self.stage it.recordings.items ≡ capture_whom k.wanted (r ∷ k.rows))
+        whom = subst (λ (it : Recordings). whom_at c.begin.new.self.stage it.recordings.items ≡ input_whom k.wanted (r ∷ k.rows))
             (sym c.begin.ensures.recordings)
             (whom_began k.wanted k.rows r recordings c.in-Some.index c.in-Some-watched.watched heard c.begin.new.self.stage are within there
             is hearing);
@@ -86,11 +86,11 @@ returns-in-Some-watched-clause-taken g c = λ k at.
             (subst (λ (all : List Fate). IsCounts all c.begin.new.self.reports.reports.tally.counts)
             (sym (first-fates k.wanted r.place k.rows r c.args.is_kept c.in-Some-watched.watched heard
             ((same_place r.place r.place).1 refl) known
-            (capture-first k.wanted k.rows r c.in-Some-watched.watched is known) refl same)) counted);
+            (input-first k.wanted k.rows r c.in-Some-watched.watched is known) refl same)) counted);
       }) begun.0 counts,
       measurements c.in-Some-watched.watched heard,
       measured-first k.wanted k.rows r c.in-Some-watched.watched heard at.unchosen
-          (capture-first k.wanted k.rows r c.in-Some-watched.watched is known) same,
+          (input-first k.wanted k.rows r c.in-Some-watched.watched is known) same,
       subst (λ (f : Form). Goes f c.begin.result (measurements c.in-Some-watched.watched heard)
           (g.W.Write.contents (device_of c.args.output.now)) (g.W.Write.contents (device_of c.begin.new.output))) at.form begun.1,
     )

@@ -12,12 +12,12 @@ use Rattle.capture_measure.specs.Chosen.{heard_at}
 use Rattle.capture_measure.specs.Inner.Measuring.{IsStage}
 use Rattle.capture_measure.specs.Inner.Hearing.{Goes}
 use Rattle.capture_measure.specs.Told.{place_in}
-use Rattle.capture_measure.proofs.Looking.{few_by, hears_more, hears_other, measures_more, measures_nothing, capture_whom_stays}
+use Rattle.capture_measure.proofs.Looking.{few_by, hears_more, hears_other, measures_more, measures_nothing, input_whom_stays}
 use Rattle.capture_measure.proofs.KeptRows.{one_there}
 use Rattle.capture_measure.specs.declared.measuring.Stage.{Stage}
-use Rattle.capture_measure.specs.Inner.Stages.{whom_at, capture_whom}
-use Rattle.capture_measure.specs.Counts.{Fate, capture_fates, IsCounts}
-use Rattle.capture_measure.proofs.CaptureFates.{so_far, so_far_known, none_known, more-fates, other-fates}
+use Rattle.capture_measure.specs.Inner.Stages.{whom_at, input_whom}
+use Rattle.capture_measure.specs.Counts.{Fate, input_fates, IsCounts}
+use Rattle.capture_measure.proofs.InputFates.{so_far, so_far_known, none_known, more-fates, other-fates}
 use Rattle.capture_measure.proofs.Chosen.{chosen-stays}
 use Rattle.capture_measure.proofs.Heard.{on_ok_then, on_ok_both}
 use Rattle.capture_measure.proofs.measuring.Measuring.take_row.Goals as goal
@@ -63,7 +63,7 @@ returns-then-is_at-clause-taken g c = λ k at.
     let same : (d : Recording) → is_same_place (place_in (get_or recordings c.in-Hearing.index d)) r.place ≡ true =
     λ d. sym (c.is_at.ensures d) ∙ c.if-is_at.true in
     let heard = c.hear.ensures.heard watched (heard_at k.wanted k.rows) listens in
-    let before : (d : Recording) → IsCounts (capture_fates k.wanted (place_in (get_or recordings c.in-Hearing.index d)) k.rows)
+    let before : (d : Recording) → IsCounts (input_fates k.wanted (place_in (get_or recordings c.in-Hearing.index d)) k.rows)
     c.args.self.now.reports.reports.tally.counts =
     λ d. so_far_known k.wanted k.rows (place_in (get_or recordings c.in-Hearing.index d)) c.args.self.now.reports.reports.tally.counts
     (is d) at.counts in
@@ -73,13 +73,13 @@ returns-then-is_at-clause-taken g c = λ k at.
     (subst (λ (all : List Fate). IsCounts all c.hear.new.self.reports.tally.counts)
     (sym (more-fates k.wanted (place_in (get_or recordings c.in-Hearing.index d)) k.rows r watched (is d) known (same d))) so))
     (c.hear.ensures.counted watched (heard_at k.wanted k.rows)
-    (capture_fates k.wanted (place_in (get_or recordings c.in-Hearing.index d)) k.rows) listens (before d))) in (
+    (input_fates k.wanted (place_in (get_or recordings c.in-Hearing.index d)) k.rows) listens (before d))) in (
       on_ok_both c.hear.result (λ listens so. record {
         form = c.hear.ensures.form ∙ at.form;
         wanted = at.wanted;
         stage = hears_more k.wanted k.rows r recordings c.in-Hearing.index watched within is known c.hear.new.listener same listens;
-        whom = subst (λ (s : Stage). whom_at s recordings ≡ capture_whom k.wanted k.rows) c.in-Hearing.is at.whom
-            ∙ sym (one_there recordings c.in-Hearing.index within (λ d. capture_whom_stays k.wanted k.rows r
+        whom = subst (λ (s : Stage). whom_at s recordings ≡ input_whom k.wanted k.rows) c.in-Hearing.is at.whom
+            ∙ sym (one_there recordings c.in-Hearing.index within (λ d. input_whom_stays k.wanted k.rows r
             (place_in (get_or recordings c.in-Hearing.index d)) watched (is d) known));
         counts = so;
       }) heard.0 counted,
@@ -100,8 +100,8 @@ returns-else-is_at-clause-taken g c = λ k at.
         form = at.form;
         wanted = at.wanted;
         stage = hears_other k.wanted k.rows r recordings c.in-Hearing.index watched within is known c.in-Hearing.listener other listens;
-        whom = subst (λ (s : Stage). whom_at s recordings ≡ capture_whom k.wanted k.rows) c.in-Hearing.is at.whom
-            ∙ sym (one_there recordings c.in-Hearing.index within (λ d. capture_whom_stays k.wanted k.rows r
+        whom = subst (λ (s : Stage). whom_at s recordings ≡ input_whom k.wanted k.rows) c.in-Hearing.is at.whom
+            ∙ sym (one_there recordings c.in-Hearing.index within (λ d. input_whom_stays k.wanted k.rows r
             (place_in (get_or recordings c.in-Hearing.index d)) watched (is d) known));
         counts = one_there recordings c.in-Hearing.index within (λ d.
             so_far k.wanted (r ∷ k.rows) (place_in (get_or recordings c.in-Hearing.index d))

@@ -1,7 +1,7 @@
 use Rattle.std.proofs.Common.{refl, ap}
 use Rattle.datagram_source.specs.Said.{reading_of}
 use Rattle.capture_measure.specs.Inner.Hearing.{recorded_of}
-use Rattle.capture_measure.proofs.Recordings.{IsMet-said}
+use Rattle.capture_measure.proofs.Recordings.{IsSought-said}
 use Rattle.event_codec.specs.Packet.{contents}
 use Rattle.capture_measure.proofs.recording.Recording.notice.Goals as goal
 
@@ -9,6 +9,6 @@ pub returns-in-Ok-clause-noticed : goal.returns-in-Ok-clause-noticed
 returns-in-Ok-clause-noticed c = λ ds is.
     let said = ap reading_of c.in-Ok.is in record {
       watch = c.notice.ensures c.args.wanted.now (recorded_of c.args.datagram.now) ds said refl is.watch;
-      met = IsMet-said c.args.wanted.now (recorded_of c.args.datagram.now) ds (contents c.in-Ok.message) c.args.self.now.sought
+      met = IsSought-said c.args.wanted.now (recorded_of c.args.datagram.now) ds (contents c.in-Ok.message) c.args.self.now.sought
           c.notice-in-Ok.new.self said is.met c.notice-in-Ok.ensures.domain c.notice-in-Ok.ensures.master c.notice-in-Ok.ensures.slave;
     }

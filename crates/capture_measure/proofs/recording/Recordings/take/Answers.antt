@@ -8,8 +8,8 @@ use Rattle.capture_measure.specs.Chosen.{watched_at}
 use Rattle.capture_measure.specs.Counts.{Fate, early_with, early_at, IsCounts}
 use Rattle.capture_measure.specs.declared.tally.Tally.{Tally}
 use Rattle.capture_measure.specs.declared.recording.Recording.{Recording}
-use Rattle.capture_measure.specs.Inner.Recordings.{AreKeptRows, HasAdded, IsMet, IsNoticed}
-use Rattle.capture_measure.specs.Told.{place_in, place_of}
+use Rattle.capture_measure.specs.Inner.Recordings.{AreKeptRows, HasAdded, IsSought, IsNoticed}
+use Rattle.capture_measure.specs.Told.{place_in, kept_name}
 use Rattle.capture_measure.specs.Inner.Hearing.{recorded_of}
 use Rattle.capture_measure.specs.Inner.Watching.{IsWatch}
 use Rattle.capture_measure.proofs.Recordings.{added_taken, added_nowhere, keeps_row}
@@ -27,13 +27,13 @@ returns-in_ok-keep-clause-taken c = λ rows r is_row few are.
     (subst (λ (found : Option ℕ). HasAdded c.args.wanted.now (name_in (met_at c.args.datagram.now.place)) found old new) c.in-Some.is
     c.in_ok-found.ensures) in
     added_taken c.args.wanted.now rows r c.in-Some.index old new was x are has c.index_mut-recording.ensures.value
-    (ap place_in c.keep.ensures.others ∙ ap place_in c.count_early.ensures.others ∙ ap place_of c.notice.ensures.place)
+    (ap place_in c.keep.ensures.others ∙ ap place_in c.count_early.ensures.others ∙ ap kept_name c.notice.ensures.place)
     (λ ds is.
     let noticed = c.notice.ensures.noticed ds is in
     let ds' : List Recorded = recorded_of c.args.datagram.now ∷ ds in
     subst (λ (d : Row). IsNoticed c.args.wanted.now (d.datagram ∷ ds) x) (sym row) (record {
       watch = subst (IsWatch c.args.wanted.now ds') (sym (ap (λ (it : Recording). it.watch) c.keep.ensures.others ∙ ap (λ (it : Recording). it.watch) c.count_early.ensures.others)) noticed.watch;
-      met = subst (IsMet c.args.wanted.now ds') (sym (ap (λ (it : Recording). it.sought) c.keep.ensures.others ∙ ap (λ (it : Recording). it.sought) c.count_early.ensures.others)) noticed.met;
+      met = subst (IsSought c.args.wanted.now ds') (sym (ap (λ (it : Recording). it.sought) c.keep.ensures.others ∙ ap (λ (it : Recording). it.sought) c.count_early.ensures.others)) noticed.met;
     }))
     (λ short rs kept. subst (λ (d : Row). AreKeptRows [] x.kept.items (d ∷ rs)) (sym row)
     (keeps_row rs was.kept.items x.kept.items c.args.datagram.now
@@ -43,7 +43,7 @@ returns-in_ok-keep-clause-taken c = λ rows r is_row few are.
     let ds' : List Recorded = recorded_of c.args.datagram.now ∷ datagrams rs in
     let early : List Fate = early_at c.args.wanted.now (place_in was) rs in
     let counted = subst (λ (p : PlaceName). IsCounts (early_with (watched_at c.args.wanted.now p ds') (recorded_of c.args.datagram.now) early)
-    c.count_early.new.self.early.counts) (ap place_of c.notice.ensures.place)
+    c.count_early.new.self.early.counts) (ap kept_name c.notice.ensures.place)
     (c.count_early.ensures.counted c.args.wanted.now ds' early (c.notice.ensures.noticed (datagrams rs) noticed)
     (subst (λ (t : Tally). IsCounts early t.counts) (sym c.notice.ensures.early) so)) in
     subst (λ (d : Row). IsCounts (early_with (watched_at c.args.wanted.now (place_in was) (d.datagram ∷ datagrams rs)) d.datagram
@@ -64,20 +64,20 @@ returns-else-is_kept-clause-taken c = λ rows r is_row few are.
     c.in_ok-found.ensures) in
     let many : kept_most ≤ length rows = ltb-false (length rows) kept_most (sym few ∙ c.if-is_kept.false) in
     added_taken c.args.wanted.now rows r c.in-Some.index old new was x are has c.index_mut-recording.ensures.value
-    (ap place_in c.count_early.ensures.others ∙ ap place_of c.notice.ensures.place)
+    (ap place_in c.count_early.ensures.others ∙ ap kept_name c.notice.ensures.place)
     (λ ds is.
     let noticed = c.notice.ensures.noticed ds is in
     let ds' : List Recorded = recorded_of c.args.datagram.now ∷ ds in
     subst (λ (d : Row). IsNoticed c.args.wanted.now (d.datagram ∷ ds) x) (sym row) (record {
       watch = subst (IsWatch c.args.wanted.now ds') (sym (ap (λ (it : Recording). it.watch) c.count_early.ensures.others)) noticed.watch;
-      met = subst (IsMet c.args.wanted.now ds') (sym (ap (λ (it : Recording). it.sought) c.count_early.ensures.others)) noticed.met;
+      met = subst (IsSought c.args.wanted.now ds') (sym (ap (λ (it : Recording). it.sought) c.count_early.ensures.others)) noticed.met;
     }))
     (λ short rs kept. absurd (omega (arith, many, short)))
     (λ rs noticed so.
     let ds' : List Recorded = recorded_of c.args.datagram.now ∷ datagrams rs in
     let early : List Fate = early_at c.args.wanted.now (place_in was) rs in
     let counted = subst (λ (p : PlaceName). IsCounts (early_with (watched_at c.args.wanted.now p ds') (recorded_of c.args.datagram.now) early)
-    c.count_early.new.self.early.counts) (ap place_of c.notice.ensures.place)
+    c.count_early.new.self.early.counts) (ap kept_name c.notice.ensures.place)
     (c.count_early.ensures.counted c.args.wanted.now ds' early (c.notice.ensures.noticed (datagrams rs) noticed)
     (subst (λ (t : Tally). IsCounts early t.counts) (sym c.notice.ensures.early) so)) in
     subst (λ (d : Row). IsCounts (early_with (watched_at c.args.wanted.now (place_in was) (d.datagram ∷ datagrams rs)) d.datagram

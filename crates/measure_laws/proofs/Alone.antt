@@ -16,13 +16,16 @@ use Rattle.capture_measure.specs.Row.{Row, datagrams, heard, kept_most}
 use Rattle.capture_measure.specs.Measured.{texts_as, measurements, written}
 use Rattle.capture_measure.specs.Places.{PlaceName, PlacedRow, rows_at, rows_looked_at, is_among, places_in, places_most}
 use Rattle.capture_measure.specs.Chosen.{is_domain_met, is_port_met, is_met, is_enough, watched_at, chosen_by, chosen, heard_with, heard_at}
-use Rattle.capture_measure.specs.Chosen.{capture_watched, capture_written}
-use Rattle.capture_measure.specs.Counts.{Fate, fates, early_fate, early_fates, early_with, early_at, fates_in, capture_fates, told_fates}
+use Rattle.capture_measure.specs.Chosen.{input_watched, input_written}
+use Rattle.capture_measure.specs.Counts.{Fate, fates, early_fate, early_fates, early_with, early_at, fates_in, input_fates, told_fates}
 use Rattle.capture_measure.specs.Summary.{whom_in, told_whom}
 use Rattle.capture_measure.proofs.Places.{same_place}
 use Rattle.capture_measure.proofs.Rows.{unknown_before, heard-unknown}
 use Rattle.capture_measure.proofs.Told.{watched-stays}
-use Rattle.measure_laws.specs.AsLines.{AsksForNothing, AreAt, rows_of, OnePlaceIsMeasuredAlone}
+use Rattle.datagram_source.specs.Rules.{nothing_read}
+use Rattle.capture_measure.specs.Measure.{begun}
+use Rattle.measure_laws.specs.Alone.{AsksForNothing, AreAt, rows_of, OnePlaceIsMeasuredAlone}
+use Rattle.measure_laws.proofs.LinesRead.{begun_of_lines, read_on}
 
 -- where nothing is asked for all of it was met
 module _ (w : WantedPorts) (asks : AsksForNothing w) where
@@ -135,7 +138,7 @@ module _ (w : WantedPorts) (place : PlaceName) (same : (ds : List Recorded) → 
       (watched_in w (datagrams (rows_of (r ∷ before ∷ rows)))) at
 
   of_one : (r : PlacedRow) (rows : List PlacedRow) → AreAt place (r ∷ rows)
-      → capture_watched w (r ∷ rows) ≡ watched_in w (datagrams (rows_of (r ∷ rows)))
+      → input_watched w (r ∷ rows) ≡ watched_in w (datagrams (rows_of (r ∷ rows)))
   of_one r rows at =
       ap (option_and_then (λ i. watched_at w i (datagrams (rows_at i (r ∷ rows))))) (chosen_one r rows at)
       ∙ go (watched_in w (datagrams (rows_of (r ∷ rows)))) refl
@@ -147,7 +150,7 @@ module _ (w : WantedPorts) (place : PlaceName) (same : (ds : List Recorded) → 
           same (datagrams (rows_at place (r ∷ rows)))
           ∙ ap (λ (rs : List Row). watched_in w (datagrams rs)) (all_rows place (r ∷ rows) at) ∙ is
 
-  pub written_one : (form : Form) (rows : List PlacedRow) → AreAt place rows → capture_written form w rows ≡ written form w (rows_of rows)
+  pub written_one : (form : Form) (rows : List PlacedRow) → AreAt place rows → input_written form w rows ≡ written form w (rows_of rows)
   written_one form [] at = ap (texts_as form) (sym (go (watched_in w [])))
     where
       go : (o : Option Watched) → option_map_or {U = List Measured} (λ watched. []) o [] ≡ []
@@ -210,7 +213,7 @@ module _ (w : WantedPorts) where
 
   fates_by : (r : PlacedRow) (rows : List PlacedRow) (known : Option Watched) → AreAt None (r ∷ rows)
       → watched_in w (datagrams (rows_of (r ∷ rows))) ≡ known
-      → option_map_or (λ place. capture_fates w place (r ∷ rows)) (option_map (λ x. None) known)
+      → option_map_or (λ place. input_fates w place (r ∷ rows)) (option_map (λ x. None) known)
       (early_at w None (rows_looked_at None (r ∷ rows))) ≡ fates_in w (rows_of (r ∷ rows))
   fates_by r rows (Some x) at is =
       (λ i. option_map_or (λ watched. fates watched (heard_one w None lines_same (r ∷ rows) at i)) (of_one w None lines_same r rows at i) []
@@ -230,16 +233,18 @@ module _ (w : WantedPorts) where
       go None = refl
       go (Some x) = refl
   told_fates_one (r ∷ rows) at =
-      ap (λ o. option_map_or (λ place. capture_fates w place (r ∷ rows)) o (early_at w None (rows_looked_at None (r ∷ rows))))
+      ap (λ o. option_map_or (λ place. input_fates w place (r ∷ rows)) o (early_at w None (rows_looked_at None (r ∷ rows))))
       (chosen_one w None lines_same r rows at)
       ∙ fates_by r rows (watched_in w (datagrams (rows_of (r ∷ rows)))) at refl
 
 pub lines_written : (form : Form) (w : WantedPorts) (rows : List PlacedRow) → AreAt None rows
-    → capture_written form w rows ≡ written form w (rows_of rows)
+    → input_written form w rows ≡ written form w (rows_of rows)
 lines_written form w rows at = written_one w None (lines_same w) form rows at
 
 pub measured_alone : OnePlaceIsMeasuredAlone
 measured_alone = record {
+  nameless = λ form w lines read text taken.
+      ((read_on 1 lines (nothing_read (begun form w)) read text taken).lines (begun_of_lines form w)).nameless;
   lines = lines_written;
   whom = told_whom_one;
   fates = told_fates_one;

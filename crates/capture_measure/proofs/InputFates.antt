@@ -8,16 +8,16 @@ use Rattle.measure_summary.specs.declared.counts.Counts.{Counts}
 use Rattle.capture_measure.specs.declared.watch.WantedPorts.{WantedPorts}
 use Rattle.capture_measure.specs.Row.{Row, datagrams}
 use Rattle.capture_measure.specs.Places.{PlaceName, PlacedRow, is_same_place, rows_at}
-use Rattle.capture_measure.specs.Chosen.{chosen, heard_at, watched_at, capture_watched}
-use Rattle.capture_measure.specs.Counts.{Fate, fate_at, fates, early_with, early_at, capture_fates, IsCounts}
+use Rattle.capture_measure.specs.Chosen.{chosen, heard_at, watched_at, input_watched}
+use Rattle.capture_measure.specs.Counts.{Fate, fate_at, fates, early_with, early_at, input_fates, IsCounts}
 use Rattle.capture_measure.specs.Inner.Counting.{CountsSoFar}
-use Rattle.capture_measure.proofs.Chosen.{capture-stays, heard-known}
+use Rattle.capture_measure.proofs.Chosen.{input-stays, heard-known}
 
 module _ (w : WantedPorts) (place : PlaceName) where
   -- where it is known
-  pub known-fates : (rows : List PlacedRow) (those : List Row) (watched : Watched) → capture_watched w rows ≡ Some watched
+  pub known-fates : (rows : List PlacedRow) (those : List Row) (watched : Watched) → input_watched w rows ≡ Some watched
       → heard_at w rows ≡ those
-      → capture_fates w place rows ≡ fates watched those ++ early_at w place (drop (length those) (rows_at place rows))
+      → input_fates w place rows ≡ fates watched those ++ early_at w place (drop (length those) (rows_at place rows))
   known-fates rows those watched known same = λ i.
       option_map_or (λ watched. fates watched (same i)) (known i) [] ++ early_at w place (drop (length (same i)) (rows_at place rows))
 
@@ -27,11 +27,11 @@ module _ (w : WantedPorts) (place : PlaceName) where
     rows_by same is = ap (λ b. if b then r.row ∷ rows_at place rows else rows_at place rows) is
 
     -- one more that is heard
-    pub more-fates : (watched : Watched) → chosen w rows ≡ Some place → capture_watched w rows ≡ Some watched
+    pub more-fates : (watched : Watched) → chosen w rows ≡ Some place → input_watched w rows ≡ Some watched
         → is_same_place place r.place ≡ true
-        → capture_fates w place (r ∷ rows) ≡ fate_at watched (heard_at w rows) r.row ∷ capture_fates w place rows
+        → input_fates w place (r ∷ rows) ≡ fate_at watched (heard_at w rows) r.row ∷ input_fates w place rows
     more-fates watched is known same =
-        known-fates (r ∷ rows) (r.row ∷ heard_at w rows) watched (capture-stays w rows r place watched is known)
+        known-fates (r ∷ rows) (r.row ∷ heard_at w rows) watched (input-stays w rows r place watched is known)
         (heard-known w rows r place true is same)
         ∙ ap (λ (l : List Row). fates watched (r.row ∷ heard_at w rows) ++ early_at w place (drop (length (r.row ∷ heard_at w rows)) l))
         (rows_by true same)
@@ -39,11 +39,11 @@ module _ (w : WantedPorts) (place : PlaceName) where
         (sym (known-fates rows (heard_at w rows) watched known refl))
 
     -- one at another place
-    pub other-fates : (watched : Watched) → chosen w rows ≡ Some place → capture_watched w rows ≡ Some watched
+    pub other-fates : (watched : Watched) → chosen w rows ≡ Some place → input_watched w rows ≡ Some watched
         → is_same_place place r.place ≡ false
-        → capture_fates w place (r ∷ rows) ≡ capture_fates w place rows
+        → input_fates w place (r ∷ rows) ≡ input_fates w place rows
     other-fates watched is known other =
-        known-fates (r ∷ rows) (heard_at w rows) watched (capture-stays w rows r place watched is known)
+        known-fates (r ∷ rows) (heard_at w rows) watched (input-stays w rows r place watched is known)
         (heard-known w rows r place false is other)
         ∙ ap (λ (l : List Row). fates watched (heard_at w rows) ++ early_at w place (drop (length (heard_at w rows)) l)) (rows_by false other)
         ∙ sym (known-fates rows (heard_at w rows) watched known refl)
@@ -63,9 +63,9 @@ module _ (w : WantedPorts) (place : PlaceName) where
         (ap (λ (l : List Row). watched_at w place (datagrams l)) (sym rows') ∙ known))
 
     pub first-fates : (is_kept : Bool) (watched : Watched) (heard : List Row) → is_same_place place r.place ≡ true
-        → watched_at w place (datagrams (rows_at place (r ∷ rows))) ≡ Some watched → capture_watched w (r ∷ rows) ≡ Some watched
+        → watched_at w place (datagrams (rows_at place (r ∷ rows))) ≡ Some watched → input_watched w (r ∷ rows) ≡ Some watched
         → heard ≡ (if is_kept then rows_at place (r ∷ rows) else r.row ∷ []) → heard_at w (r ∷ rows) ≡ heard
-        → capture_fates w place (r ∷ rows)
+        → input_fates w place (r ∷ rows)
         ≡ fates watched heard ++ (if is_kept then [] else early_at w place (rows_at place (r ∷ rows)))
     first-fates is_kept watched heard same known there those is =
         known-fates (r ∷ rows) heard watched there is
@@ -75,11 +75,11 @@ module _ (w : WantedPorts) (place : PlaceName) where
 
 -- what is counted so far, where the place is known, or isn't
 pub so_far : (w : WantedPorts) (rows : List PlacedRow) (place : PlaceName) (counts : Counts) → chosen w rows ≡ Some place
-    → IsCounts (capture_fates w place rows) counts → CountsSoFar w (chosen w rows) rows counts
+    → IsCounts (input_fates w place rows) counts → CountsSoFar w (chosen w rows) rows counts
 so_far w rows place counts is so = subst (λ (o : Option PlaceName). CountsSoFar w o rows counts) (sym is) so
 
 pub so_far_known : (w : WantedPorts) (rows : List PlacedRow) (place : PlaceName) (counts : Counts) → chosen w rows ≡ Some place
-    → CountsSoFar w (chosen w rows) rows counts → IsCounts (capture_fates w place rows) counts
+    → CountsSoFar w (chosen w rows) rows counts → IsCounts (input_fates w place rows) counts
 so_far_known w rows place counts is so = subst (λ (o : Option PlaceName). CountsSoFar w o rows counts) is so
 
 pub none_so_far : (w : WantedPorts) (rows : List PlacedRow) (counts : Counts) → chosen w rows ≡ None → IsCounts [] counts
