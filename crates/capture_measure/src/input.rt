@@ -72,8 +72,8 @@ impl Summary {
 /// What a packet or line brings goes out before an octet behind it is read, but for a first line that is refused: where a magic begins
 /// with the first octet, four are read.
 ///
-/// Whom the input is of goes to `errors`, in lines, with the first datagram by which it is known, before the first report goes out. What can't be written there is
-/// lost: all that is promised holds whatever that writer does.
+/// Whom the input is of goes to `errors`, in lines, with the first datagram by which it is known, before the first report goes out.
+/// What can't be written there is lost: all that is promised holds whatever that writer does.
 pub fn measure<R: Read, W: Write, E: Write>(
     alloc: Global,
     wanted: &WantedPorts,
