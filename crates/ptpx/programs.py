@@ -38,7 +38,7 @@ fn main(rt: HostRuntime) -> ExitCode {{
 """
 
 # What a program with a part of all names in place of this line of the whole one, and its own `command` below.
-WHOLE = 'use schedule_replay::{Counted, OctetReader, command};\n'
+WHOLE = 'use whole_program::{Counted, OctetReader, command};\n'
 PART = """use command_line::{names};
 {use}use std::alloc::Global;
 use std::io::{{Read, Write}};

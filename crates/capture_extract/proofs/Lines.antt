@@ -23,9 +23,9 @@ use Rattle.capture_frame.specs.Found.{datagram_limit}
 use Rattle.capture_extract.specs.declared.line.LineForm.{LineForm}
 use Rattle.capture_extract.specs.declared.line.LineForm.TheVariants.{Octets, Timed}
 use Rattle.capture_extract.specs.Line.{line_of, line_text}
-use Rattle.capture_lines.specs.Timed.{TellsExactly, is_time_octet, line_parts, time_in, timed_in}
-use Rattle.capture_lines.proofs.Times.{own, time_octets}
-use Rattle.capture_lines.proofs.SpelledTimes.{read}
+use Rattle.recording_lines.specs.Timed.{TellsExactly, is_time_octet, line_parts, time_in, timed_in}
+use Rattle.recording_lines.proofs.Times.{own, time_octets}
+use Rattle.recording_lines.proofs.SpelledTimes.{read}
 
 -- ---- nine digits of nanoseconds
 zeros_write : (k : ℕ) (ds : List ℕ) → digits_value 10 (replicate k 48 ++ ds) ≡ digits_value 10 ds

@@ -7,7 +7,7 @@ ghost use Rattle.text_lines.specs.Lines.{line_limit, lines_of, without_cr};
 ghost use Rattle.capture_file.specs.Packet.{PacketOf};
 ghost use Rattle.capture_file.specs.Task.{TakesPackets};
 ghost use Rattle.capture_frame.specs.Found.{datagram_limit};
-ghost use Rattle.capture_lines.specs.Timed.{line_parts, timed_in};
+ghost use Rattle.recording_lines.specs.Timed.{line_parts, timed_in};
 ghost use Rattle.capture_extract.specs.Line.{line_of, line_text};
 ghost use Rattle.capture_extract.specs.Extracted.{HasNoDatagram, extract_rules};
 

@@ -1,6 +1,6 @@
 -- Nanoseconds that are written as a time is.
 use Rattle.std.specs.Prelude.{ℕ, nat_le, List, ◌++◌, ◌==◌, length, codes, Option, Some, None, option_and_then, if◌then◌else◌}
-use Rattle.capture_lines.specs.Timed.{LineParts, timed_in}
+use Rattle.recording_lines.specs.Timed.{LineParts, timed_in}
 
 -- the time that a line tells which has no digits behind its blank
 abbrev pub time_alone : LineParts → Option ℕ

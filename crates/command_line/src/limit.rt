@@ -1,10 +1,10 @@
 //! Nanoseconds that are written as a time is.
 ghost use Rattle.std.specs.Prelude.{◌≡◌};
 ghost use Rattle.command_line.specs.Limit.{limit_of, time_alone};
-ghost use Rattle.capture_lines.specs.Timed.{parts_of};
+ghost use Rattle.recording_lines.specs.Timed.{parts_of};
 
-use capture_lines::{Timed, read_timed};
 use ptp_units::ScaledTime;
+use recording_lines::{Timed, read_timed};
 
 /// The most octets of a time: 15 digits, a point and 9 digits.
 const TIME_MOST: usize = 25;

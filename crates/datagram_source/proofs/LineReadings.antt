@@ -2,7 +2,7 @@
 use Rattle.std.proofs.Common.{◌≡◌, ◌∙◌, ℕ, ◌/◌, List, length, take, refl, sym, ap, subst}
 use Rattle.std.specs.Option.{option_map_or}
 use Rattle.event_codec.specs.Reading.{Reading, IsReading}
-use Rattle.capture_lines.specs.Timed.{parts_of, timed_in}
+use Rattle.recording_lines.specs.Timed.{parts_of, timed_in}
 use Rattle.datagram_source.specs.declared.lines.Line as parted_as
 use Rattle.datagram_source.specs.declared.lines.LineForm.{LineForm}
 use Rattle.datagram_source.specs.declared.lines.LineForm.TheVariants.{Timed, AtTaps}

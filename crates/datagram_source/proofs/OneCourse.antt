@@ -8,7 +8,7 @@ use Rattle.event_codec.specs.Reading.{Reading, IsReading}
 use Rattle.event_codec.specs.Refusal.{decode_refusal, message_length}
 use Rattle.event_codec.specs.declared.refusal.DecodeRefusal.{DecodeRefusal}
 use Rattle.event_codec.proofs.Same.{contents_same, front_length, decode_refusal-message}
-use Rattle.capture_lines.specs.Timed.{LineParts, timed_in}
+use Rattle.recording_lines.specs.Timed.{LineParts, timed_in}
 use Rattle.datagram_source.specs.declared.lines.LineForm.{LineForm}
 use Rattle.datagram_source.specs.declared.lines.LineForm.TheVariants.{Timed, AtTaps}
 use Rattle.datagram_source.specs.Datagram.{PlaceOf, Line, Tap, DatagramOf, IsTimedDatagram, IsDatagramLine}

@@ -4,7 +4,7 @@ use Rattle.hex.specs.Hex.{decode_of}
 use Rattle.ptp_units.specs.Moment.{moment}
 use Rattle.event_codec.specs.Reading.{Reading, IsReading}
 use Rattle.datagram_text.specs.Shown.{stamp_text}
-use Rattle.capture_lines.specs.Timed.{LineParts, timed_in, parted}
+use Rattle.recording_lines.specs.Timed.{LineParts, timed_in, parted}
 use Rattle.capture_file.specs.Packet.{InterfaceOf, PacketOf, Captured, Timeless, Simple, interface_of}
 use Rattle.capture_frame.specs.Found as found
 use Rattle.tap_choice.specs.TapName.{IsTapName}

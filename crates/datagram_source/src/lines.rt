@@ -11,7 +11,7 @@ use crate::datagram::{Datagram, Place, message_in};
 use crate::stamp::Stamp;
 use crate::task::DatagramTask;
 use capture_extract::tell_compressed;
-use capture_lines::{Timed, read_timed};
+use recording_lines::{Timed, read_timed};
 use std::io::Write;
 use tap_choice::TapName;
 use text_lines::{Counted, LINE_LIMIT, LineFault, LineTask};

@@ -4,8 +4,8 @@ use Rattle.std.specs.Fmt.{digits}
 use Rattle.ptp_units.specs.Nanoseconds.{decimals}
 use Rattle.slave_port.specs.declared.exchange.LastExchange.{LastExchange}
 use Rattle.slave_port.specs.Exchange.{IsReportOf}
-use Rattle.capture_lines.specs.declared.measurement.Half.TheVariants.{Response}
-use Rattle.capture_lines.specs.Measurement.{Measured}
+use Rattle.recording_lines.specs.declared.measurement.Half.TheVariants.{Response}
+use Rattle.recording_lines.specs.Measurement.{Measured}
 use Rattle.exchange_lines.specs.Moment.{moment_text}
 use Rattle.exchange_lines.specs.Exchange.{row_text, between2}
 

@@ -5,7 +5,7 @@ use Rattle.ptp_units.specs.Nanoseconds.{nanoseconds_text}
 use Rattle.slave_port.specs.declared.exchange.LastExchange.{LastExchange}
 use Rattle.slave_port.specs.declared.heard.Report.{Report}
 use Rattle.slave_port.specs.Exchange.{age, IsReportOf}
-use Rattle.capture_lines.specs.Measurement.{Measured, half_text, follow_text}
+use Rattle.recording_lines.specs.Measurement.{Measured, half_text, follow_text}
 use Rattle.exchange_lines.specs.Moment.{moment_text}
 
 -- the correction of Sync and Follow_Up together, and that of the Delay_Resp

@@ -1,13 +1,13 @@
 ghost use Rattle.std.specs.Prelude.{◌≡◌, ◌++◌, OnOk, Some};
 ghost use Rattle.std.specs.String.{string_bytes};
-ghost use Rattle.capture_lines.specs.Measurement.{measured_of, follow_text};
+ghost use Rattle.recording_lines.specs.Measurement.{measured_of, follow_text};
 ghost use Rattle.exchange_lines.specs.Exchange.{json_results, json_times, json_tags, json_text, table_head};
 ghost use Rattle.exchange_lines.specs.Exchange.{row_results, row_times, row_numbers, row_text};
 ghost use Rattle.exchange_lines.specs.Exchange.{sync_correction2, delay_correction2, between2};
 
 use crate::moment::Moment;
-use capture_lines::Measurement;
 use ptp_units::Nanoseconds;
+use recording_lines::Measurement;
 use slave_port::LastExchange;
 use std::alloc::AllocError;
 use std::fmt;

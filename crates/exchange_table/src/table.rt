@@ -1,12 +1,12 @@
 //! The lines of a report, for a person: when its messages departed, were in clocks and arrived.
 
 use exchange_check::{Checker, Exchange, ExchangeLine, Leg, Stay};
+use explain_words::{Length, Moment, signed};
 use network_model::Report;
 use ptp_units::ScaledTime;
 use std::alloc::AllocError;
 use std::fmt;
 use std::fmt::{Display, Formatter};
-use story_words::{Length, Moment, signed};
 
 /// How many characters the columns of a report's moments have.
 #[derive(Clone, Copy)]

@@ -11,10 +11,10 @@ use Rattle.schedule_reading.specs.declared.fault.TaskFault.{TaskFault}
 use Rattle.schedule_reading.specs.Fault.{is_write}
 use Rattle.explain_input.specs.declared.input.FoundInput.{FoundInput}
 use Rattle.explain_input.specs.declared.input.FoundInput.TheVariants.{Transcript, Schedule}
-use Rattle.exchange_explain.specs.declared.explaining.Explained.{Explained}
-use Rattle.exchange_explain.specs.declared.explaining.Explained.TheVariants.{Whole, Flawed}
-use Rattle.exchange_explain.specs.Explained.{ExplainsAnswer, ExplainFailedWith}
-use Rattle.exchange_explain.specs.Judgements.{JudgesAnswer, judgement_rules}
+use Rattle.explain_transcript.specs.declared.explaining.Explained.{Explained}
+use Rattle.explain_transcript.specs.declared.explaining.Explained.TheVariants.{Whole, Flawed}
+use Rattle.explain_transcript.specs.Explained.{ExplainsAnswer, ExplainFailedWith}
+use Rattle.explain_transcript.specs.Judgements.{JudgesAnswer, judgement_rules}
 use Rattle.command_options.specs.declared.ExplainOptions.{ExplainOptions}
 
 -- the exit status of `explain` over a whole input: that of `check` or of `replay`

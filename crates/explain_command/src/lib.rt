@@ -7,7 +7,7 @@ ghost use Rattle.text_lines.specs.Lines.{input_limit, lines_limit, GivesWithin};
 
 use command_options::ExplainOptions;
 use exchange_check::Verdict;
-use exchange_explain::{Explained, FoundInput, explain, write_judgements};
+use explain_transcript::{Explained, FoundInput, explain, write_judgements};
 use fault_report::report;
 use schedule_reading::TaskFault;
 use std::alloc::Global;

@@ -24,11 +24,11 @@ use Rattle.transcript_text.proofs.OneAnswer.{IsDevices, sure_cause, told_as, IsT
 use Rattle.explain_input.specs.declared.input.FoundInput.{FoundInput}
 use Rattle.explain_input.specs.declared.input.FoundInput.TheVariants.{Transcript, Schedule}
 use Rattle.explain_input.proofs.Read.{transcript_rules, transcript_course, Does, schedule_rules, schedule_course}
-use Rattle.exchange_explain.specs.declared.explaining.Explained.{Explained}
-use Rattle.exchange_explain.specs.declared.explaining.Explained.TheVariants.{Whole, Flawed}
-use Rattle.exchange_explain.proofs.OneRead.{judges_one}
-use Rattle.exchange_explain.proofs.Answered.{judged_read, IsReadAs, transcript_read, schedule_read}
-use Rattle.exchange_explain.proofs.Looked.{IsBeside as IsReadBeside, explained}
+use Rattle.explain_transcript.specs.declared.explaining.Explained.{Explained}
+use Rattle.explain_transcript.specs.declared.explaining.Explained.TheVariants.{Whole, Flawed}
+use Rattle.explain_transcript.proofs.OneRead.{judges_one}
+use Rattle.explain_transcript.proofs.Answered.{judged_read, IsReadAs, transcript_read, schedule_read}
+use Rattle.explain_transcript.proofs.Looked.{IsBeside as IsReadBeside, explained}
 use Rattle.explain_laws.specs.AsChecked.{JudgementsHaveOneAnswer, fault_told, IsSame, JudgesAsChecked}
 use Rattle.explain_laws.specs.AsChecked.{IsBeside, ExplainsAsChecked}
 

@@ -33,16 +33,16 @@ use Rattle.schedule_lines.proofs.Keys.{Field, members_of}
 use Rattle.schedule_lines.proofs.Printed.{moment_readable}
 use Rattle.schedule_lines.proofs.Values.{value_read}
 use Rattle.schedule_reading.specs.declared.transcript.Judged.{Judged}
-use Rattle.measured_json.specs.ReadBack.{IsOf128Bits, is_printed}
-use Rattle.measured_json.proofs.Figures.{all_of, escape_figures, printed_figures, figures_signed, figures_nanoseconds}
-use Rattle.measured_json.proofs.ReadBack.{tags_readable, ArePrinted, both, word, number_printed, ascii}
-use Rattle.exchange_explain.specs.declared.details.Details.{Details}
-use Rattle.exchange_explain.specs.declared.details.Moments.{Moments}
-use Rattle.exchange_explain.specs.declared.details.Octets.{Octets}
-use Rattle.exchange_explain.specs.declared.details.Octets.TheVariants.{Told, Other}
-use Rattle.exchange_explain.specs.Judged.{results_text, of_128_bits, difference, both_differences, errors_against, errors_text}
-use Rattle.exchange_explain.specs.Judged.{are_known, both_brackets, brackets_text, error_text, codes_text, event_text}
-use Rattle.exchange_explain.specs.Judged.{moments_text, octets_text, time_text, owed_text, reported_text, sum}
+use Rattle.json_laws.specs.ReadBack.{IsOf128Bits, is_printed}
+use Rattle.json_laws.proofs.Figures.{all_of, escape_figures, printed_figures, figures_signed, figures_nanoseconds}
+use Rattle.json_laws.proofs.ReadBack.{tags_readable, ArePrinted, both, word, number_printed, ascii}
+use Rattle.explain_transcript.specs.declared.details.Details.{Details}
+use Rattle.explain_transcript.specs.declared.details.Moments.{Moments}
+use Rattle.explain_transcript.specs.declared.details.Octets.{Octets}
+use Rattle.explain_transcript.specs.declared.details.Octets.TheVariants.{Told, Other}
+use Rattle.explain_transcript.specs.Judged.{results_text, of_128_bits, difference, both_differences, errors_against, errors_text}
+use Rattle.explain_transcript.specs.Judged.{are_known, both_brackets, brackets_text, error_text, codes_text, event_text}
+use Rattle.explain_transcript.specs.Judged.{moments_text, octets_text, time_text, owed_text, reported_text, sum}
 use Rattle.explain_laws.specs.ReadBack.{AreMoments, AreOf128Bits, IsWithinRange, results_data, errors_data, error_data, time_data}
 use Rattle.explain_laws.specs.ReadBack.{both_brackets_data, brackets_data, codes_data, event_data, octets_data, judged_data}
 use Rattle.explain_laws.specs.ReadBack.{EachJudgementIsJson}

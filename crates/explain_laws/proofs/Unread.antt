@@ -28,8 +28,8 @@ use Rattle.trace_model.proofs.JourneyLines.{made_by}
 use Rattle.trace_model.proofs.OctetsOfExchanges.{passed, heard_of, exchange_parts, journey_found}
 use Rattle.exchange_check.specs.Evidence.{otherwise_finding, journey_otherwise, exchange_otherwise}
 use Rattle.exchange_check.specs.Evidence.{last_finding, last_otherwise}
-use Rattle.exchange_explain.specs.declared.details.Octets.TheVariants.{Told, Other}
-use Rattle.exchange_explain.specs.Details.{octets_of}
+use Rattle.explain_transcript.specs.declared.details.Octets.TheVariants.{Told, Other}
+use Rattle.explain_transcript.specs.Details.{octets_of}
 use Rattle.explain_laws.specs.Unread.{EachOtherTellsTheReadings}
 
 -- options

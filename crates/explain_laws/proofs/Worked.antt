@@ -20,13 +20,13 @@ use Rattle.schedule_reading.specs.declared.transcript.Judged.{Judged}
 use Rattle.explain_input.specs.declared.input.FoundInput.{FoundInput}
 use Rattle.explain_input.specs.declared.input.FoundInput.TheVariants.{Transcript, Schedule}
 use Rattle.explain_input.specs.Input.{is_schedule}
-use Rattle.exchange_explain.specs.declared.details.Details.{Details}
-use Rattle.exchange_explain.specs.declared.details.Octets.TheVariants.{Told}
-use Rattle.exchange_explain.specs.Judged.{judged_text}
-use Rattle.exchange_explain.specs.declared.explaining.Explained.TheVariants.{Flawed}
-use Rattle.exchange_explain.specs.Judgements.{Judges}
-use Rattle.exchange_explain.proofs.Worked.{clock, clock_recorded, clock_scheduled, no_json, x_recorded, no_json_is, no_json_judged, no_json_explained}
-use Rattle.exchange_explain.proofs.Worked.{clock_ticks, tick_scheduled, tick_refused, clock_ticks_is, clock_ticks_judged}
+use Rattle.explain_transcript.specs.declared.details.Details.{Details}
+use Rattle.explain_transcript.specs.declared.details.Octets.TheVariants.{Told}
+use Rattle.explain_transcript.specs.Judged.{judged_text}
+use Rattle.explain_transcript.specs.declared.explaining.Explained.TheVariants.{Flawed}
+use Rattle.explain_transcript.specs.Judgements.{Judges}
+use Rattle.explain_transcript.proofs.Worked.{clock, clock_recorded, clock_scheduled, no_json, x_recorded, no_json_is, no_json_judged, no_json_explained}
+use Rattle.explain_transcript.proofs.Worked.{clock_ticks, tick_scheduled, tick_refused, clock_ticks_is, clock_ticks_judged}
 use Rattle.transcript_text.specs.declared.fault.FaultKind.TheVariants as kinds
 use Rattle.transcript_text.specs.CheckText.{Checks}
 use Rattle.transcript_text.specs.Fault.{task_kind}

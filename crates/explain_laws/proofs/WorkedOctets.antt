@@ -7,7 +7,7 @@ use Rattle.trace_model.specs.declared.line.TraceLine.{TraceLine}
 use Rattle.trace_model.specs.Line.{Lines}
 use Rattle.trace_model.proofs.WorkedExchange.{network_with, report_with, before_with, reported}
 use Rattle.exchange_check.specs.Evidence.{last_by_messages}
-use Rattle.exchange_explain.specs.declared.details.Octets.TheVariants.{Told, Other}
+use Rattle.explain_transcript.specs.declared.details.Octets.TheVariants.{Told, Other}
 use Rattle.explain_laws.specs.Unread.{octets_told}
 use Rattle.explain_laws.proofs.Unread.{each_other_tells_the_readings}
 

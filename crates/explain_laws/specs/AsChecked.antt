@@ -16,10 +16,10 @@ use Rattle.transcript_text.specs.Replay.{Replays}
 use Rattle.explain_input.specs.declared.input.FoundInput.{FoundInput}
 use Rattle.explain_input.specs.declared.input.FoundInput.TheVariants.{Transcript, Schedule}
 use Rattle.explain_input.specs.Input.{is_schedule}
-use Rattle.exchange_explain.specs.declared.explaining.Explained.{Explained}
-use Rattle.exchange_explain.specs.declared.explaining.Explained.TheVariants.{Whole, Flawed}
-use Rattle.exchange_explain.specs.Explained.{Explains}
-use Rattle.exchange_explain.specs.Judgements.{Judges}
+use Rattle.explain_transcript.specs.declared.explaining.Explained.{Explained}
+use Rattle.explain_transcript.specs.declared.explaining.Explained.TheVariants.{Whole, Flawed}
+use Rattle.explain_transcript.specs.Explained.{Explains}
+use Rattle.explain_transcript.specs.Judgements.{Judges}
 
 -- Two answers of `write_judgements` over the same octets are the same, leave the same octets, and wrote one text.
 abbrev pub JudgementsHaveOneAnswer : Type 0

@@ -13,12 +13,12 @@ use Rattle.schedule_lines.specs.Json.{value_in}
 use Rattle.schedule_lines.specs.Ranges.{HasTags}
 use Rattle.schedule_lines.specs.Written.{whole, moment_data, difference_data, tags_data}
 use Rattle.schedule_reading.specs.declared.transcript.Judged.{Judged}
-use Rattle.measured_json.specs.ReadBack.{IsOf128Bits, is_printed}
-use Rattle.exchange_explain.specs.declared.details.Details.{Details}
-use Rattle.exchange_explain.specs.declared.details.Moments.{Moments}
-use Rattle.exchange_explain.specs.declared.details.Octets.{Octets}
-use Rattle.exchange_explain.specs.declared.details.Octets.TheVariants.{Told, Other}
-use Rattle.exchange_explain.specs.Judged.{are_known, difference, errors_against, judged_text, sum}
+use Rattle.json_laws.specs.ReadBack.{IsOf128Bits, is_printed}
+use Rattle.explain_transcript.specs.declared.details.Details.{Details}
+use Rattle.explain_transcript.specs.declared.details.Moments.{Moments}
+use Rattle.explain_transcript.specs.declared.details.Octets.{Octets}
+use Rattle.explain_transcript.specs.declared.details.Octets.TheVariants.{Told, Other}
+use Rattle.explain_transcript.specs.Judged.{are_known, difference, errors_against, judged_text, sum}
 
 -- results of 128 bits
 abbrev pub AreOf128Bits : Results → Type 0

@@ -10,9 +10,9 @@ use Rattle.trace_model.specs.Line.{Lines}
 use Rattle.trace_model.specs.Record.{line_place}
 use Rattle.trace_model.specs.Sound.{Exchange, results_of}
 use Rattle.exchange_check.specs.Evidence.{last_by_messages, last_finding, last_otherwise}
-use Rattle.exchange_explain.specs.declared.details.Octets.{Octets}
-use Rattle.exchange_explain.specs.declared.details.Octets.TheVariants.{Other}
-use Rattle.exchange_explain.specs.Details.{octets_of}
+use Rattle.explain_transcript.specs.declared.details.Octets.{Octets}
+use Rattle.explain_transcript.specs.declared.details.Octets.TheVariants.{Other}
+use Rattle.explain_transcript.specs.Details.{octets_of}
 
 -- `octets` of a report of the last line of a transcript
 abbrev pub octets_told : Network → TraceLine → Lines → Report → Option Octets

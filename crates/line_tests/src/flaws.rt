@@ -1,6 +1,6 @@
 //! What is said of lines that aren't ones, and of input of another kind.
 
-use line_flaws::{Flaw, FlawAt, Foreign, schedule_flaw, transcript_flaw};
+use explain_flaws::{Flaw, FlawAt, Foreign, schedule_flaw, transcript_flaw};
 use std::alloc::{AllocError, Global};
 
 /// The whole sentence on the fourth line of a schedule, behind so many events.

@@ -1,8 +1,8 @@
 //! What lines of schedules and transcripts are, and how they are written.
 
 use crate::flaws::says_why;
+use explain_flaws::{Flaw, schedule_flaw, transcript_flaw};
 use json::Scratch;
-use line_flaws::{Flaw, schedule_flaw, transcript_flaw};
 use line_object::LineObject;
 use line_writing::{push_event, push_node};
 use schedule_lines::{Line, TranscriptLine};

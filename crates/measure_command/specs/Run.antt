@@ -5,10 +5,10 @@ use Rattle.text_lines.specs.declared.line_fault.LineFault.{LineFault}
 use Rattle.datagram_source.specs.declared.input.InputOutcome.{InputOutcome}
 use Rattle.datagram_source.specs.declared.input.InputOutcome.TheVariants.{Lines, Capture}
 use Rattle.datagram_source.specs.Input.{AnswersInput, OutcomeFailed}
-use Rattle.capture_measure.specs.declared.form.Form.{Form}
-use Rattle.capture_measure.specs.declared.form.Form.TheVariants.{Json, Table, FullJson, FullTable}
-use Rattle.capture_measure.specs.declared.watch.WantedPorts.{WantedPorts}
-use Rattle.capture_measure.specs.Measure.{begun, head_text, measure_rules}
+use Rattle.recording_measure.specs.declared.form.Form.{Form}
+use Rattle.recording_measure.specs.declared.form.Form.TheVariants.{Json, Table, FullJson, FullTable}
+use Rattle.recording_measure.specs.declared.watch.WantedPorts.{WantedPorts}
+use Rattle.recording_measure.specs.Measure.{begun, head_text, measure_rules}
 use Rattle.command_options.specs.declared.MeasureOptions.{MeasureOptions}
 use Rattle.fault_report.specs.Status.{status_of}
 

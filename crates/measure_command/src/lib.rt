@@ -4,11 +4,11 @@
 ghost use Rattle.measure_command.specs.Run.{RunsMeasure, form_of, outcome_status};
 ghost use Rattle.std.specs.Prelude.{◌≡◌};
 
-use capture_measure::{Form, WantedPorts, measure};
 use capture_report::finish_capture;
 use command_options::MeasureOptions;
 use datagram_source::InputOutcome;
 use fault_report::finish;
+use recording_measure::{Form, WantedPorts, measure};
 use std::alloc::Global;
 use std::io::{Read, Write};
 use text_lines::{Counted, LineFault, Stopped};

@@ -3,10 +3,10 @@
 use crate::words::{AKind, Numbers, needed_kind};
 use datagram_text::Identity;
 use event_codec::PortIdentity;
+use explain_words::{AnEvent, Length, Moment};
 use network_model::{Event, Name, NodeKind, NodeSpec, WorldRefusal};
 use std::alloc::{AllocError, Global};
 use std::collections::BTreeMap;
-use story_words::{AnEvent, Length, Moment};
 use world_model::Obstacle;
 
 /// The most nodes whose names are told.

@@ -1,10 +1,10 @@
 //! The whole program: statuses, and where its texts go.
 
 use failing_devices::{Sink, Source, WRITE_FAILURES};
-use schedule_replay::{Counted, command};
 use std::alloc::Global;
 use std::io::ErrorKind;
 use std::test::Fail;
+use whole_program::{Counted, command};
 
 /// A Sync whose fields are 0, but for messageLength, versionPTP and twoStepFlag.
 const SYNC: &[u8] =

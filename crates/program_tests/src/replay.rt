@@ -1,10 +1,10 @@
 //! `replay` over schedules and devices of all kinds.
 
 use failing_devices::{Sink, Source, WRITE_FAILURES, lines_in};
-use schedule_replay::{Counted, Fault, FaultKind, OctetReader, replay};
 use std::alloc::Global;
 use std::io::ErrorKind;
 use std::test::Fail;
+use whole_program::{Counted, Fault, FaultKind, OctetReader, replay};
 
 /// One exchange with a slave behind a clock.
 const SCHEDULE: [&str; 17] = [

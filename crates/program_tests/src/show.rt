@@ -1,10 +1,10 @@
 //! `show` over lines and devices of all kinds.
 
 use failing_devices::{Sink, Source, WRITE_FAILURES, lines_in};
-use schedule_replay::{Counted, Fault, FaultKind, show};
 use std::alloc::Global;
 use std::io::ErrorKind;
 use std::test::Fail;
+use whole_program::{Counted, Fault, FaultKind, show};
 
 /// What is answered where this line has a fault.
 fn fault<T>(line: u64, what: FaultKind) -> Result<T, Fault> {

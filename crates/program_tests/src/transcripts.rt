@@ -2,9 +2,9 @@
 
 use crate::replay::{TRANSCRIPT, fault, joined};
 use failing_devices::{Sink, Source, WRITE_FAILURES, lines_in};
-use schedule_replay::{Counted, FaultKind, check_text};
 use std::io::ErrorKind;
 use std::test::Fail;
+use whole_program::{Counted, FaultKind, check_text};
 
 #[test]
 fn stops_where_the_reader_fails(rt: HostRuntime) -> Result<(), Fail> {

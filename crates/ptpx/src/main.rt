@@ -1,10 +1,10 @@
 //! `ptpx`: reads standard input, writes standard output, and leaves the rest to `command`.
 #![tactic(auto)]
 
-use schedule_replay::{Counted, OctetReader, command};
 use std::io::{ErrorKind, IsTerminal};
 use std::process::ExitCode;
 use std::{env, io};
+use whole_program::{Counted, OctetReader, command};
 
 /// Arguments that aren't UTF-8 are no command.
 const NO_COMMAND: u8 = 2;

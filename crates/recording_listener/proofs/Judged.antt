@@ -12,11 +12,11 @@ use Rattle.sync_watch.specs.declared.arrival.Arrival.{Arrival}
 use Rattle.sync_watch.specs.Told.{Sync, FollowUp, known}
 use Rattle.sync_watch.specs.Judged.{judged_sync, judged_follow_up, is_repeated, after}
 use Rattle.slave_port.specs.History.{Call, Event}
-use Rattle.capture_model.specs.declared.watched.Watched.{Watched}
-use Rattle.capture_model.specs.Listening.{Listening, table_capacity, is_of, arrival_of, told}
-use Rattle.capture_model.specs.Listening.{with_master_anew, ready_judged, ready_sync}
-use Rattle.capture_model.specs.Listening.{ready_followed, ready_follow_up, ready_response, hears_ready}
-use Rattle.capture_model.specs.Begins.{is_beginning}
+use Rattle.recording_model.specs.declared.watched.Watched.{Watched}
+use Rattle.recording_model.specs.Listening.{Listening, table_capacity, is_of, arrival_of, told}
+use Rattle.recording_model.specs.Listening.{with_master_anew, ready_judged, ready_sync}
+use Rattle.recording_model.specs.Listening.{ready_followed, ready_follow_up, ready_response, hears_ready}
+use Rattle.recording_model.specs.Begins.{is_beginning}
 use Rattle.recording_listener.specs.Became.{sync_begins, reply_in}
 use Rattle.recording_listener.specs.Inner.Steps.{with_sync, with_follow_up, with_response, told_again}
 

@@ -4,8 +4,8 @@ use Rattle.sync_watch.specs.Told.{Told}
 use Rattle.sync_watch.specs.StandsFor.{Watch, StandsFor as StandsForTold}
 use Rattle.slave_port.specs.History.{Call, requests_drawn}
 use Rattle.slave_port.specs.StandsFor.{Port, StandsFor as StandsForCalls}
-use Rattle.capture_model.specs.declared.watched.Watched.{Watched}
-use Rattle.capture_model.specs.Listening.{Listening, setup_in, table_capacity, told}
+use Rattle.recording_model.specs.declared.watched.Watched.{Watched}
+use Rattle.recording_model.specs.Listening.{Listening, setup_in, table_capacity, told}
 use Rattle.recording_listener.specs.declared.listener.Listener.{Listener}
 use Rattle.recording_listener.specs.StandsFor.{StandsFor}
 

@@ -5,8 +5,8 @@ use Rattle.event_codec.specs.declared.message.Body.{Body}
 use Rattle.event_codec.specs.declared.message.Body.TheVariants.{Sync, DelayReq}
 use Rattle.event_codec.specs.Packet.{Contents}
 use Rattle.slave_port.specs.History.{Call, Event, General}
-use Rattle.capture_model.specs.declared.watched.Watched.{Watched}
-use Rattle.capture_model.specs.Listening.{Listening, is_of, answer_in, answered}
+use Rattle.recording_model.specs.declared.watched.Watched.{Watched}
+use Rattle.recording_model.specs.Listening.{Listening, is_of, answer_in, answered}
 use Rattle.recording_listener.specs.declared.listener.Became.{Became}
 use Rattle.recording_listener.specs.declared.listener.Became.TheVariants as became
 use Rattle.recording_listener.specs.declared.listener.Reply.{Reply}

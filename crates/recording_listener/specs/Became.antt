@@ -11,10 +11,10 @@ use Rattle.slave_port.specs.declared.heard.Heard.{Heard}
 use Rattle.slave_port.specs.declared.exchange.LastExchange.{LastExchange}
 use Rattle.slave_port.specs.Exchange.{last_exchange}
 use Rattle.slave_port.specs.History.{Call, Event, General, next_number}
-use Rattle.capture_model.specs.declared.watched.Watched.{Watched}
-use Rattle.capture_model.specs.Listening.{Listening, setup_in, table_capacity, is_of, answer_in, arrival_of}
-use Rattle.capture_model.specs.Listening.{ready_sync, ready_follow_up, ready_response}
-use Rattle.capture_model.specs.Begins.{is_beginning}
+use Rattle.recording_model.specs.declared.watched.Watched.{Watched}
+use Rattle.recording_model.specs.Listening.{Listening, setup_in, table_capacity, is_of, answer_in, arrival_of}
+use Rattle.recording_model.specs.Listening.{ready_sync, ready_follow_up, ready_response}
+use Rattle.recording_model.specs.Begins.{is_beginning}
 use Rattle.recording_listener.specs.declared.listener.Became.{Became}
 use Rattle.recording_listener.specs.declared.listener.Became.TheVariants as fates
 use Rattle.recording_listener.specs.declared.listener.Became.TheVariants.{HeardBefore, Asked, Repeated, Anew, Foreign}

@@ -7,9 +7,9 @@ use Rattle.event_codec.specs.Packet.{Contents}
 use Rattle.slave_port.specs.declared.exchange.LastExchange.{LastExchange}
 use Rattle.slave_port.specs.Exchange.{last_exchange}
 use Rattle.slave_port.specs.History.{Call}
-use Rattle.capture_model.specs.declared.watched.Watched.{Watched}
-use Rattle.capture_model.specs.Listening.{Listening, setup_in, ready, hearing, after_all}
-use Rattle.capture_model.specs.Recorded.{Recorded}
+use Rattle.recording_model.specs.declared.watched.Watched.{Watched}
+use Rattle.recording_model.specs.Listening.{Listening, setup_in, ready, hearing, after_all}
+use Rattle.recording_model.specs.Recorded.{Recorded}
 
 -- after a call, by the port that hears it
 abbrev pub exchange_after : Watched → Call → Listening → Option LastExchange

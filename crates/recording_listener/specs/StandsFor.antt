@@ -4,8 +4,8 @@ use Rattle.event_codec.specs.Packet.{Contents}
 use Rattle.sync_watch.specs.StandsFor as watches
 use Rattle.slave_port.specs.History.{next_number}
 use Rattle.slave_port.specs.StandsFor as ports
-use Rattle.capture_model.specs.declared.watched.Watched.{Watched}
-use Rattle.capture_model.specs.Listening.{Listening, setup_in, table_capacity, ticks_every, answered}
+use Rattle.recording_model.specs.declared.watched.Watched.{Watched}
+use Rattle.recording_model.specs.Listening.{Listening, setup_in, table_capacity, ticks_every, answered}
 use Rattle.recording_listener.specs.declared.listener.Became.{Became}
 use Rattle.recording_listener.specs.declared.listener.Listener.{Listener}
 use Rattle.recording_listener.specs.Exchanged.{exchanged}

@@ -7,19 +7,19 @@ ghost use Rattle.event_codec.specs.Port.{is_same_port};
 ghost use Rattle.sync_watch.specs.Judged.{judged_sync, judged_follow_up, judged_response};
 ghost use Rattle.slave_port.specs.History.{Setup, Call, SetMaster, Event, General};
 ghost use Rattle.slave_port.specs.StandsFor.{StandsFor as StandsForCalls};
-ghost use Rattle.capture_model.specs.declared.watched.Watched.{Watched};
-ghost use Rattle.capture_model.specs.Listening.{Listening, setup_with, table_capacity, start, told, draws, is_of};
-ghost use Rattle.capture_model.specs.Listening.{is_unicast, arrival_of, with_count, ready_sync};
-ghost use Rattle.capture_model.specs.Listening.{ready_follow_up, ready_response, hears_ready, asks, anew};
-ghost use Rattle.capture_model.specs.Listening.{hears_request, hears};
+ghost use Rattle.recording_model.specs.declared.watched.Watched.{Watched};
+ghost use Rattle.recording_model.specs.Listening.{Listening, setup_with, table_capacity, start, told, draws, is_of};
+ghost use Rattle.recording_model.specs.Listening.{is_unicast, arrival_of, with_count, ready_sync};
+ghost use Rattle.recording_model.specs.Listening.{ready_follow_up, ready_response, hears_ready, asks, anew};
+ghost use Rattle.recording_model.specs.Listening.{hears_request, hears};
 ghost use Rattle.recording_listener.specs.Became.{sync_begins, reply_by, became_own_request, became_request, became_called, became_of};
 ghost use Rattle.recording_listener.specs.StandsFor.{StandsFor, Listens, Becomes, IsAnswered, IsExchanged};
 ghost use Rattle.recording_listener.specs.Inner.Steps.{Replies, Says, with_sync, with_follow_up, with_response, told_again};
 
-use capture_model::Watched;
 use event_codec::{Body, Header, Message, PortConfig, PortIdentity};
 use pairing::RingTable;
 use ptp_units::{ScaledTime, Seq};
+use recording_model::Watched;
 use slave_port::{Heard, HeldFollow, HeldRequest, HeldSync, LastExchange, SlavePort};
 use sync_watch::{Arrival, Judgement, ResponseWatch, SyncWatch};
 

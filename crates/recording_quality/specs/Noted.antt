@@ -3,7 +3,7 @@ use Rattle.std.specs.Prelude.{ℕ, Option}
 use Rattle.event_codec.specs.declared.refusal.DecodeRefusal.{DecodeRefusal}
 use Rattle.slave_port.specs.declared.exchange.LastExchange.{LastExchange}
 use Rattle.slave_port.specs.declared.heard.Report.{Report}
-use Rattle.capture_lines.specs.declared.measurement.Half.{Half}
+use Rattle.recording_lines.specs.declared.measurement.Half.{Half}
 
 -- a report, which half of it its line completed, and the exchange that it was made of, which is there
 pub record Reported : Type 0 where

@@ -6,8 +6,8 @@ use Rattle.std.specs.Ordering.{int_eq}
 use Rattle.event_codec.specs.declared.refusal.DecodeRefusal.{DecodeRefusal}
 use Rattle.event_codec.specs.declared.refusal.DecodeRefusal.TheVariants.{Short, Version, OtherType, LengthField, Truncated}
 use Rattle.event_codec.specs.declared.refusal.DecodeRefusal.TheVariants.{Nanoseconds}
-use Rattle.capture_lines.specs.declared.measurement.Half.{Half}
-use Rattle.capture_lines.specs.declared.measurement.Half.TheVariants.{Sync, Response}
+use Rattle.recording_lines.specs.declared.measurement.Half.{Half}
+use Rattle.recording_lines.specs.declared.measurement.Half.TheVariants.{Sync, Response}
 use Rattle.recording_quality.specs.declared.quality.Quality.{Quality}
 use Rattle.recording_quality.specs.declared.quality.Statistics.{Statistics}
 use Rattle.recording_quality.specs.declared.quality.Times.{Times}

@@ -5,9 +5,9 @@ ghost use Rattle.recording_quality.specs.Quality.{is_finer, is_cut, is_fall, Are
 
 use crate::series::{Point, Series, Spread, count_if};
 use crate::trend::Trend;
-use capture_lines::Half;
 use event_codec::DecodeRefusal;
 use ptp_units::ScaledTime;
+use recording_lines::Half;
 use slave_port::{LastExchange, Report};
 
 /// A microsecond, in units of 2^-16 ns.

@@ -11,7 +11,7 @@ use Rattle.std.proofs.lemmas.List.Sums.{AllPass-from_list_all, list_all-from_All
 use Rattle.capture_file.specs.declared.packet.Interface.{Interface}
 use Rattle.capture_file.specs.Name.{place_text}
 use Rattle.capture_file.specs.Packet.{interface_of}
-use Rattle.capture_lines.proofs.Times.{own}
+use Rattle.recording_lines.proofs.Times.{own}
 use Rattle.tap_choice.specs.TapName.{IsTapName, is_tap_octet}
 use Rattle.tap_follow.specs.Datagram.{IsTapOf, Own, Place}
 

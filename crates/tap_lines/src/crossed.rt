@@ -1,6 +1,6 @@
 ghost use Rattle.std.specs.Prelude.{◌≡◌, ◌++◌, ◌^◌, ◌+ℤ◌, ◌<ℤ◌, pos, negsuc, OnOk, Some};
 ghost use Rattle.std.specs.String.{string_bytes};
-ghost use Rattle.capture_lines.specs.Measurement.{follow_text};
+ghost use Rattle.recording_lines.specs.Measurement.{follow_text};
 ghost use Rattle.tap_crossing.specs.Crossing.{IsWithin};
 ghost use Rattle.tap_lines.specs.Crossed.{crossed_of, kind_text, json_front, json_lines, json_back, json_text, table_head, row_text};
 

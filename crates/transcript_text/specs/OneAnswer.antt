@@ -1,4 +1,4 @@
--- Octets leave one answer of a subcommand, as `octets_have_one_answer` of `schedule_replay` promises, but where a device failed or memory was refused. Free is at which octet the reader fails (801); at which
+-- Octets leave one answer of a subcommand, as `octets_have_one_answer` of `whole_program` promises, but where a device failed or memory was refused. Free is at which octet the reader fails (801); at which
 -- line the writer fails, and what went out (802); at which line memory is refused, and how many of the nodes' lines, or
 -- how much of what that line of a recording brings, went out then (808).
 use Rattle.std.specs.Prelude.{◌≡◌, List, ℕ, Option, Result, MatchResult, ⊤}

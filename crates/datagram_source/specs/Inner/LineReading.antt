@@ -3,8 +3,8 @@ use Rattle.std.specs.Prelude.{◌≡◌, ℕ, ◌≤◌, ◌/◌, ◌^◌, List,
 use Rattle.hex.specs.Hex.{decode_of}
 use Rattle.text_lines.specs.declared.line_fault.LineFault.{LineFault}
 use Rattle.text_lines.specs.declared.line_fault.LineFault.TheVariants.{Write, Field, Memory}
-use Rattle.capture_lines.specs.Timed.{LineParts, parted, parts_of, timed_in}
-use Rattle.capture_lines.specs.declared.timed.Timed as read_as
+use Rattle.recording_lines.specs.Timed.{LineParts, parted, parts_of, timed_in}
+use Rattle.recording_lines.specs.declared.timed.Timed as read_as
 use Rattle.tap_choice.specs.TapName.{IsTapName}
 use Rattle.datagram_source.specs.declared.lines.Line as parted_as
 use Rattle.datagram_source.specs.declared.lines.LineForm.{LineForm}

@@ -1,7 +1,7 @@
 use Rattle.std.proofs.Common.{subst}
-use Rattle.capture_measure.specs.declared.form.Form.{Form}
+use Rattle.recording_measure.specs.declared.form.Form.{Form}
 use Rattle.datagram_source.specs.Input.{AnswersInput}
-use Rattle.capture_measure.specs.Measure.{begun, head_text, measure_rules}
+use Rattle.recording_measure.specs.Measure.{begun, head_text, measure_rules}
 use Rattle.measure_command.specs.Run.{wanted_of}
 use Rattle.measure_command.proofs.run_measure.Goals as goal
 

@@ -4,8 +4,8 @@ use Rattle.sync_watch.specs.declared.judgement.Judgement.{Judgement}
 use Rattle.sync_watch.specs.declared.arrival.Arrival.{Arrival}
 use Rattle.sync_watch.specs.Judged.{after_sync, after_follow_up, after_response}
 use Rattle.slave_port.specs.History.{Call, SetMaster}
-use Rattle.capture_model.specs.declared.watched.Watched.{Watched}
-use Rattle.capture_model.specs.Listening.{Listening, table_capacity}
+use Rattle.recording_model.specs.declared.watched.Watched.{Watched}
+use Rattle.recording_model.specs.Listening.{Listening, table_capacity}
 use Rattle.recording_listener.specs.declared.listener.Listener.{Listener}
 use Rattle.recording_listener.specs.declared.listener.Reply.{Reply}
 use Rattle.recording_listener.specs.StandsFor.{StandsFor}

@@ -2,8 +2,8 @@ use Rattle.std.proofs.Common.{◌≡◌, ◌∙◌, ℕ, suc, ◌+◌, ◌-◌, 
 use Rattle.std.specs.Prelude.{option_map, option_and_then, nat_le, true, Bool, if◌then◌else◌}
 use Rattle.std.proofs.Math.Seq.{take-append_seam, take-suc-set}
 use Rattle.std.proofs.lemmas.Bool.Decides.{nat_tests}
-use Rattle.capture_lines.specs.Timed.{parts_of, timed_in}
-use Rattle.capture_lines.specs.declared.timed.Timed.{Timed}
+use Rattle.recording_lines.specs.Timed.{parts_of, timed_in}
+use Rattle.recording_lines.specs.declared.timed.Timed.{Timed}
 use Rattle.command_line.specs.Limit.{limit_of, time_alone}
 use Rattle.command_line.proofs.limit.limit_in.Goals as goal
 

@@ -2,7 +2,7 @@ use Rattle.std.proofs.Common.{◌≡◌, ◌∙◌, ◌++◌, List, ℕ, ap, app
 use Rattle.std.specs.String.{string_bytes}
 use Rattle.std.proofs.lemmas.Result.{IfOk-equal}
 use Rattle.slave_port.specs.declared.exchange.LastExchange.{LastExchange}
-use Rattle.capture_lines.specs.Measurement.{Measured, measured_of}
+use Rattle.recording_lines.specs.Measurement.{Measured, measured_of}
 use Rattle.exchange_lines.specs.Exchange.{json_results, json_times, json_tags}
 use Rattle.exchange_lines.proofs.Ways.{three_parts}
 use Rattle.exchange_lines.proofs.exchange.push_json.Goals as goal

@@ -2,7 +2,7 @@ use Rattle.std.proofs.Common.{◌≡◌, ◌∙◌, ◌++◌, List, ℕ, ap, app
 use Rattle.std.specs.String.{string_bytes}
 use Rattle.std.proofs.lemmas.Result.{IfOk-equal}
 use Rattle.slave_port.specs.declared.exchange.LastExchange.{LastExchange}
-use Rattle.capture_lines.specs.Measurement.{Measured, measured_of}
+use Rattle.recording_lines.specs.Measurement.{Measured, measured_of}
 use Rattle.exchange_lines.specs.Exchange.{row_results, row_times, row_numbers}
 use Rattle.exchange_lines.proofs.Ways.{three_parts}
 use Rattle.exchange_lines.proofs.exchange.push_row.Goals as goal

@@ -1,5 +1,5 @@
 use Rattle.std.proofs.Common.{add-one}
-use Rattle.capture_model.specs.Listening.{draws}
+use Rattle.recording_model.specs.Listening.{draws}
 use Rattle.recording_listener.proofs.listener.draw.Goals as goal
 
 pub loop-preserved : goal.loop-preserved

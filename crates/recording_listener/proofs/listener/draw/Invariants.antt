@@ -1,7 +1,7 @@
 use Rattle.std.proofs.Common.{List}
 use Rattle.slave_port.specs.History.{Setup, Call}
 use Rattle.slave_port.specs.StandsFor.{StandsFor}
-use Rattle.capture_model.specs.Listening.{draws}
+use Rattle.recording_model.specs.Listening.{draws}
 use Rattle.recording_listener.proofs.listener.draw.Given as goal
 
 abbrev pub invariant-loop : goal.invariant-loop

@@ -1,5 +1,5 @@
 use Rattle.std.proofs.Common.{[]}
-use Rattle.capture_model.specs.Listening.{setup_with}
+use Rattle.recording_model.specs.Listening.{setup_with}
 use Rattle.recording_listener.proofs.listener.port_of.Goals as goal
 
 pub returns : goal.returns

@@ -2,7 +2,7 @@ use Rattle.std.proofs.Common.{◌≡◌, ◌∙◌, ℕ, zero, suc, ◌+◌, ◌
 use Rattle.ptp_units.specs.Sequence.{ahead, next}
 use Rattle.slave_port.specs.History.{Call, RequestLeft, requests_drawn, next_number}
 use Rattle.slave_port.specs.StandsFor.{StandsFor}
-use Rattle.capture_model.specs.Listening.{setup_in, draws}
+use Rattle.recording_model.specs.Listening.{setup_in, draws}
 use Rattle.recording_listener.proofs.listener.Listener.ask.Goals as goal
 
 requests_drawn-draws : (count tag : ℕ) (history : List Call)

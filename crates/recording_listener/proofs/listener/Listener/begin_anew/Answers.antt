@@ -1,5 +1,5 @@
 use Rattle.std.proofs.Common.{[], rules}
-use Rattle.capture_model.specs.Listening.{setup_in, setup_with, table_capacity}
+use Rattle.recording_model.specs.Listening.{setup_in, setup_with, table_capacity}
 use Rattle.recording_listener.proofs.listener.Listener.begin_anew.Goals as goal
 
 pub returns : goal.returns

@@ -2,7 +2,7 @@ use Rattle.std.proofs.Common.{◌∙◌, sym, ap, subst}
 use Rattle.event_codec.specs.declared.message.Body.{Body}
 use Rattle.event_codec.specs.declared.message.Body.TheVariants.{Sync, DelayResp}
 use Rattle.event_codec.specs.Packet.{Contents, contents}
-use Rattle.capture_model.specs.Listening.{answered, hears}
+use Rattle.recording_model.specs.Listening.{answered, hears}
 use Rattle.recording_listener.specs.Exchanged.{exchanged}
 use Rattle.recording_listener.specs.Became.{heard_by, exchange_by}
 use Rattle.recording_listener.specs.StandsFor.{StandsFor}

@@ -1,7 +1,7 @@
 use Rattle.std.proofs.Common.{Ok}
 use Rattle.event_codec.specs.Packet.{contents}
 use Rattle.slave_port.specs.History.{Call, Event}
-use Rattle.capture_model.specs.Listening.{told}
+use Rattle.recording_model.specs.Listening.{told}
 use Rattle.recording_listener.proofs.listener.Listener.hear_counted.Goals as goal
 
 pub returns-clause-listens : goal.returns-clause-listens

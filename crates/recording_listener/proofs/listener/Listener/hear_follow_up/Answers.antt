@@ -4,9 +4,9 @@ use Rattle.sync_watch.specs.declared.arrival.Arrival.{Arrival}
 use Rattle.sync_watch.specs.Told.{FollowUp}
 use Rattle.sync_watch.specs.Judged.{is_repeated}
 use Rattle.slave_port.specs.History.{Call, General}
-use Rattle.capture_model.specs.declared.watched.Watched.{Watched}
-use Rattle.capture_model.specs.Listening.{Listening, table_capacity, is_of, arrival_of}
-use Rattle.capture_model.specs.Listening.{hears_ready}
+use Rattle.recording_model.specs.declared.watched.Watched.{Watched}
+use Rattle.recording_model.specs.Listening.{Listening, table_capacity, is_of, arrival_of}
+use Rattle.recording_model.specs.Listening.{hears_ready}
 use Rattle.recording_listener.specs.Became.{became_by, became_called}
 use Rattle.recording_listener.specs.StandsFor.{StandsFor}
 use Rattle.recording_listener.proofs.Judged.{follow_up-other, follow_up-judged, says-newer, says-repeated}

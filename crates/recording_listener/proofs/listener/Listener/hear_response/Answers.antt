@@ -5,9 +5,9 @@ use Rattle.sync_watch.specs.Told.{known}
 use Rattle.event_codec.specs.Port.{is_same_port}
 use Rattle.std.specs.Prelude.{◌&&◌, is_some}
 use Rattle.slave_port.specs.History.{Call, General}
-use Rattle.capture_model.specs.declared.watched.Watched.{Watched}
-use Rattle.capture_model.specs.Listening.{Listening, table_capacity, is_of}
-use Rattle.capture_model.specs.Listening.{hears_ready}
+use Rattle.recording_model.specs.declared.watched.Watched.{Watched}
+use Rattle.recording_model.specs.Listening.{Listening, table_capacity, is_of}
+use Rattle.recording_model.specs.Listening.{hears_ready}
 use Rattle.recording_listener.specs.Became.{became_by, became_called}
 use Rattle.recording_listener.specs.StandsFor.{StandsFor}
 use Rattle.recording_listener.proofs.Judged.{response-other, response-judged, says-newer, says-repeated}

@@ -2,8 +2,8 @@ use Rattle.std.proofs.Common.{◌≡◌, ◌∙◌, true, false, Some, Ok, sym, 
 use Rattle.event_codec.specs.Packet.{Contents, contents}
 use Rattle.sync_watch.specs.declared.judgement.Judgement.TheVariants.{Newer, Repeated, BeganAnew}
 use Rattle.slave_port.specs.History.{Call, Event}
-use Rattle.capture_model.specs.declared.watched.Watched.{Watched}
-use Rattle.capture_model.specs.Listening.{is_of}
+use Rattle.recording_model.specs.declared.watched.Watched.{Watched}
+use Rattle.recording_model.specs.Listening.{is_of}
 use Rattle.recording_listener.specs.Became.{became_by}
 use Rattle.recording_listener.specs.StandsFor.{StandsFor}
 use Rattle.recording_listener.proofs.Judged.{sync-begins, sync-begins-not, sync-other, sync-other-reply, sync-judged, sync-judged-reply, with_sync-judged, sync-anew}

@@ -2,7 +2,7 @@ use Rattle.std.proofs.Common.{◌∙◌, ap, subst}
 use Rattle.sync_watch.specs.declared.arrival.Arrival.{Arrival}
 use Rattle.sync_watch.specs.Judged.{judged_follow_up, after_follow_up}
 use Rattle.sync_watch.specs.StandsFor.{StandsFor}
-use Rattle.capture_model.specs.Listening.{table_capacity}
+use Rattle.recording_model.specs.Listening.{table_capacity}
 use Rattle.recording_listener.proofs.Listeners.{StandsFor-heard}
 use Rattle.recording_listener.proofs.listener.Listener.judge_follow_up.Goals as goal
 

@@ -1,4 +1,4 @@
-use Rattle.capture_model.specs.Listening.{table_capacity}
+use Rattle.recording_model.specs.Listening.{table_capacity}
 use Rattle.recording_listener.proofs.listener.Listener.judge_response.Goals as goal
 
 pub returns-clause-listens : goal.returns-clause-listens

@@ -2,8 +2,8 @@ use Rattle.std.proofs.Common.{◌≡◌, ◌∙◌, ◌==◌, ◌≤◌, ℕ, tr
 use Rattle.std.proofs.lemmas.Bool.{le-ltb, ne_eqb}
 use Rattle.ptp_units.specs.Sequence.{ahead}
 use Rattle.slave_port.specs.History.{next_number}
-use Rattle.capture_model.specs.declared.watched.Watched.{Watched}
-use Rattle.capture_model.specs.Listening.{Listening, setup_in, asks, anew, hears_request}
+use Rattle.recording_model.specs.declared.watched.Watched.{Watched}
+use Rattle.recording_model.specs.Listening.{Listening, setup_in, asks, anew, hears_request}
 use Rattle.recording_listener.specs.declared.listener.Listener.{Listener}
 use Rattle.recording_listener.specs.StandsFor.{StandsFor}
 use Rattle.recording_listener.proofs.listener.Listener.request.Goals as goal

@@ -1,7 +1,7 @@
 use Rattle.std.proofs.Common.{◌∷◌, Ok, refl}
 use Rattle.event_codec.specs.Packet.{contents}
 use Rattle.slave_port.specs.History.{Call, General}
-use Rattle.capture_model.specs.Listening.{setup_in}
+use Rattle.recording_model.specs.Listening.{setup_in}
 use Rattle.recording_listener.proofs.Listeners.{StandsFor-told}
 use Rattle.recording_listener.proofs.listener.Listener.tell_general.Goals as goal
 

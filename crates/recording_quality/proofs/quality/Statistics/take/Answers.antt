@@ -2,8 +2,8 @@ use Rattle.std.proofs.Common.{◌∙◌, ◌∷◌, Option, Some, None, false, r
 use Rattle.std.specs.Prelude.{filter_map}
 use Rattle.std.specs.Option.{option_map_or}
 use Rattle.std.specs.List.{cons_option}
-use Rattle.capture_lines.specs.declared.measurement.Half.{Half}
-use Rattle.capture_lines.specs.declared.measurement.Half.TheVariants.{Sync, Response}
+use Rattle.recording_lines.specs.declared.measurement.Half.{Half}
+use Rattle.recording_lines.specs.declared.measurement.Half.TheVariants.{Sync, Response}
 use Rattle.recording_quality.specs.declared.quality.Statistics.{Statistics}
 use Rattle.recording_quality.specs.declared.series.Point.{Point}
 use Rattle.recording_quality.specs.Noted.{Noted}

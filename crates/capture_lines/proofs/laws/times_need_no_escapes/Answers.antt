@@ -1,5 +1,0 @@
-use Rattle.capture_lines.proofs.Times.{time_octets}
-use Rattle.capture_lines.proofs.laws.times_need_no_escapes.Goals as goal
-
-pub returns : goal.returns
-returns c = time_octets

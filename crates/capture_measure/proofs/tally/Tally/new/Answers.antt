@@ -1,5 +1,0 @@
-use Rattle.capture_measure.proofs.Counting.{no_counts}
-use Rattle.capture_measure.proofs.tally.Tally.new.Goals as goal
-
-pub returns : goal.returns
-returns c = no_counts _ c.new.ensures

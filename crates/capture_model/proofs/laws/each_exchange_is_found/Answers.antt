@@ -1,6 +1,0 @@
--- An exchange that stands in a recording is reported.
-use Rattle.capture_model.proofs.Finds.{each_exchange}
-use Rattle.capture_model.proofs.laws.each_exchange_is_found.Goals as goal
-
-pub returns : goal.returns
-returns c = each_exchange

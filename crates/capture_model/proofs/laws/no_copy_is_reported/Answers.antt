@@ -1,6 +1,0 @@
--- A copy brings no report.
-use Rattle.capture_model.proofs.Copies.{no_copy}
-use Rattle.capture_model.proofs.laws.no_copy_is_reported.Goals as goal
-
-pub returns : goal.returns
-returns c = no_copy

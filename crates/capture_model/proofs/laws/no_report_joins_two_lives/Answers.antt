@@ -1,6 +1,0 @@
--- No report joins two lives whose Syncs are told apart.
-use Rattle.capture_model.proofs.Apart.{no_joining}
-use Rattle.capture_model.proofs.laws.no_report_joins_two_lives.Goals as goal
-
-pub returns : goal.returns
-returns c = no_joining

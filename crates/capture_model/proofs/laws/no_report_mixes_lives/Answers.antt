@@ -1,6 +1,0 @@
--- No report rests on a line from before the last beginning.
-use Rattle.capture_model.proofs.Lives.{no_report}
-use Rattle.capture_model.proofs.laws.no_report_mixes_lives.Goals as goal
-
-pub returns : goal.returns
-returns c = no_report

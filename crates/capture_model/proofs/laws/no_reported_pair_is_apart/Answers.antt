@@ -1,6 +1,0 @@
--- The pair of a report is less than a second apart.
-use Rattle.capture_model.proofs.Pairs.{no_pair}
-use Rattle.capture_model.proofs.laws.no_reported_pair_is_apart.Goals as goal
-
-pub returns : goal.returns
-returns c = no_pair

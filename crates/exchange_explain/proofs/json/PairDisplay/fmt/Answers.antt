@@ -1,7 +1,0 @@
-use Rattle.std.proofs.Common.{append_assoc}
-use Rattle.std.proofs.Output.{has_written_of_eq}
-use Rattle.exchange_explain.proofs.json.PairDisplay.fmt.Goals as goal
-
-pub returns-in-Some-clause-writes : goal.returns-in-Some-clause-writes
-returns-in-Some-clause-writes g c = λ plain ok.
-    has_written_of_eq _ _ _ _ _ (rw c.in-Some.is (simp append_assoc)) (c.write.ensures.writes plain ok)

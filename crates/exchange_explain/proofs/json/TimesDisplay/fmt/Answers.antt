@@ -1,7 +1,0 @@
-use Rattle.std.proofs.Output.{has_written_of_eq}
-use Rattle.exchange_explain.proofs.Joined.{moments_joined}
-use Rattle.exchange_explain.proofs.json.TimesDisplay.fmt.Goals as goal
-
-pub returns-in-Some-clause-writes : goal.returns-in-Some-clause-writes
-returns-in-Some-clause-writes g c = λ plain ok.
-    has_written_of_eq _ _ _ _ _ (moments_joined c.args.self.now.0 c.in-Some.moments c.in-Some.is) (c.write.ensures.writes plain ok)

@@ -1,5 +1,0 @@
-use Rattle.exchange_story.proofs.Counted.{counts_none}
-use Rattle.exchange_story.proofs.tally.Tally.new.Goals as goal
-
-pub returns : goal.returns
-returns c = counts_none c.none.result c.none.ensures

@@ -1,8 +1,0 @@
-use Rattle.std.proofs.Common.{◌∙◌}
-use Rattle.finding_text.specs.Misread.{fall_in}
-use Rattle.finding_text.proofs.known.Known.fall.Goals as goal
-
-pub returns : goal.returns
-returns c noted =
-    c.fall_in.ensures
-    ∙ (λ i. fall_in (c.reading.ensures i) (c.reading-2.ensures i) (c.named.ensures noted i) (c.place.ensures i))

@@ -1,8 +1,0 @@
-use Rattle.finding_text.proofs.known.Known.named.Goals as goal
-
-pub returns : goal.returns
-returns c noted = λ i. record {
-  place = c.place.ensures i;
-  event = c.event_at.ensures noted i;
-  came = c.came_at.ensures noted i;
-}

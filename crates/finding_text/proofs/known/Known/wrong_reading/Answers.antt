@@ -1,7 +1,0 @@
-use Rattle.std.proofs.Common.{◌∙◌}
-use Rattle.finding_text.specs.Misread.{read_in}
-use Rattle.finding_text.proofs.known.Known.wrong_reading.Goals as goal
-
-pub returns : goal.returns
-returns c noted =
-    c.read_in.ensures ∙ (λ i. read_in (c.wrong_reading_at.ensures c.args.self.now.checker.now noted i))

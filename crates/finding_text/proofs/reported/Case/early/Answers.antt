@@ -1,9 +1,0 @@
-use Rattle.std.proofs.Common.{◌∙◌}
-use Rattle.finding_text.specs.Known.{lines_of, named_if_at}
-use Rattle.finding_text.specs.OtherMaster.{early_in}
-use Rattle.finding_text.proofs.reported.Case.early.Goals as goal
-
-pub returns : goal.returns
-returns c noted =
-    c.early_in.ensures ∙ (λ i. early_in c.args.early (c.named_if.ensures noted i))
-    ∙ (λ i. early_in c.args.early (named_if_at (lines_of c.args.self.now.known) (c.early_tag.ensures i)))

@@ -1,4 +1,0 @@
-use Rattle.finding_text.proofs.reported.Case.finding.Goals as goal
-
-pub returns : goal.returns
-returns c noted = c.finding.ensures noted

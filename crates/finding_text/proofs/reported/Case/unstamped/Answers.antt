@@ -1,9 +1,0 @@
-use Rattle.std.proofs.Common.{◌∙◌}
-use Rattle.finding_text.specs.Misplaced.{unstamped_in}
-use Rattle.finding_text.proofs.reported.Case.unstamped.Goals as goal
-
-pub returns : goal.returns
-returns c noted =
-    c.unstamped_in.ensures
-    ∙ (λ i. unstamped_in c.args.self.now.reported.now.report.request_tag c.args.self.now.reported.now.report.response_tag
-    (c.place.ensures i) (c.named_if.ensures noted i))

@@ -1,5 +1,0 @@
-use Rattle.measure_laws.proofs.ExactCapture.{each_measurement}
-use Rattle.measure_laws.proofs.laws.each_measurement_of_a_capture_is_exact.Goals as goal
-
-pub returns : goal.returns
-returns c = each_measurement c.each_report_is_exact.ensures

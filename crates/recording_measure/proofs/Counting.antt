@@ -1,0 +1,293 @@
+-- What is counted with one datagram more.
+use Rattle.std.proofs.Common.{◌≡◌, ◌∙◌, ◌⊎◌, inl, inr, ℕ, ◌+◌, ◌*◌, ◌<◌, Bool, true, false, List, [], ◌∷◌, length, get_or}
+use Rattle.std.proofs.Common.{Option, Some, None, Ok, Err, refl, sym, ap, subst, arith}
+use Rattle.std.specs.Prelude.{cond, ◌==◌, count_by, is_some, slice_set, map, filter_map, option_map}
+use Rattle.std.specs.List.{cons_option}
+use Rattle.std.specs.Result.{result_err}
+use Rattle.std.proofs.lemmas.Bool.{cases_eq, eq-eqb, ne_eqb}
+use Rattle.std.proofs.lemmas.List.{length-set, length-replicate, get_or-replicate, get_or-set_same, get_or-set_other}
+use Rattle.std.proofs.lemmas.List.Sums.{sum_by-cons}
+use Rattle.event_codec.specs.declared.refusal.DecodeRefusal.{DecodeRefusal}
+use Rattle.event_codec.specs.Packet.{Contents}
+use Rattle.event_codec.specs.Reading.{Reading}
+use Rattle.recording_model.specs.declared.watched.Watched.{Watched}
+use Rattle.recording_model.specs.Listening.{Listening}
+use Rattle.recording_model.specs.Recorded.{Recorded}
+use Rattle.recording_measure.specs.Made.{Measured}
+use Rattle.recording_quality.specs.declared.quality.Quality.{Quality}
+use Rattle.recording_quality.specs.Noted.{Noted, Reported}
+use Rattle.recording_quality.specs.declared.others.Others.{Others}
+use Rattle.recording_quality.specs.Others.{AreOthers}
+use Rattle.recording_quality.specs.Quality.{IsQuality}
+use Rattle.recording_listener.specs.declared.listener.Became.{Became}
+use Rattle.recording_listener.specs.declared.listener.Became.TheVariants as became
+use Rattle.recording_summary.specs.declared.counts.Counts.{Counts}
+use Rattle.recording_summary.specs.declared.kind.Kind.{Kind}
+use Rattle.recording_summary.specs.declared.kind.Kind.TheVariants as kinds
+use Rattle.recording_summary.specs.declared.no_report.NoReport.{NoReport}
+use Rattle.recording_summary.specs.declared.no_report.NoReport.TheVariants as whys
+use Rattle.recording_summary.specs.Counts.{AreNone, kind_number, why_number, place_of, with_one, with_unreported}
+use Rattle.recording_measure.specs.Counts.{kind_of, kind_of_refused, why_refused, at_most}
+use Rattle.recording_measure.specs.Counts.{Fate, fate_in, early_fate, noted_of, meeting_of, is_so, IsCounts}
+use Rattle.recording_measure.specs.Meetings.{meeting_at}
+use Rattle.recording_measure.specs.Inner.Counting.{with_why, with_anew, why_by, is_slave_anew, is_master_anew}
+use Rattle.recording_listener.specs.Became.{became_of}
+use Rattle.recording_measure.proofs.Became.{why-became, slave-became, master-became}
+
+-- ---- places
+kind_few : (kind : Kind) → kind_number kind < 10
+kind_few kinds.Sync = omega arith
+kind_few _ = omega arith
+
+why_few : (why : NoReport) → why_number why < 14
+why_few whys.Held = omega arith
+why_few _ = omega arith
+
+place_within : (k y : ℕ) → k < 10 → y < 14 → k * 14 + y < 140
+place_within k y few some = omega (arith, few, some)
+
+pub place_few : (kind : Kind) (why : NoReport) → place_of kind why < 140
+place_few kind why = place_within (kind_number kind) (why_number why) (kind_few kind) (why_few why)
+
+-- ---- one more, or none
+module _ (p : Fate → Bool) (fate : Fate) (all : List Fate) (count : ℕ) where
+  count_yes : p fate ≡ true → count ≡ at_most (count_by p all) → with_one count ≡ at_most (count_by p (fate ∷ all))
+  count_yes is so =
+      let more = sum_by-cons (λ f. cond (p f) 1 0) fate all in
+      let one = ap {B = ℕ} (λ (b : Bool). cond b 1 0) is in
+      omega (arith, more, one, so)
+
+  count_no : p fate ≡ false → count ≡ at_most (count_by p all) → count ≡ at_most (count_by p (fate ∷ all))
+  count_no is so =
+      let more = sum_by-cons (λ f. cond (p f) 1 0) fate all in
+      let none = ap {B = ℕ} (λ (b : Bool). cond b 1 0) is in
+      omega (arith, more, none, so)
+
+slave_more : (b : Became) (counts : Counts) (fate : Fate) (all : List Fate) → fate.slave_anew ≡ is_slave_anew b
+    → counts.slave_anew ≡ at_most (count_by (λ f. f.slave_anew) all)
+    → (with_anew b counts).slave_anew ≡ at_most (count_by (λ f. f.slave_anew) (fate ∷ all))
+slave_more became.Anew counts fate all is so = count_yes (λ f. f.slave_anew) fate all counts.slave_anew is so
+slave_more _ counts fate all is so = count_no (λ f. f.slave_anew) fate all counts.slave_anew is so
+
+master_more : (b : Became) (counts : Counts) (fate : Fate) (all : List Fate) → fate.master_anew ≡ is_master_anew b
+    → counts.master_anew ≡ at_most (count_by (λ f. f.master_anew) all)
+    → (with_anew b counts).master_anew ≡ at_most (count_by (λ f. f.master_anew) (fate ∷ all))
+master_more (became.HeardAnew heard) counts fate all is so = count_yes (λ f. f.master_anew) fate all counts.master_anew is so
+master_more _ counts fate all is so = count_no (λ f. f.master_anew) fate all counts.master_anew is so
+
+-- the counts of those that gave no report, and of reports, and what they are worth are those of before
+anew_others : (b : Became) (counts : Counts)
+    → ((with_anew b counts).unreported ≡ counts.unreported) × ((with_anew b counts).reports ≡ counts.reports)
+    × ((with_anew b counts).quality ≡ counts.quality)
+anew_others (became.Heard heard) counts = (refl, refl, refl)
+anew_others _ counts = (refl, refl, refl)
+
+-- who else is there, too
+pub anew_same : (b : Became) (counts : Counts) → (with_anew b counts).others ≡ counts.others
+anew_same (became.Heard heard) counts = refl
+anew_same _ counts = refl
+
+pub why_same : (kind : Kind) (why : Option NoReport) (counts : Counts) → (with_why kind why counts).others ≡ counts.others
+why_same kind None counts = refl
+why_same kind (Some why) counts = refl
+
+-- the counts of those that gave no report
+abbrev Table : List Fate → List ℕ → Type 0
+Table all there = (kind : Kind) (why : NoReport) → get_or there (place_of kind why) 0 ≡ at_most (count_by (is_so kind why) all)
+
+module _ (fate : Fate) (all : List Fate) (there : List ℕ) (many : length there ≡ 140) (so : Table all there) where
+  table_none : fate.why ≡ None → Table (fate ∷ all) there
+  table_none none kind why = count_no (is_so kind why) fate all _
+      (ap (λ (o : Option NoReport). is_so kind why (record fate { why = o })) none) (so kind why)
+
+  table_more : (own : NoReport) → fate.why ≡ Some own
+      → Table (fate ∷ all) (slice_set there (place_of fate.kind own) (with_one (get_or there (place_of fate.kind own) 0)))
+  table_more own is kind why = by_place (cases_eq (place_of fate.kind own) (place_of kind why))
+    where
+      mine : ℕ
+      mine = place_of fate.kind own
+
+      within : mine < length there
+      within = subst (λ (n : ℕ). mine < n) (sym many) (place_few fate.kind own)
+
+      counted : is_so kind why fate ≡ (mine == place_of kind why)
+      counted = ap (λ (o : Option NoReport). is_so kind why (record fate { why = o })) is
+
+      by_place : (mine ≡ place_of kind why) ⊎ (mine ≡ place_of kind why → ⊥)
+          → get_or (slice_set there mine (with_one (get_or there mine 0))) (place_of kind why) 0
+          ≡ at_most (count_by (is_so kind why) (fate ∷ all))
+      by_place (inl same) =
+          ap (λ (n : ℕ). get_or (slice_set there mine (with_one (get_or there mine 0))) n 0) (sym same)
+          ∙ get_or-set_same there mine (with_one (get_or there mine 0)) 0 within
+          ∙ ap (λ (n : ℕ). with_one (get_or there n 0)) same
+          ∙ count_yes (is_so kind why) fate all (get_or there (place_of kind why) 0)
+          (counted ∙ eq-eqb mine (place_of kind why) same) (so kind why)
+      by_place (inr other) =
+          get_or-set_other there mine (place_of kind why) (with_one (get_or there mine 0)) 0 (λ same. other (sym same))
+          ∙ count_no (is_so kind why) fate all (get_or there (place_of kind why) 0)
+          (counted ∙ ne_eqb mine (place_of kind why) other) (so kind why)
+
+-- ---- what is counted of a datagram, but for its report
+-- a datagram was noted, and isn't counted yet
+pub record IsNoted (fate : Fate) (all : List Fate) (counts : Counts) : Type 0 where
+  pub reports : counts.reports ≡ at_most (count_by (λ f. is_some f.measured) all)
+  pub slave_anew : counts.slave_anew ≡ at_most (count_by (λ f. f.slave_anew) all)
+  pub master_anew : counts.master_anew ≡ at_most (count_by (λ f. f.master_anew) all)
+  pub unreported : Table all counts.unreported
+  pub places : length counts.unreported ≡ 140
+  pub quality : IsQuality (map noted_of (fate ∷ all)) counts.quality
+  pub others : AreOthers (filter_map meeting_of all) counts.others
+
+-- what is noted of it
+pub unreported_noted : (fate : Fate) → fate.measured ≡ None → (noted_of fate).reported ≡ None
+unreported_noted fate unmeasured = λ i. (noted_of (record fate { measured = unmeasured i })).reported
+
+-- it is where nothing else changed
+pub noted_counts : (fate : Fate) (all : List Fate) (counts later : Counts) → IsCounts all counts
+    → later ≡ record counts { quality = later.quality } → IsQuality (map noted_of (fate ∷ all)) later.quality
+    → IsNoted fate all later
+noted_counts fate all counts later so others better = record {
+  reports = ap (λ (c : Counts). c.reports) others ∙ so.reports;
+  slave_anew = ap (λ (c : Counts). c.slave_anew) others ∙ so.slave_anew;
+  master_anew = ap (λ (c : Counts). c.master_anew) others ∙ so.master_anew;
+  unreported = subst (Table all) (sym (ap (λ (c : Counts). c.unreported) others)) so.unreported;
+  places = ap (λ (c : Counts). length c.unreported) others ∙ so.places;
+  quality = better;
+  others = subst (AreOthers (filter_map meeting_of all)) (sym (ap (λ (c : Counts). c.others) others)) so.others;
+}
+
+more_by : (why : Option NoReport) (b : Became) (fate : Fate) (all : List Fate) (counts : Counts) (others : Others) → fate.why ≡ why
+    → fate.measured ≡ None → fate.slave_anew ≡ is_slave_anew b → fate.master_anew ≡ is_master_anew b → IsNoted fate all counts
+    → AreOthers (filter_map meeting_of (fate ∷ all)) others
+    → IsCounts (fate ∷ all) (record (with_why fate.kind why (with_anew b counts)) { others = others })
+more_by None b fate all counts others is unmeasured slave master so met = record {
+  reports = (anew_others b counts).1
+      ∙ count_no (λ f. is_some f.measured) fate all counts.reports (ap is_some unmeasured) so.reports;
+  slave_anew = slave_more b counts fate all slave so.slave_anew;
+  master_anew = master_more b counts fate all master so.master_anew;
+  unreported = subst (Table (fate ∷ all)) (sym (anew_others b counts).0)
+      (table_none fate all counts.unreported so.places so.unreported is);
+  places = ap length (anew_others b counts).0 ∙ so.places;
+  quality = subst (IsQuality (map noted_of (fate ∷ all))) (sym (anew_others b counts).2) so.quality;
+  others = met;
+}
+more_by (Some own) b fate all counts others is unmeasured slave master so met = record {
+  reports = (anew_others b counts).1
+      ∙ count_no (λ f. is_some f.measured) fate all counts.reports (ap is_some unmeasured) so.reports;
+  slave_anew = slave_more b counts fate all slave so.slave_anew;
+  master_anew = master_more b counts fate all master so.master_anew;
+  unreported = subst (λ (there : List ℕ). Table (fate ∷ all)
+      (slice_set there (place_of fate.kind own) (with_one (get_or there (place_of fate.kind own) 0))))
+      (sym (anew_others b counts).0) (table_more fate all counts.unreported so.places so.unreported own is);
+  places = length-set (with_anew b counts).unreported (place_of fate.kind own) _ ∙ ap length (anew_others b counts).0 ∙ so.places;
+  quality = subst (IsQuality (map noted_of (fate ∷ all))) (sym (anew_others b counts).2) so.quality;
+  others = met;
+}
+
+-- of one that a port hears in this state
+pub heard_counts : (w : Watched) (d : Recorded) (m : Contents) (l : Listening) (b : Became) (all : List Fate) (counts : Counts)
+    (others : Others) → d.said ≡ Ok m → b ≡ became_of w d.line d.time m m.body l → IsNoted (fate_in w d l) all counts
+    → AreOthers (cons_option (meeting_at d.line d.time m.body m.header (why_by w.domain m.header b)) (filter_map meeting_of all)) others
+    → IsCounts (fate_in w d l ∷ all)
+    (record (with_why (kind_of m.body) (why_by w.domain m.header b) (with_anew b counts)) { others = others })
+heard_counts w d m l b all counts others said is so met =
+    let own : Recorded = record d { said = Ok m } in
+    let why = ap (why_by w.domain m.header) is ∙ why-became w d.line d.time m m.body l in
+    subst (λ (s : Reading). IsCounts (fate_in w (record d { said = s }) l ∷ all)
+    (record (with_why (kind_of m.body) (why_by w.domain m.header b) (with_anew b counts)) { others = others })) (sym said)
+    (more_by (why_by w.domain m.header b) b (fate_in w own l) all counts others (sym why) refl
+    (sym (ap is_slave_anew is ∙ slave-became w d.line d.time m m.body l))
+    (sym (ap is_master_anew is ∙ master-became w d.line d.time m m.body l))
+    (subst (λ (s : Reading). IsNoted (fate_in w (record d { said = s }) l) all counts) said so)
+    (subst (λ (y : Option NoReport). AreOthers (cons_option (meeting_at d.line d.time m.body m.header y) (filter_map meeting_of all)) others)
+    why met))
+
+-- of one that isn't one of the four messages
+pub refused_counts : (w : Watched) (d : Recorded) (refusal : DecodeRefusal) (l : Listening) (all : List Fate) (counts : Counts)
+    → d.said ≡ Err refusal → IsNoted (fate_in w d l) all counts
+    → IsCounts (fate_in w d l ∷ all)
+    (with_unreported (kind_of_refused refusal) (why_refused (kind_of_refused refusal)) counts)
+refused_counts w d refusal l all counts said so =
+    let own : Recorded = record d { said = Err refusal } in
+    subst (λ (s : Reading). IsCounts (fate_in w (record d { said = s }) l ∷ all)
+    (with_unreported (kind_of_refused refusal) (why_refused (kind_of_refused refusal)) counts)) (sym said)
+    (more_by (Some (why_refused (kind_of_refused refusal))) became.HeardBefore (fate_in w own l) all counts counts.others refl refl refl refl
+    (subst (λ (s : Reading). IsNoted (fate_in w (record d { said = s }) l) all counts) said so) so.others)
+
+-- of one that came too early
+pub early_counts : (d : Recorded) (m : Contents) (all : List Fate) (counts : Counts) → d.said ≡ Ok m → IsNoted (early_fate d) all counts
+    → IsCounts (early_fate d ∷ all) (with_unreported (kind_of m.body) whys.TooEarly counts)
+early_counts d m all counts said so =
+    let own : Recorded = record d { said = Ok m } in
+    subst (λ (s : Reading). IsCounts (early_fate (record d { said = s }) ∷ all)
+    (with_unreported (kind_of m.body) whys.TooEarly counts)) (sym said)
+    (more_by (Some whys.TooEarly) became.HeardBefore (early_fate own) all counts counts.others refl refl refl refl
+    (subst (λ (s : Reading). IsNoted (early_fate (record d { said = s })) all counts) said so) so.others)
+
+pub early_refused_counts : (d : Recorded) (refusal : DecodeRefusal) (all : List Fate) (counts : Counts) → d.said ≡ Err refusal
+    → IsNoted (early_fate d) all counts
+    → IsCounts (early_fate d ∷ all) (with_unreported (kind_of_refused refusal) (why_refused (kind_of_refused refusal)) counts)
+early_refused_counts d refusal all counts said so =
+    let own : Recorded = record d { said = Err refusal } in
+    subst (λ (s : Reading). IsCounts (early_fate (record d { said = s }) ∷ all)
+    (with_unreported (kind_of_refused refusal) (why_refused (kind_of_refused refusal)) counts)) (sym said)
+    (more_by (Some (why_refused (kind_of_refused refusal))) became.HeardBefore (early_fate own) all counts counts.others refl refl refl refl
+    (subst (λ (s : Reading). IsNoted (early_fate (record d { said = s })) all counts) said so) so.others)
+
+-- ---- of a report that was written
+same_head : (f g : Fate) (all : List Fate) (p : Fate → Bool) → p f ≡ p g → count_by p (f ∷ all) ≡ count_by p (g ∷ all)
+same_head f g all p same =
+    sum_by-cons (λ x. cond (p x) 1 0) f all ∙ ap (λ (b : Bool). cond b 1 0 + count_by p all) same
+    ∙ sym (sum_by-cons (λ x. cond (p x) 1 0) g all)
+
+pub written_counts : (fate : Fate) (all : List Fate) (counts : Counts) (quality : Quality) (m : Measured) → fate.measured ≡ None
+    → IsCounts (fate ∷ all) counts → IsQuality (map noted_of (record fate { measured = Some m } ∷ all)) quality
+    → IsCounts (record fate { measured = Some m } ∷ all)
+    (record counts { reports = with_one counts.reports; quality = quality })
+written_counts fate all counts quality m unmeasured so better =
+    let now : Fate = record fate { measured = Some m } in record {
+      reports =
+          let before = sum_by-cons (λ f. cond (is_some f.measured) 1 0) fate all in
+          let none = ap {B = ℕ} (λ (o : Option Measured). cond (is_some o) 1 0) unmeasured in
+          let more = sum_by-cons (λ f. cond (is_some f.measured) 1 0) now all in
+          omega (arith, before, none, more, so.reports);
+      slave_anew = so.slave_anew ∙ ap at_most (same_head fate now all (λ f. f.slave_anew) refl);
+      master_anew = so.master_anew ∙ ap at_most (same_head fate now all (λ f. f.master_anew) refl);
+      unreported = λ kind why. so.unreported kind why ∙ ap at_most (same_head fate now all (is_so kind why) refl);
+      places = so.places;
+      quality = better;
+      others = so.others;
+    }
+
+-- the report of a datagram is noted beside it
+pub written_quality : (fate : Fate) (all : List Fate) (line time : ℕ) (m : Measured) (before after : Quality) → fate.measured ≡ None
+    → fate.datagram.line ≡ line → fate.datagram.time ≡ time → IsQuality (map noted_of (fate ∷ all)) before
+    → ((refusal : Option DecodeRefusal) (earlier : List Noted)
+    → IsQuality (record { line = line; time = time; refusal = refusal; reported = None } ∷ earlier) before
+    → IsQuality (record { line = line; time = time; refusal = refusal; reported = Some (record { by = m.by; report = m.report; exchange = m.exchange }) }
+    ∷ earlier) after)
+    → IsQuality (map noted_of (record fate { measured = Some m } ∷ all)) after
+written_quality fate all line time m before after unmeasured of_line of_time so notes =
+    let refusal : Option DecodeRefusal = result_err fate.datagram.said in
+    let of : (l t : ℕ) → Option Reported → Noted =
+    λ (l : ℕ) (t : ℕ) (r : Option Reported). record { line = l; time = t; refusal = refusal; reported = r } in
+    let reported : Option Measured → Option Reported = λ (o : Option Measured). option_map (λ x. record { by = x.by; report = x.report; exchange = x.exchange }) o in
+    let noted : IsQuality (of line time None ∷ map noted_of all) before =
+    subst (λ (n : Noted). IsQuality (n ∷ map noted_of all) before)
+    (λ i. of (of_line i) (of_time i) (reported (unmeasured i))) so in
+    subst (λ (n : Noted). IsQuality (n ∷ map noted_of all) after)
+    (λ i. of (sym of_line i) (sym of_time i) (reported (Some m)))
+    (notes refusal (map noted_of all) noted)
+
+-- ---- none
+pub no_counts : (counts : Counts) → AreNone counts → IsCounts [] counts
+no_counts counts none = record {
+  reports = none.reports;
+  slave_anew = none.slave_anew;
+  master_anew = none.master_anew;
+  unreported = λ kind why. ap (λ (there : List ℕ). get_or there (place_of kind why) 0) none.unreported
+      ∙ get_or-replicate 140 (place_of kind why) 0 0 (place_few kind why);
+  places = ap length none.unreported ∙ length-replicate {A = ℕ} 140 0;
+  quality = none.quality;
+  others = none.others;
+}

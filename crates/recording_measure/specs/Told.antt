@@ -1,0 +1,42 @@
+-- What is told of an input beside its reports.
+use Rattle.std.specs.Prelude.{◌≡◌, ℕ, List, Option, None, option_map, option_and_then, slice_get}
+use Rattle.recording_summary.specs.declared.counts.Counts.{Counts}
+use Rattle.recording_summary.specs.declared.whom.Whom.{Whom}
+use Rattle.recording_measure.specs.declared.input.Summary.{Summary}
+use Rattle.recording_measure.specs.declared.measuring.Stage.{Stage}
+use Rattle.recording_measure.specs.declared.measuring.Stage.TheVariants.{Looking, Hearing}
+use Rattle.recording_measure.specs.declared.place.Place.{Place}
+use Rattle.recording_measure.specs.declared.recording.Recording.{Recording as Known}
+use Rattle.recording_measure.specs.Places.{PlaceName}
+use Rattle.recording_measure.specs.Chosen.{chosen}
+use Rattle.recording_measure.specs.Measure.{Recording}
+use Rattle.recording_measure.specs.Summary.{told_whom}
+use Rattle.recording_measure.specs.Counts.{told_fates, IsCounts}
+
+-- ---- what a summary tells
+abbrev pub whom_told : Summary → Whom
+whom_told summary = summary.whom
+
+abbrev pub counts_told : Summary → Counts
+counts_told summary = summary.counts
+
+-- what a place is called that is kept
+abbrev pub kept_name : Place → PlaceName
+kept_name place = option_map (λ name. name.items) place.name
+
+abbrev pub place_in : Known → PlaceName
+place_in known = kept_name known.place
+
+abbrev pub place_at : Stage → List Known → Option PlaceName
+place_at (Looking count) known = None
+place_at (Hearing index listener) known = option_map place_in (slice_get known index)
+
+-- the name of the place that is measured, if it has one
+abbrev pub interface_told : Summary → Option (List ℕ)
+interface_told summary = option_and_then (λ place. place) (place_at summary.task.stage summary.task.recordings.recordings.items)
+
+-- what is told of all that was read
+pub record IsSummary (summary : Summary) (r : Recording) : Type 0 where
+  pub whom : whom_told summary ≡ told_whom r.wanted r.rows
+  pub interface : interface_told summary ≡ option_and_then (λ place. place) (chosen r.wanted r.rows)
+  pub counts : IsCounts (told_fates r.wanted r.rows) (counts_told summary)

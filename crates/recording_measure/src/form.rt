@@ -1,0 +1,32 @@
+//! How measurements are written.
+
+ghost use Rattle.std.specs.Prelude.{◌≡◌};
+ghost use Rattle.recording_measure.specs.Measure.{head_text};
+
+use recording_lines::table_head;
+
+/// How measurements are written.
+#[derive(Clone, Copy, Debug, PartialEq, Eq)]
+pub enum Form {
+    /// JSON, one object a line.
+    Json,
+    /// Rows of a table, below its head, with commas between the columns.
+    Table,
+    /// JSON with the exchange that each was made of.
+    FullJson,
+    /// Rows of a table with the exchange that each was made of.
+    FullTable,
+}
+
+impl Form {
+    /// What stands above all measurements.
+    pub(crate) fn head(self) -> &'static str
+        ensures { result.now ≡ head_text self }
+    {
+        match self {
+            Form::Json | Form::FullJson => "",
+            Form::Table => table_head(),
+            Form::FullTable => exchange_lines::table_head(),
+        }
+    }
+}

@@ -1,0 +1,107 @@
+//! An input that is measured.
+
+ghost use Rattle.std.specs.Prelude.{◌≡◌, option_map};
+ghost use Rattle.std.specs.Option.{ForSome};
+ghost use Rattle.text_lines.specs.Counted.{device_of};
+ghost use Rattle.datagram_source.specs.Input.{AnswersInput, OutcomeFailed};
+ghost use Rattle.datagram_source.specs.Left.{LeavesInput};
+ghost use Rattle.recording_measure.specs.Measure.{begun, head_text, measure_rules};
+ghost use Rattle.recording_measure.specs.Told.{whom_told, counts_told, interface_told, IsSummary};
+
+use crate::form::Form;
+use crate::measuring::Measuring;
+use crate::watch::WantedPorts;
+use capture_extract::Summary as PacketCounts;
+use datagram_source::{InputOutcome, answer_datagrams};
+use recording_summary::{Counts, Whom};
+use std::alloc::Global;
+use std::io::{Read, Write};
+use text_lines::{Counted, LineFault};
+
+/// What is told of an input beside its reports.
+#[derive(Drop)]
+pub struct Summary {
+    whom: Whom,
+    counts: Counts,
+    task: Measuring,
+    /// How many packets there were of each kind; of lines there is none.
+    packets: Option<PacketCounts>,
+}
+
+impl Summary {
+    /// Whom the datagrams are of that are measured. While it isn't known where to measure, of lines what is known; of a capture what is
+    /// asked for.
+    pub fn whom(&self) -> Whom
+        ensures { result ≡ whom_told self.now }
+    {
+        self.whom
+    }
+
+    /// What was counted of the datagrams that are measured. While it isn't known where to measure, all lines are counted, and no packet.
+    pub fn counts(&self) -> Counts
+        ensures { result ≡ counts_told self.now }
+    {
+        self.counts
+    }
+
+    /// What the interface of a capture is called that is measured, once that is known.
+    pub fn interface(&self) -> Option<&[u8]>
+        ensures { option_map (λ name. name.now) result ≡ interface_told self.now }
+    {
+        self.task.interface()
+    }
+
+    /// Tells the summary, in lines; of whom the input is only what is known, if not all is. What can't be written is lost.
+    pub fn tell<E: Write>(&self, errors: &mut E) {
+        match &self.packets {
+            Some(packets) => packets.tell_packets(errors),
+            None if self.task.is_nowhere() => {
+                self.whom.tell("line", errors);
+                self.counts.tell("line", errors);
+            }
+            None => {}
+        }
+        self.task.tell(&self.counts, errors);
+    }
+}
+
+/// Measures an input, and writes what a slave port reports that hears its datagrams. An input whose first four octets are a
+/// magic of a capture is one, and each packet that carries a datagram of PTP is one of a recording, where it was captured at the
+/// interface that is measured. Any other is lines, each of a time and a datagram.
+///
+/// What a packet or line brings goes out before an octet behind it is read, but for a first line that is refused: where a magic begins
+/// with the first octet, four are read.
+///
+/// Whom the input is of goes to `errors`, in lines, with the first datagram by which it is known, before the first report goes out.
+/// What can't be written there is lost: all that is promised holds whatever that writer does.
+pub fn measure<R: Read, W: Write, E: Write>(
+    alloc: Global,
+    wanted: &WantedPorts,
+    form: Form,
+    input: &mut Counted<R>,
+    output: &mut Counted<W>,
+    errors: &mut E,
+) -> (InputOutcome<LineFault>, Summary)
+    ensures measured { AnswersInput measure_rules (head_text form) (begun form wanted.now) R.remaining W.contents result.0
+        input.old input.new output.old output.new }
+    ensures summary { ForSome (R.remaining (device_of input.old)) (λ octets.
+        LeavesInput measure_rules (begun form wanted.now) octets result.0 (IsSummary result.1)) }
+    ensures failures { OutcomeFailed measure_rules result.0 input.old input.new output.old output.new }
+{
+    let task = Measuring::new(alloc, wanted, form);
+    let (outcome, task, packets) = answer_datagrams(
+        alloc,
+        form.head(),
+        task,
+        input,
+        output,
+        errors,
+    );
+    let summary = Summary {
+        whom: task.whom(),
+        counts: task.counts(),
+        task,
+        packets,
+    };
+    (outcome, summary)
+}

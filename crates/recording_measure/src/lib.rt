@@ -1,0 +1,18 @@
+//! Offsets and delays from a recording at a slave: a slave port hears its datagrams.
+#![tactic(auto)]
+
+mod form;
+mod input;
+mod measuring;
+mod meetings;
+mod place;
+mod place_counts;
+mod recording;
+mod reports;
+mod tally;
+mod watch;
+
+pub use form::Form;
+pub use input::{Summary, measure};
+pub use recording_summary::{Counts, Kind, Known, NoReport, Whom};
+pub use watch::WantedPorts;

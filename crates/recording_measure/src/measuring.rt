@@ -1,0 +1,349 @@
+//! What is done with the datagrams of an input that is measured.
+
+ghost use Rattle.std.specs.Prelude.{◌≡◌, ◌++◌, ◌<◌, List, [], length, get_or, MatchResult, OnOk, option_map, option_and_then, if◌then◌else◌};
+ghost use Rattle.text_lines.specs.Counted.{device_of, HasNotFailed, HasFailedIf};
+ghost use Rattle.text_lines.specs.Fault.{is_write};
+ghost use Rattle.event_codec.specs.Reading.{IsReading};
+ghost use Rattle.datagram_source.specs.Said.{reading_of};
+ghost use Rattle.datagram_source.specs.Datagram.{datagram_of};
+ghost use Rattle.recording_measure.specs.Row.{Row, row_of};
+ghost use Rattle.recording_measure.specs.Measured.{measurements};
+ghost use Rattle.recording_measure.specs.Measure.{Recording as Read, begun, measure_rules};
+ghost use Rattle.recording_measure.specs.Summary.{told_whom};
+ghost use Rattle.recording_measure.specs.Counts.{Fate, fates, told_fates, IsCounts};
+ghost use Rattle.recording_measure.specs.Told.{place_at};
+ghost use Rattle.recording_measure.specs.Inner.Hearing.{Goes};
+ghost use Rattle.recording_measure.specs.Inner.Recordings.{BeginsWith};
+ghost use Rattle.recording_measure.specs.Inner.Measuring.{IsMeasuring, IsLooking, IsHearingAt, AddsRow};
+
+use crate::form::Form;
+use crate::place_counts::PlaceCounts;
+use crate::recording::{Recording, Recordings};
+use crate::reports::TimedReports;
+use crate::tally::Tally;
+use crate::watch::{WantedPorts, Watch};
+use capture_file::InterfaceName;
+use datagram_source::{Datagram, DatagramTask, LineForm};
+use recording_listener::Listener;
+use recording_model::Watched;
+use recording_summary::{Counts, Whom};
+use std::alloc::Global;
+use std::fmt;
+use std::fmt::{Display, Formatter};
+use std::io::Write;
+use text_lines::{Counted, LineFault};
+
+/// How many datagrams are kept until it is known whom to watch.
+const KEPT_MOST: u64 = 1024;
+
+/// What is done with a datagram.
+#[derive(Drop)]
+enum Stage {
+    /// It is kept, as all before it, until it is known at a place whom to watch. So many came before, or more.
+    Looking(u64),
+    /// A port hears it, where it was met at the place of this index.
+    Hearing(usize, Listener),
+}
+
+/// Measures each datagram of an input, and says whom it is of as soon as that is known, before the first report goes out.
+#[derive(Drop)]
+pub(crate) struct Measuring {
+    alloc: Global,
+    wanted: WantedPorts,
+    recordings: Recordings,
+    stage: Stage,
+    reports: TimedReports,
+    at_places: PlaceCounts,
+}
+
+impl DatagramTask for Measuring {
+    type Fault = LineFault;
+
+    ghost State = { Read };
+
+    ghost rules = { measure_rules };
+
+    ghost is_at = { IsMeasuring };
+
+    fn subcommand() -> &'static str {
+        "measure"
+    }
+
+    fn line_form() -> LineForm {
+        LineForm::Timed
+    }
+
+    fn asked(&self) -> Option<InterfaceName> {
+        self.wanted.interface
+    }
+
+    fn fault_of(fault: LineFault) -> LineFault {
+        fault
+    }
+
+    fn take<W: Write, E: Write>(
+        &mut self,
+        datagram: &Datagram<'_>,
+        output: &mut Counted<W>,
+        errors: &mut E,
+    ) -> Result<(), LineFault> {
+        self.take_row(datagram, output, errors)
+    }
+
+    fn finish<W: Write, E: Write>(
+        &mut self,
+        _output: &mut Counted<W>,
+        _errors: &mut E,
+    ) -> Result<(), LineFault> {
+        Ok(())
+    }
+}
+
+impl Measuring {
+    /// No datagram came yet.
+    pub(crate) fn new(alloc: Global, wanted: &WantedPorts, form: Form) -> Measuring
+        ensures { IsMeasuring result (begun form wanted.now) }
+    {
+        Measuring {
+            alloc,
+            wanted: *wanted,
+            recordings: Recordings::new(alloc),
+            stage: Stage::Looking(0),
+            reports: TimedReports::new(alloc, form),
+            at_places: PlaceCounts::new(),
+        }
+    }
+
+    /// Takes a datagram, and what it adds to all that is written goes out.
+    fn take_row<W: Write, E: Write>(
+        &mut self,
+        datagram: &Datagram<'_>,
+        output: &mut Counted<W>,
+        errors: &mut E,
+    ) -> Result<(), LineFault>
+        requires stands { (r : Read) × IsMeasuring self.old r }
+        requires read { IsReading datagram.now.octets.now (reading_of datagram.now.said) }
+        ensures taken { (r : Read) → IsMeasuring self.old r →
+            AddsRow result r datagram.now self.new (W.contents (device_of output.old)) (W.contents (device_of output.new)) }
+        ensures failures { MatchResult result
+            (λ _. HasNotFailed output.old output.new)
+            (λ fault. HasFailedIf (is_write fault) output.old output.new) }
+    {
+        match &mut self.stage {
+            Stage::Looking(count) => {
+                let is_kept = *count < KEPT_MOST;
+                if is_kept {
+                    *count += 1;
+                }
+                self.look(datagram, is_kept, output, errors)
+            }
+            Stage::Hearing(index, listener) => {
+                if self.recordings.is_at(*index, &datagram.place) {
+                    self.reports.hear(listener, datagram, output)
+                } else {
+                    self.at_places.count(self.recordings.find(&datagram.place));
+                    Ok(())
+                }
+            }
+        }
+    }
+
+    /// Takes a datagram by which it isn't known yet whom to watch. Where it tells that, this is said, and a port hears those that
+    /// were met at its place.
+    fn look<W: Write, E: Write>(
+        &mut self,
+        datagram: &Datagram<'_>,
+        is_kept: bool,
+        output: &mut Counted<W>,
+        errors: &mut E,
+    ) -> Result<(), LineFault>
+        requires { IsReading datagram.now.octets.now (reading_of datagram.now.said) }
+        ensures taken { (r : Read) → IsLooking self.old r is_kept →
+            AddsRow result r datagram.now self.new (W.contents (device_of output.old)) (W.contents (device_of output.new)) }
+        ensures failures { MatchResult result
+            (λ _. HasNotFailed output.old output.new)
+            (λ fault. HasFailedIf (is_write fault) output.old output.new) }
+    {
+        let found = self
+            .recordings
+            .take(self.alloc, &self.wanted, datagram, is_kept)?;
+        self.at_places.count(found);
+        let Some(index) = found else {
+            return Ok(());
+        };
+        match self.recordings.watched(index) {
+            Some(watched) => {
+                self.recordings.tell_whom(index, errors);
+                self.begin(watched, index, is_kept, datagram, output)
+            }
+            None => Ok(()),
+        }
+    }
+
+    /// From this datagram on a port hears those that are met at its place. It hears those first that were kept, this one among them.
+    fn begin<W: Write>(
+        &mut self,
+        watched: Watched,
+        index: usize,
+        is_kept: bool,
+        datagram: &Datagram<'_>,
+        output: &mut Counted<W>,
+    ) -> Result<(), LineFault>
+        requires index { index < length self.old.recordings.recordings.items }
+        ensures begun { (rows : List Row)
+            → BeginsWith is_kept self.old.recordings.recordings.items index (row_of (datagram_of datagram.now)) rows
+            → OnOk result (IsHearingAt watched index rows self.new.stage)
+            × Goes self.old.reports.reports.form result (measurements watched rows)
+            (W.contents (device_of output.old)) (W.contents (device_of output.new)) }
+        ensures form { self.new.reports.reports.form ≡ self.old.reports.reports.form }
+        ensures counted { (rows : List Row) (early : List Fate)
+            → BeginsWith is_kept self.old.recordings.recordings.items index (row_of (datagram_of datagram.now)) rows
+            → IsCounts [] self.old.reports.reports.tally.counts
+            → ((d : Recording) → IsCounts early (get_or self.old.recordings.recordings.items index d).early.counts)
+            → OnOk result (IsCounts (fates watched rows ++ (if is_kept then [] else early)) self.new.reports.reports.tally.counts) }
+        ensures wanted { self.new.wanted ≡ self.old.wanted }
+        ensures recordings { self.new.recordings ≡ self.old.recordings }
+        ensures failures { MatchResult result
+            (λ _. HasNotFailed output.old output.new)
+            (λ fault. HasFailedIf (is_write fault) output.old output.new) }
+    {
+        let mut listener = Listener::new(watched);
+        if is_kept {
+            self.reports
+                .hear_kept(&mut listener, self.recordings.kept(index), output)?;
+        } else {
+            self.reports.reports.tally = self.recordings.early(index);
+            self.reports.hear(&mut listener, datagram, output)?;
+        }
+        self.stage = Stage::Hearing(index, listener);
+        Ok(())
+    }
+}
+
+impl Measuring {
+    /// Whom the datagrams are of at the place that is measured; while none is, those at that of lines, as far as that is known.
+    pub(crate) fn whom(&self) -> Whom
+        ensures { (r : Read) → IsMeasuring self.now r → result ≡ told_whom r.wanted r.rows }
+    {
+        let index = match &self.stage {
+            Stage::Looking(_) => self.recordings.find_nameless(),
+            Stage::Hearing(index, _) => Some(*index),
+        };
+        if let Some(index) = index
+            && let Some(whom) = self.recordings.whom(index)
+        {
+            return whom;
+        }
+        Watch::new(&self.wanted).whom()
+    }
+
+    /// What was counted of the datagrams at the place that is measured; while none is, of those at that of lines.
+    pub(crate) fn counts(&self) -> Counts
+        ensures { (r : Read) → IsMeasuring self.now r → IsCounts (told_fates r.wanted r.rows) result }
+    {
+        if let Stage::Hearing(..) = &self.stage {
+            return self.reports.reports.tally.counts;
+        }
+        match self.recordings.find_nameless() {
+            Some(index) => self.recordings.early(index).counts,
+            None => Tally::new().counts,
+        }
+    }
+
+    /// What the place is called that is measured, where one is that has a name.
+    pub(crate) fn interface(&self) -> Option<&[u8]>
+        ensures { option_map (λ name. name.now) result
+            ≡ option_and_then (λ place. place) (place_at self.now.stage self.now.recordings.recordings.items) }
+    {
+        match &self.stage {
+            Stage::Looking(_) => None,
+            Stage::Hearing(index, _) => self.recordings.name(*index),
+        }
+    }
+
+    /// Whether no place was met.
+    pub(crate) fn is_nowhere(&self) -> bool {
+        self.recordings.all().is_empty()
+    }
+
+    /// Tells in lines what is told of datagrams at the end: of whom they are only what is known, where that wasn't enough. What can't
+    /// be written is lost.
+    pub(crate) fn tell<E: Write>(&self, counts: &Counts, errors: &mut E) {
+        match self.stage {
+            Stage::Hearing(measured, _) => self.tell_measured(measured, counts, errors),
+            Stage::Looking(_) => self.tell_unknown(errors),
+        }
+    }
+
+    /// Tells what was measured at the place of this index, and what was passed over at others.
+    fn tell_measured<E: Write>(&self, measured: usize, counts: &Counts, errors: &mut E) {
+        let recordings = self.recordings.all();
+        let Some(recording) = recordings.get(measured) else {
+            return;
+        };
+        if self.has_others() {
+            let _ = writeln!(errors, "ptpx: measured at {}", recording.place);
+        }
+        counts.tell(recording.place.unit(), errors);
+        for (index, other) in recordings.iter().enumerate() {
+            if index != measured {
+                let count = self.at_places.at(index);
+                let _ = writeln!(
+                    errors,
+                    "ptpx: {} at {}, which isn't measured",
+                    Datagrams(count),
+                    other.place
+                );
+            }
+        }
+        self.tell_others(errors);
+    }
+
+    /// Tells what is known at each place, where that isn't enough.
+    fn tell_unknown<E: Write>(&self, errors: &mut E) {
+        for recording in self.recordings.all() {
+            if recording.watched().is_some() {
+                // it stopped within the first reports, and was told before them
+                continue;
+            }
+            if self.has_others() {
+                let _ = writeln!(errors, "ptpx: at {}:", recording.place);
+            }
+            let unit = recording.place.unit();
+            recording.watch.whom().tell(unit, errors);
+            recording.early.counts.tell(unit, errors);
+            recording.tell_callers(errors);
+        }
+        self.tell_others(errors);
+    }
+
+    /// Whether there were several places.
+    fn has_others(&self) -> bool {
+        self.recordings.all().len() > 1 || self.at_places.others() > 0
+    }
+
+    /// Tells how many datagrams there were at places that weren't looked at, if any were.
+    fn tell_others<E: Write>(&self, errors: &mut E) {
+        let count = self.at_places.others();
+        if count > 0 {
+            let _ = writeln!(
+                errors,
+                "ptpx: {} at other interfaces, which weren't looked at",
+                Datagrams(count)
+            );
+        }
+    }
+}
+
+/// So many datagrams, in words.
+#[derive(Clone, Copy)]
+struct Datagrams(u64);
+
+impl Display for Datagrams {
+    fn fmt<W: fmt::Write>(&self, f: &mut Formatter<W>) -> fmt::Result {
+        match self.0 {
+            1 => f.write_str("1 datagram"),
+            count => write!(f, "{count} datagrams"),
+        }
+    }
+}

@@ -1,0 +1,75 @@
+//! Where datagrams were met, apart from these.
+
+ghost use Rattle.std.specs.Prelude.{◌≡◌, None, IfOk, option_map};
+ghost use Rattle.datagram_source.specs.Datagram.{place_of as met_at};
+ghost use Rattle.recording_measure.specs.Places.{name_in, is_same_place};
+ghost use Rattle.recording_measure.specs.Told.{kept_name};
+
+use datagram_source::Place as MetAt;
+use std::alloc::{AllocError, Global};
+use std::fmt;
+use std::fmt::{Display, Formatter};
+
+/// A place at which datagrams were met, by what it is called: the name of an interface, in whichever section of the capture, or of
+/// a tap. That of lines which tell none has no name.
+#[derive(Drop)]
+pub(crate) struct Place {
+    name: Option<Vec<u8>>,
+}
+
+impl Place {
+    /// The place of a datagram.
+    pub(crate) fn new(alloc: Global, met: &MetAt<'_>) -> Result<Place, AllocError>
+        ensures { IfOk result (λ place. kept_name place ≡ name_in (met_at met.now)) }
+    {
+        let name = match met {
+            MetAt::Line => None,
+            MetAt::Tap(tap) => Some(Vec::from_slice(alloc, tap.text().as_bytes())?),
+            MetAt::Interface(interface) => Some(interface.called(alloc)?),
+        };
+        Ok(Place { name })
+    }
+
+    /// What it is called, if it has a name.
+    pub(crate) fn name(&self) -> Option<&[u8]>
+        ensures { option_map (λ name. name.now) result ≡ kept_name self.now }
+    {
+        match &self.name {
+            Some(name) => Some(name),
+            None => None,
+        }
+    }
+
+    /// Whether it has no name.
+    pub(crate) fn is_nameless(&self) -> bool
+        ensures { result ≡ is_same_place (kept_name self.now) None }
+    {
+        self.name.is_none()
+    }
+
+    /// Whether it is that of a datagram.
+    pub(crate) fn is(&self, met: &MetAt<'_>) -> bool
+        ensures { result ≡ is_same_place (kept_name self.now) (name_in (met_at met.now)) }
+    {
+        match (&self.name, met) {
+            (None, MetAt::Line) => true,
+            (Some(name), MetAt::Tap(tap)) => name.as_slice() == tap.text().as_bytes(),
+            (Some(name), MetAt::Interface(interface)) => interface.is_called(name),
+            _ => false,
+        }
+    }
+
+    /// What a datagram that was met here is one of, in words.
+    pub(crate) fn unit(&self) -> &'static str {
+        if self.is_nameless() { "line" } else { "packet" }
+    }
+}
+
+impl Display for Place {
+    fn fmt<W: fmt::Write>(&self, f: &mut Formatter<W>) -> fmt::Result {
+        for octet in self.name.iter().flatten() {
+            write!(f, "{}", octet.escape_ascii())?;
+        }
+        Ok(())
+    }
+}
