@@ -1,4 +1,4 @@
-pub mod Taking
+pub mod Following
 pub mod Nothing
 pub mod Lines
 pub mod Worked

@@ -20,8 +20,8 @@ use Rattle.ptp_units.specs.Nanoseconds.{pointed}
 use Rattle.datagram_text.specs.Shown.{nine_digits, stamp_text}
 use Rattle.text_lines.specs.Lines.{line_limit, lines_of, without_cr}
 use Rattle.capture_frame.specs.Found.{datagram_limit}
-use Rattle.capture_extract.specs.declared.line.LineForm.{LineForm}
-use Rattle.capture_extract.specs.declared.line.LineForm.TheVariants.{Octets, Timed}
+use Rattle.capture_extract.specs.declared.line.ExtractForm.{ExtractForm}
+use Rattle.capture_extract.specs.declared.line.ExtractForm.TheVariants.{Octets, Timed}
 use Rattle.capture_extract.specs.Line.{line_of, line_text}
 use Rattle.recording_lines.specs.Timed.{TellsExactly, is_time_octet, line_parts, time_in, timed_in}
 use Rattle.recording_lines.proofs.Times.{own, time_octets}
@@ -135,8 +135,8 @@ plain_time (x ∷ xs) h =
     let no_cr : (x == 13) ≡ false = grind (arith, nat_tests, parts.0) in
     rw (no_lf, no_cr, plain_time xs parts.1)
 
-plain_line : (form : LineForm) (time : Stamp) (datagram : List ℕ) → IsStamp time
-    → list_all is_plain (line_of form time datagram) ≡ true
+plain_line : (form : ExtractForm) (time : Stamp) (datagram : List ℕ) → IsStamp time
+    → list_all is_plain (line_of form (stamp_text time) datagram) ≡ true
 plain_line Octets time datagram is = plain_digits lower_digits datagram refl
 plain_line Timed time datagram is =
     let front = plain_time (stamp_text time) (time_octets (stamp_text time) (moment time 0) (time_read time is)) in
@@ -150,9 +150,9 @@ alone (x ∷ xs) h =
     let no_lf : (x == 10) ≡ false = grind (arith, nat_tests, parts.0) in
     rw (no_lf, alone xs parts.1)
 
-pub line_alone : (form : LineForm) (time : Stamp) (datagram : List ℕ) → IsStamp time
-    → lines_of (line_text form time datagram) ≡ line_of form time datagram ∷ []
-line_alone form time datagram is = alone (line_of form time datagram) (plain_line form time datagram is)
+pub line_alone : (form : ExtractForm) (time : Stamp) (datagram : List ℕ) → IsStamp time
+    → lines_of (line_text form (stamp_text time) datagram) ≡ line_of form (stamp_text time) datagram ∷ []
+line_alone form time datagram is = alone (line_of form (stamp_text time) datagram) (plain_line form time datagram is)
 
 no_cr_at_end : (xs : List ℕ) → list_all is_plain xs ≡ true → ends_with_byte 13 xs ≡ false
 no_cr_at_end xs h =
@@ -160,17 +160,17 @@ no_cr_at_end xs h =
     let no_cr : (slice_index xs (length xs - 1) == 13) ≡ false = grind (arith, nat_tests, last) in
     grind (arith, nat_tests, no_cr)
 
-pub line_whole : (form : LineForm) (time : Stamp) (datagram : List ℕ) → IsStamp time
-    → without_cr (line_of form time datagram) ≡ line_of form time datagram
-line_whole form time datagram is = rw (no_cr_at_end (line_of form time datagram) (plain_line form time datagram is))
+pub line_whole : (form : ExtractForm) (time : Stamp) (datagram : List ℕ) → IsStamp time
+    → without_cr (line_of form (stamp_text time) datagram) ≡ line_of form (stamp_text time) datagram
+line_whole form time datagram is = rw (no_cr_at_end (line_of form (stamp_text time) datagram) (plain_line form time datagram is))
 
 -- ---- a line is short enough
 seconds_fit : (n : ℕ) → n < 2 ^ 48 → length (decimal n) ≤ 15
 seconds_fit zero below = omega (arith, length-decimal-le_succ 0 (omega arith))
 seconds_fit (suc n) below = length-decimal-le 15 (suc n) (omega arith) (omega arith) (omega arith)
 
-pub line_fits : (form : LineForm) (time : Stamp) (datagram : List ℕ) → IsStamp time → length datagram ≤ datagram_limit
-    → length (line_of form time datagram) ≤ line_limit
+pub line_fits : (form : ExtractForm) (time : Stamp) (datagram : List ℕ) → IsStamp time → length datagram ≤ datagram_limit
+    → length (line_of form (stamp_text time) datagram) ≤ line_limit
 line_fits Octets time datagram is short = omega (arith, length-encode_with lower_digits datagram)
 line_fits Timed time datagram is short =
     let nine = are_nine time.nanos is.nanos in

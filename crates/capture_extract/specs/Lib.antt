@@ -1,3 +1,4 @@
 pub mod Line
 pub mod Extracted
+pub mod Listed
 pub mod Inner

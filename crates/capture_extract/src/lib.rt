@@ -1,15 +1,20 @@
-//! What a capture has of PTP, as lines: a datagram each, in hexadecimal, with the time of its packet.
+//! What a capture has of PTP: as lines, a datagram each, in hexadecimal, with the time of its packet; or as a table for people of who
+//! sends which messages, who is master and who is slave there, and with which options a slave is measured.
 #![tactic(auto)]
 
-mod compressed;
-mod elsewhere;
+mod cells;
 mod extracting;
+mod header;
+mod interfaces;
 pub mod laws;
 mod line;
-mod links;
-mod summary;
+mod listing;
+mod message_type;
+mod port;
+mod row;
+mod table;
+mod text;
 
-pub use compressed::tell_compressed;
 pub use extracting::{Extraction, extract};
-pub use line::LineForm;
-pub use summary::Summary;
+pub use line::ExtractForm;
+pub use listing::list;

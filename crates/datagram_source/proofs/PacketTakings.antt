@@ -1,13 +1,31 @@
 -- A packet is taken as the rules have it, by what came of its datagram.
-use Rattle.std.proofs.Common.{◌≡◌, ◌∙◌, ℕ, Bool, List, Option, Result, Ok, Err, inl, ap}
+use Rattle.std.proofs.Common.{◌≡◌, ◌∙◌, ℕ, Bool, List, Option, Result, Ok, Err, Bor, inl, ap, refl, sym}
 use Rattle.std.specs.Prelude.{MatchResult}
 use Rattle.std.specs.Io.KnownBytes.{Appends}
 use Rattle.text_lines.specs.Task.{WentOut}
 use Rattle.capture_file.specs.declared.name.InterfaceName.{InterfaceName}
 use Rattle.capture_file.specs.Name.{is_asked}
 use Rattle.capture_file.specs.Packet.{InterfaceOf, PacketOf}
+use Rattle.capture_frame.specs.declared.found.Found.{Found}
+use Rattle.capture_frame.specs.declared.found.Found.TheVariants as found
+use Rattle.capture_frame.specs.Found.{Answer, Datagram, IsFound, answer_of}
 use Rattle.datagram_source.specs.Datagram.{DatagramOf}
 use Rattle.datagram_source.specs.Rules.{DatagramRules, IsGiven, TakesPacket, StopsAtPacket}
+
+-- what was found is no datagram
+other_answer : (what : Found) → ((x : Bor (List ℕ)) → what ≡ found.Datagram x → ⊥) → (d : List ℕ) → answer_of what ≡ Datagram d → ⊥
+other_answer (found.Datagram x) other d is = other x refl
+other_answer found.Fragment other d is = cc
+other_answer found.TooLong other d is = cc
+other_answer found.OtherLink other d is = cc
+other_answer found.Other other d is = cc
+
+-- a packet of which something else was found carries no datagram
+pub carries_none : (what : Found) (link : ℕ) (octets datagram : List ℕ)
+    → ((answer : Answer) → IsFound link octets answer → answer ≡ answer_of what)
+    → ((x : Bor (List ℕ)) → what ≡ found.Datagram x → ⊥) → IsFound link octets (Datagram datagram) → ⊥
+carries_none what link octets datagram only other carries =
+    other_answer what other datagram (sym (only (Datagram datagram) carries))
 
 -- whether an interface is asked for, by what the task answered
 pub says : (interface : InterfaceOf) (there own asked : Option InterfaceName) (is : Bool) → is ≡ is_asked there interface → there ≡ own

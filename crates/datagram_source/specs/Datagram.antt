@@ -17,6 +17,10 @@ use Rattle.datagram_source.specs.declared.stamp.Stamp.TheVariants as stamps
 use Rattle.datagram_source.specs.declared.lines.LineForm.{LineForm}
 use Rattle.datagram_source.specs.declared.lines.LineForm.TheVariants.{Timed, AtTaps}
 
+-- the most octets of a datagram that a task is given
+abbrev pub octets_limit : ℕ
+octets_limit = 2048
+
 -- where a datagram was met: at no place of a name, since its line tells none; at the tap that its line names; or at an interface
 pub data PlaceOf : Type 0 where
   Line : PlaceOf

@@ -6,13 +6,15 @@ ghost use Rattle.std.specs.Io.KnownBytes.{Appends};
 ghost use Rattle.text_lines.specs.Counted.{device_of, HasFailed, HasNotFailed};
 ghost use Rattle.text_lines.specs.Lines.{line_limit, lfs_in};
 ghost use Rattle.datagram_source.specs.Input.{AnswersInput, OutcomeFailed};
-ghost use Rattle.datagram_source.specs.Left.{LeavesInput};
+ghost use Rattle.capture_file.specs.Task.{Answers, FailedAt};
+ghost use Rattle.datagram_source.specs.Left.{LeavesCapture, LeavesInput};
+ghost use Rattle.datagram_source.specs.Rules.{packet_rules};
 ghost use Rattle.datagram_source.specs.Inner.Outcomes.{LinesAnswer, PacketsAnswer, LinesLeave, PacketsLeave};
 
 use crate::lines::LineSource;
+use crate::packet_counts::PacketCounts;
 use crate::packets::PacketSource;
 use crate::task::DatagramTask;
-use capture_extract::Summary;
 use capture_file::{Beginning, CaptureStop, answer_packets_behind};
 use std::alloc::Global;
 use std::io::{Read, Write};
@@ -47,7 +49,7 @@ pub fn answer_datagrams<T: DatagramTask, R: Read, W: Write, E: Write>(
     input: &mut Counted<R>,
     output: &mut Counted<W>,
     errors: &mut E,
-) -> (InputOutcome<T::Fault>, T, Option<Summary>)
+) -> (InputOutcome<T::Fault>, T, Option<PacketCounts>)
     requires { (start : T.State) × T.is_at task start }
     ensures answered { (start : T.State) → T.is_at task start → AnswersInput T.rules head.now start R.remaining W.contents result.0
         input.old input.new output.old output.new }
@@ -63,7 +65,7 @@ pub fn answer_datagrams<T: DatagramTask, R: Read, W: Write, E: Write>(
     };
     let start = beginning.octets();
     if beginning.is_capture() {
-        return answer_capture(alloc, task, start, input, output, errors);
+        return capture_outcome(alloc, task, start, input, output, errors);
     }
     if has_lf(start) {
         return stopped(task, 1, Cause::Task(T::fault_of(LineFault::Field)));
@@ -100,7 +102,7 @@ fn stopped<T: DatagramTask>(
     task: T,
     line: u64,
     what: Cause<T::Fault>,
-) -> (InputOutcome<T::Fault>, T, Option<Summary>)
+) -> (InputOutcome<T::Fault>, T, Option<PacketCounts>)
     ensures outcome { result.0 ≡ InputOutcome.Lines (Err (record { line = line; what = what })) }
     ensures task { result.1 ≡ task }
 {
@@ -114,7 +116,7 @@ fn answer_lines<T: DatagramTask, R: Read, W: Write, E: Write>(
     input: &mut Counted<R>,
     output: &mut Counted<W>,
     errors: &mut E,
-) -> (InputOutcome<T::Fault>, T, Option<Summary>)
+) -> (InputOutcome<T::Fault>, T, Option<PacketCounts>)
     requires unended { All (λ x. x ≢ 10) start.now }
     requires within { length start.now ≤ line_limit }
     requires stands { (state : T.State) × T.is_at task state }
@@ -134,15 +136,15 @@ fn answer_lines<T: DatagramTask, R: Read, W: Write, E: Write>(
     (InputOutcome::Lines(answer), source.task, None)
 }
 
-/// Gives the datagrams of a capture to a task, of which these octets were read.
-fn answer_capture<T: DatagramTask, R: Read, W: Write, E: Write>(
+/// What came of a capture of which these octets were read.
+fn capture_outcome<T: DatagramTask, R: Read, W: Write, E: Write>(
     alloc: Global,
     task: T,
     start: &[u8],
     input: &mut Counted<R>,
     output: &mut Counted<W>,
     errors: &mut E,
-) -> (InputOutcome<T::Fault>, T, Option<Summary>)
+) -> (InputOutcome<T::Fault>, T, Option<PacketCounts>)
     requires most { length start.now ≤ 4 }
     requires stands { (state : T.State) × T.is_at task state }
     ensures answered { (state : T.State) → T.is_at task state → ForSome (R.remaining (device_of input.old)) (λ octets.
@@ -152,16 +154,61 @@ fn answer_capture<T: DatagramTask, R: Read, W: Write, E: Write>(
         PacketsLeave T.rules state (start.now ++ octets) result.0 (T.is_at result.1)) }
     ensures failures { OutcomeFailed T.rules result.0 input.old input.new output.old output.new }
 {
-    let counts = Summary::new(task.asked());
+    let (answer, task, counts) = answer_packets(alloc, task, start, input, output, errors);
+    (InputOutcome::Capture(answer), task, Some(counts))
+}
+
+/// Gives the datagrams of a capture to a task, of which these octets were read.
+fn answer_packets<T: DatagramTask, R: Read, W: Write, E: Write>(
+    alloc: Global,
+    task: T,
+    start: &[u8],
+    input: &mut Counted<R>,
+    output: &mut Counted<W>,
+    errors: &mut E,
+) -> (Result<u64, CaptureStop<T::Fault>>, T, PacketCounts)
+    requires most { length start.now ≤ 4 }
+    requires stands { (state : T.State) × T.is_at task state }
+    ensures answered { (state : T.State) → T.is_at task state → ForSome (R.remaining (device_of input.old)) (λ octets.
+        Answers (packet_rules T.rules) state (start.now ++ octets) (R.remaining (device_of input.new))
+        (W.contents (device_of output.old)) (W.contents (device_of output.new)) result.0) }
+    ensures left { (state : T.State) → T.is_at task state → ForSome (R.remaining (device_of input.old)) (λ octets.
+        LeavesCapture T.rules state (start.now ++ octets) result.0 (T.is_at result.1)) }
+    ensures failures { MatchResult result.0
+        (λ _. HasNotFailed input.old input.new × HasNotFailed output.old output.new)
+        (λ stop. FailedAt (packet_rules T.rules) stop.what input.old input.new output.old output.new) }
+{
+    let counts = PacketCounts::new(task.asked());
     let mut source = PacketSource {
         task,
         counts,
         errors,
     };
     let answer = answer_packets_behind(alloc, start, &mut source, input, output);
-    (
-        InputOutcome::Capture(answer),
-        source.task,
-        Some(source.counts),
-    )
+    (answer, source.task, source.counts)
+}
+
+/// Gives the datagrams of a capture to a task in turn, and ends after the last: those of packets at the interface that the task asks
+/// for, or at any. What a datagram brings goes out before an octet behind its packet is read.
+///
+/// Answers how many packets there were, or where it stopped and why; the task, as its calls left it; and how many packets there were of
+/// each kind. The faults are those of a capture, among them that it is none, and those of the task.
+pub fn answer_capture<T: DatagramTask, R: Read, W: Write, E: Write>(
+    alloc: Global,
+    task: T,
+    input: &mut Counted<R>,
+    output: &mut Counted<W>,
+    errors: &mut E,
+) -> (Result<u64, CaptureStop<T::Fault>>, T, PacketCounts)
+    requires { (start : T.State) × T.is_at task start }
+    ensures answered { (start : T.State) → T.is_at task start → ForSome (R.remaining (device_of input.old)) (λ octets.
+        Answers (packet_rules T.rules) start octets (R.remaining (device_of input.new))
+        (W.contents (device_of output.old)) (W.contents (device_of output.new)) result.0) }
+    ensures left { (start : T.State) → T.is_at task start → ForSome (R.remaining (device_of input.old)) (λ octets.
+        LeavesCapture T.rules start octets result.0 (T.is_at result.1)) }
+    ensures failures { MatchResult result.0
+        (λ _. HasNotFailed input.old input.new × HasNotFailed output.old output.new)
+        (λ stop. FailedAt (packet_rules T.rules) stop.what input.old input.new output.old output.new) }
+{
+    answer_packets(alloc, task, &[], input, output, errors)
 }

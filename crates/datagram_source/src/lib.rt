@@ -2,15 +2,20 @@
 //! tell which. What is done with a datagram is up to a task.
 #![tactic(auto)]
 
+mod compressed;
 mod datagram;
+mod elsewhere;
 mod input;
 mod lines;
+mod links;
+mod packet_counts;
 mod packets;
 mod stamp;
 mod task;
 
 pub use datagram::{Datagram, Place, message_in};
-pub use input::{InputOutcome, answer_datagrams};
+pub use input::{InputOutcome, answer_capture, answer_datagrams};
 pub use lines::LineForm;
+pub use packet_counts::PacketCounts;
 pub use stamp::Stamp;
 pub use task::DatagramTask;

@@ -1,16 +1,16 @@
 //! Lines, each of which tells a time and a datagram, and maybe a tap.
-ghost use Rattle.std.specs.Prelude.{◌≡◌, ◌≤◌, ◌+◌, ◌==◌, length, MatchOption, MatchResult};
+ghost use Rattle.std.specs.Prelude.{◌≡◌, ◌≤◌, ◌+◌, ◌==◌, length, IfOk, MatchOption, MatchResult};
 ghost use Rattle.std.specs.List.{position};
 ghost use Rattle.text_lines.specs.Lines.{line_limit};
-ghost use Rattle.datagram_source.specs.Datagram.{place_of, datagram_of, IsDatagramLine};
+ghost use Rattle.datagram_source.specs.Datagram.{place_of, datagram_of, octets_limit, IsDatagramLine};
 ghost use Rattle.datagram_source.specs.Rules.{LinesRead, line_rules};
 ghost use Rattle.datagram_source.specs.Inner.LineReading.{IsPlaced, NoPlace, NoOctets, HasOctets, NoDatagram, IsLine, IsUnread};
 ghost use Rattle.datagram_source.specs.Inner.Outcomes.{IsKept, IsEnded};
 
+use crate::compressed::tell_compressed;
 use crate::datagram::{Datagram, Place, message_in};
 use crate::stamp::Stamp;
 use crate::task::DatagramTask;
-use capture_extract::tell_compressed;
 use recording_lines::{Timed, read_timed};
 use std::io::Write;
 use tap_choice::TapName;
@@ -124,9 +124,10 @@ fn read_line<'line>(
     room: &'line mut [u8; DATAGRAM_LIMIT],
 ) -> Result<Datagram<'line>, LineFault>
     requires { length line.now ≤ line_limit }
-    ensures { MatchResult result
+    ensures read { MatchResult result
         (λ datagram. IsDatagramLine form (earlier + 1) line.now (datagram_of datagram))
         (λ fault. IsUnread fault form (earlier + 1) line.now) }
+    ensures short { IfOk result (λ datagram. length datagram.octets.now ≤ octets_limit) }
 {
     let Some(read) = read_parts(form, line, room) else {
         return Err(LineFault::Field);

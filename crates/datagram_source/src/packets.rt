@@ -8,9 +8,9 @@ ghost use Rattle.datagram_source.specs.Rules.{packet_rules, TakesPacket, StopsAt
 ghost use Rattle.datagram_source.specs.Inner.Outcomes.{IsKept, IsEnded};
 
 use crate::datagram::{Datagram, Place, message_in};
+use crate::packet_counts::PacketCounts;
 use crate::stamp::Stamp;
 use crate::task::DatagramTask;
-use capture_extract::Summary as PacketCounts;
 use capture_file::{Captured, Packet, PacketTask, is_asked};
 use capture_frame::{Found, find_datagram};
 use ptp_units::ScaledTime;

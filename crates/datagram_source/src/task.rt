@@ -1,12 +1,12 @@
 //! What is done with the datagrams of an input.
-ghost use Rattle.std.specs.Prelude.{◌≡◌, List, ℕ, Err, true, MatchResult};
+ghost use Rattle.std.specs.Prelude.{◌≡◌, ◌≤◌, List, ℕ, Err, length, true, MatchResult};
 ghost use Rattle.std.specs.Io.KnownBytes.{Appends};
 ghost use Rattle.text_lines.specs.Counted.{device_of, HasNotFailed, HasFailedIf};
 ghost use Rattle.text_lines.specs.Fault.{is_write};
 ghost use Rattle.text_lines.specs.Task.{WentOut};
 ghost use Rattle.event_codec.specs.Reading.{IsReading};
 ghost use Rattle.datagram_source.specs.Said.{reading_of};
-ghost use Rattle.datagram_source.specs.Datagram.{datagram_of};
+ghost use Rattle.datagram_source.specs.Datagram.{datagram_of, octets_limit};
 ghost use Rattle.datagram_source.specs.Rules.{DatagramRules, is_field};
 
 use crate::datagram::Datagram;
@@ -46,7 +46,7 @@ pub trait DatagramTask {
     fn asked(&self) -> Option<InterfaceName>
         ensures { (state : State) → is_at self.now state → result ≡ rules.asked state };
 
-    /// Takes one more datagram, whose octets say what is said of them.
+    /// Takes one more datagram, whose octets, 2,048 at the most, say what is said of them.
     fn take<W: Write, E: Write>(
         &mut self,
         datagram: &Datagram<'_>,
@@ -54,6 +54,7 @@ pub trait DatagramTask {
         errors: &mut E,
     ) -> Result<(), Self::Fault>
         requires stands { (state : State) × is_at self.old state }
+        requires short { length datagram.now.octets.now ≤ octets_limit }
         requires read { IsReading datagram.now.octets.now (reading_of datagram.now.said) }
         ensures taken { (state : State) → is_at self.old state →
             let before = W.contents (device_of output.old) in

@@ -3,9 +3,8 @@
 
 ghost use Rattle.extract_command.specs.Run.{RunsExtract, RunsLines, RunsList};
 
-use capture_extract::{Extraction, LineForm, extract};
+use capture_extract::{ExtractForm, Extraction, extract, list};
 use capture_file::InterfaceName;
-use capture_list::list;
 use capture_report::finish_capture;
 use command_options::ExtractOptions;
 use std::alloc::Global;
@@ -37,11 +36,11 @@ fn run_list<R: Read, W: Write, E: Write>(
     output: &mut Counted<W>,
     errors: &mut E,
 ) -> u8
-    ensures { RunsList R.remaining W.contents result input.old input.new output.old output.new }
+    ensures { RunsList interface R.remaining W.contents result input.old input.new output.old output.new }
 {
-    let (answer, summary) = list(alloc, interface, input, output);
+    let (answer, packets) = list(alloc, interface, input, output, errors);
     let status = finish_capture(errors, answer);
-    summary.tell(errors);
+    packets.tell(errors);
     status
 }
 
@@ -56,16 +55,16 @@ fn run_lines<R: Read, W: Write, E: Write>(
     ensures { RunsLines R.remaining W.contents options result input.old input.new output.old output.new }
 {
     let form = if options.octets {
-        LineForm::Octets
+        ExtractForm::Octets
     } else {
-        LineForm::Timed
+        ExtractForm::Timed
     };
     let extraction = Extraction {
         form,
         interface: options.interface,
     };
-    let (answer, summary) = extract(alloc, &extraction, input, output);
+    let (answer, packets) = extract(alloc, &extraction, input, output, errors);
     let status = finish_capture(errors, answer);
-    summary.tell(errors);
+    packets.tell(errors);
     status
 }

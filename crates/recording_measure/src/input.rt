@@ -11,8 +11,7 @@ ghost use Rattle.recording_measure.specs.Told.{whom_told, counts_told, interface
 use crate::form::Form;
 use crate::measuring::Measuring;
 use crate::watch::WantedPorts;
-use capture_extract::Summary as PacketCounts;
-use datagram_source::{InputOutcome, answer_datagrams};
+use datagram_source::{InputOutcome, PacketCounts, answer_datagrams};
 use recording_summary::{Counts, Whom};
 use std::alloc::Global;
 use std::io::{Read, Write};

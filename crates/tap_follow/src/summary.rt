@@ -15,7 +15,7 @@ use crate::figures::tell_figures;
 use crate::lost::{tell_lost, tell_untold};
 use crate::task::Taking;
 use crate::told::Told;
-use capture_extract::Summary as PacketCounts;
+use datagram_source::PacketCounts;
 use std::alloc::Global;
 use std::io::Write;
 use tap_choice::Sides;

@@ -15,15 +15,15 @@ returns-in_default-read-clause-left g c = λ start at octets known.
 pub returns-then-is_capture-clause-answered : goal.returns-then-is_capture-clause-answered
 returns-then-is_capture-clause-answered g c = λ start at.
     let (read, first) = c.in-Ok.ensures.read in
-    let told = c.answer_capture.ensures.answered start at in
-    inr (captured g.T.DatagramTask.rules start c.args.head.now _ _ _ _ _ _ (first_octets c.in-Ok.beginning) c.answer_capture.result.0 read first
+    let told = c.capture_outcome.ensures.answered start at in
+    inr (captured g.T.DatagramTask.rules start c.args.head.now _ _ _ _ _ _ (first_octets c.in-Ok.beginning) c.capture_outcome.result.0 read first
     (c.if-is_capture.ensures.magic.0 refl) c.in_default.ensures.written (rw c.octets-start.ensures.octets at told))
 
 pub returns-then-is_capture-clause-left : goal.returns-then-is_capture-clause-left
 returns-then-is_capture-clause-left g c = λ start at.
     let (read, first) = c.in-Ok.ensures.read in
-    let told = c.answer_capture.ensures.left start at in
-    captured_left g.T.DatagramTask.rules start _ _ (first_octets c.in-Ok.beginning) c.answer_capture.result.0 _
+    let told = c.capture_outcome.ensures.left start at in
+    captured_left g.T.DatagramTask.rules start _ _ (first_octets c.in-Ok.beginning) c.capture_outcome.result.0 _
     read first (rw c.octets-start.ensures.octets at told)
 
 pub returns-then-has_lf-clause-answered : goal.returns-then-has_lf-clause-answered

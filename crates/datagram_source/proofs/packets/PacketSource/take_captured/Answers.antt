@@ -1,10 +1,9 @@
 use Rattle.std.proofs.Common.{◌≡◌, ◌∙◌, [], true, false, inr, refl, sym}
 use Rattle.std.proofs.KnownBytes.{Appends-nil}
-use Rattle.capture_extract.proofs.Taking.{carries_none}
 use Rattle.capture_file.specs.Name.{is_asked}
 use Rattle.capture_file.specs.Packet.{interface_of, packet_of}
 use Rattle.capture_file.specs.declared.packet.Packet.TheVariants as packets
-use Rattle.datagram_source.proofs.PacketTakings.{says, packet_taken}
+use Rattle.datagram_source.proofs.PacketTakings.{carries_none, says, packet_taken}
 use Rattle.datagram_source.proofs.packets.PacketSource.take_captured.Goals as goal
 
 pub returns-then-not-is_asked-clause-taken : goal.returns-then-not-is_asked-clause-taken

@@ -4,6 +4,7 @@ use crate::header::{Header, Unlisted, read_header};
 use crate::interfaces::Interfaces;
 use crate::row::{Row, RowKey};
 use capture_file::Interface;
+use datagram_source::{Datagram, Place};
 use ptp_units::Timestamp;
 use std::alloc::{AllocError, Global};
 use std::collections::BTreeMap;
@@ -39,15 +40,13 @@ impl Table {
         }
     }
 
-    /// Takes a datagram of a packet that was captured at this interface and time.
-    pub(crate) fn take(
-        &mut self,
-        interface: &Interface<'_>,
-        time: Timestamp,
-        datagram: &[u8],
-    ) -> Result<(), AllocError> {
-        match read_header(datagram) {
-            Ok(header) => return self.count(interface, time, &header),
+    /// Takes a datagram.
+    pub(crate) fn take(&mut self, datagram: &Datagram<'_>) -> Result<(), AllocError> {
+        match read_header(datagram.octets) {
+            Ok(header) => {
+                let (time, _) = datagram.time.split();
+                return self.count(&datagram.place, time, &header);
+            }
             Err(Unlisted::OtherVersion) => {
                 self.other_version = self.other_version.saturating_add(1);
             }
@@ -70,16 +69,22 @@ impl Table {
     /// Counts a message in its row.
     fn count(
         &mut self,
-        interface: &Interface<'_>,
+        place: &Place<'_>,
         time: Timestamp,
         header: &Header,
     ) -> Result<(), AllocError> {
-        let Some(index) = self.interface(interface)? else {
-            self.further = self.further.saturating_add(1);
-            return Ok(());
+        let interface = match place {
+            Place::Interface(interface) => {
+                let Some(index) = self.interface(interface)? else {
+                    self.further = self.further.saturating_add(1);
+                    return Ok(());
+                };
+                Some(index)
+            }
+            Place::Tap(_) | Place::Line => None,
         };
         let key = RowKey {
-            interface: index,
+            interface,
             domain: header.domain,
             source: header.source,
             message: header.message,

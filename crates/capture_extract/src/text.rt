@@ -1,7 +1,7 @@
 //! The text of a table, and of what stands below it.
 
 use crate::cells::Cells;
-use crate::interfaces::{Argument, Place};
+use crate::interfaces::{Argument, Label};
 use crate::message_type::MessageType;
 use crate::port::Port;
 use crate::row::{Correction, Row, RowKey, Time};
@@ -49,7 +49,7 @@ impl Display for Quantity {
 #[derive(Clone, Copy)]
 struct Call<'a> {
     /// The interface, where it has to be named.
-    interface: Option<&'a Place>,
+    interface: Option<&'a Label>,
     domain: u8,
     master: Port,
     slave: Port,
@@ -72,7 +72,7 @@ impl Display for Call<'_> {
 /// Appends the cells of a row.
 fn push_row(
     cells: &mut Cells,
-    interface: Option<&Place>,
+    interface: Option<&Label>,
     key: &RowKey,
     row: &Row,
 ) -> Result<(), AllocError> {
@@ -93,11 +93,16 @@ fn push_row(
 }
 
 impl Table {
+    /// What the interface of a row is called.
+    fn label(&self, key: &RowKey) -> Option<&Label> {
+        self.interfaces.get(key.interface?)
+    }
+
     /// Appends the rows with their head.
     fn push_rows(&self, alloc: Global, text: &mut String) -> Result<(), AllocError> {
         let mut cells = Cells::new(alloc)?;
         for (key, row) in &self.rows {
-            push_row(&mut cells, self.interfaces.get(key.interface), key, row)?;
+            push_row(&mut cells, self.label(key), key, row)?;
         }
         cells.push_to(text)
     }
@@ -109,7 +114,7 @@ impl Table {
             return None;
         }
         let interface = if self.interfaces.are_several() {
-            self.interfaces.get(key.interface)
+            self.label(key)
         } else {
             None
         };

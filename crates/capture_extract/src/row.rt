@@ -13,8 +13,8 @@ use std::fmt::{Display, Formatter};
 /// Announce and Delay_Resp, and those whom it answers, and a slave by its Delay_Req.
 #[derive(Clone, Copy, Debug, PartialEq, Eq, PartialOrd, Ord)]
 pub(crate) struct RowKey {
-    /// The interface, by its index.
-    pub(crate) interface: usize,
+    /// The interface, by its index, where the message was met at one.
+    pub(crate) interface: Option<usize>,
     /// domainNumber.
     pub(crate) domain: u8,
     /// sourcePortIdentity.

@@ -9,9 +9,9 @@ use std::fmt::{Display, Formatter};
 /// The most octets of a name that a row shows. A name may have 65,535, and each row has one.
 const SHOWN_MOST: usize = 64;
 
-/// The place of an interface in its section, and its name where it has one of its own.
+/// What an interface is called: by its name where it has one of its own, or else by its place in its section.
 #[derive(Drop)]
-pub(crate) struct Place {
+pub(crate) struct Label {
     number: u32,
     name: Option<Vec<u8>>,
 }
@@ -29,7 +29,7 @@ fn shown_of(name: &[u8]) -> &[u8] {
     &name[..name.len().min(SHOWN_MOST)]
 }
 
-impl Display for Place {
+impl Display for Label {
     fn fmt<W: fmt::Write>(&self, f: &mut Formatter<W>) -> fmt::Result {
         match &self.name {
             Some(name) => {
@@ -44,7 +44,7 @@ impl Display for Place {
 
 /// The name of an interface as a shell takes it for an argument.
 #[derive(Clone, Copy)]
-pub(crate) struct Argument<'a>(pub(crate) &'a Place);
+pub(crate) struct Argument<'a>(pub(crate) &'a Label);
 
 /// Whether an octet stands for itself in a shell.
 fn is_plain(octet: u8) -> bool {
@@ -68,7 +68,7 @@ impl Display for Argument<'_> {
 /// The interfaces in the order in which they were met. Those that are called alike are one, whatever section they are in.
 #[derive(Drop)]
 pub(crate) struct Interfaces {
-    met: Vec<Place>,
+    met: Vec<Label>,
     /// At which index the one of a name stands.
     named: BTreeMap<Vec<u8>, usize>,
     /// At which index the one of a place stands that has no name of its own.
@@ -111,7 +111,7 @@ impl Interfaces {
                 None
             }
         };
-        self.met.push(Place {
+        self.met.push(Label {
             number: interface.place,
             name,
         })?;
@@ -119,7 +119,7 @@ impl Interfaces {
     }
 
     /// The one at an index.
-    pub(crate) fn get(&self, index: usize) -> Option<&Place> {
+    pub(crate) fn get(&self, index: usize) -> Option<&Label> {
         self.met.get(index)
     }
 
