@@ -1,4 +1,5 @@
-//! What all slaves of a transcript are said to make of what came to them.
+//! What all slaves of a transcript are said to make of what came to them, beside what a port here makes of the same.
+//! Nothing is promised of it.
 
 use crate::outcome::SlaveOutcome;
 use crate::played::Played;
@@ -9,21 +10,21 @@ use std::collections::BTreeMap;
 
 /// An outcome that isn't that of a port here.
 #[derive(Clone, Copy, Debug, PartialEq, Eq)]
-pub struct OtherOutcome {
+pub(crate) struct OtherOutcome {
     /// The event, by its place among the events.
-    pub event: u64,
+    pub(crate) event: u64,
     /// Its line, counted from 1.
-    pub line: u64,
+    pub(crate) line: u64,
     /// What is said to have come of the message.
-    pub said: SlaveOutcome,
+    pub(crate) said: SlaveOutcome,
     /// What a port here makes of it.
-    pub answered: SlaveOutcome,
+    pub(crate) answered: SlaveOutcome,
 }
 
 /// What came to the slaves of a transcript, by the places of the slaves among the nodes, and how many outcomes are others than a
 /// port here has for it.
 #[derive(Drop)]
-pub struct SlaveAnswers {
+pub(crate) struct SlaveAnswers {
     by_slave: BTreeMap<u64, Played>,
     /// How many messages came to slaves, at most 2^64 - 1.
     came: u64,
@@ -91,7 +92,7 @@ fn port_of(checker: &Checker, name: &Name) -> Option<Played> {
 
 impl SlaveAnswers {
     /// Nothing came yet.
-    pub fn new(alloc: Global) -> SlaveAnswers {
+    pub(crate) fn new(alloc: Global) -> SlaveAnswers {
         SlaveAnswers {
             by_slave: BTreeMap::new(alloc),
             came: 0,
@@ -101,7 +102,7 @@ impl SlaveAnswers {
     }
 
     /// Takes what was recorded of one more event, the last that this checker was fed and that was noted.
-    pub fn take(
+    pub(crate) fn take(
         &mut self,
         checker: &Checker,
         evidence: &Evidence,
@@ -179,17 +180,17 @@ impl SlaveAnswers {
     }
 
     /// How many messages came to slaves, with octets and where one has to be with a reading.
-    pub fn came(&self) -> u64 {
+    pub(crate) fn came(&self) -> u64 {
         self.came
     }
 
     /// How many outcomes are others than a port here has for what came.
-    pub fn others(&self) -> u64 {
+    pub(crate) fn others(&self) -> u64 {
         self.others
     }
 
     /// The first of these.
-    pub fn first(&self) -> Option<OtherOutcome> {
+    pub(crate) fn first(&self) -> Option<OtherOutcome> {
         self.first
     }
 }

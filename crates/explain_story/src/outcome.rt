@@ -7,7 +7,7 @@ use std::fmt::{Display, Formatter};
 
 /// What becomes of a message at a slave, whatever a report has.
 #[derive(Clone, Copy, Debug, PartialEq, Eq)]
-pub enum SlaveOutcome {
+pub(crate) enum SlaveOutcome {
     /// The slave holds it.
     Held,
     /// It completes a half of a report.

@@ -297,7 +297,7 @@ fn nodes_of(checker: &Checker) -> u64 {
 }
 
 /// Appends the journeys of the Sync and of the Delay_Req of a report, whose exchange this is.
-pub fn push_exchange(
+pub(crate) fn push_exchange(
     text: &mut String,
     checker: &Checker,
     report: &Report,
