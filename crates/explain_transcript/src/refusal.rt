@@ -14,30 +14,33 @@ const NAMES_MOST: usize = 16;
 
 /// The nodes and the events before the one that is refused.
 #[derive(Clone, Copy)]
-pub struct Before<'a> {
+pub(crate) struct Before<'a> {
     /// The nodes, in their order.
-    pub nodes: &'a [NodeSpec],
+    pub(crate) nodes: &'a [NodeSpec],
     /// The events, the oldest first.
-    pub events: &'a [Event],
+    pub(crate) events: &'a [Event],
 }
 
 /// An event of a schedule that the network refuses.
 #[derive(Clone, Copy)]
-pub struct RefusedEvent<'a> {
+pub(crate) struct RefusedEvent<'a> {
     /// What came before it.
-    pub before: Before<'a>,
+    pub(crate) before: Before<'a>,
     /// The line of the input, counted from 1.
-    pub line: u64,
+    pub(crate) line: u64,
     /// The event.
-    pub event: &'a Event,
+    pub(crate) event: &'a Event,
     /// Why it is refused.
-    pub why: WorldRefusal,
+    pub(crate) why: WorldRefusal,
     /// What stands in its way; none for a reason that no such event is refused for.
-    pub obstacle: Option<Obstacle>,
+    pub(crate) obstacle: Option<Obstacle>,
 }
 
 /// Appends why an event can't happen.
-pub fn push_refused(text: &mut String, refused: &RefusedEvent<'_>) -> Result<(), AllocError> {
+pub(crate) fn push_refused(
+    text: &mut String,
+    refused: &RefusedEvent<'_>,
+) -> Result<(), AllocError> {
     write!(
         text,
         "event {}, line {}: refused, {}: ",
@@ -252,7 +255,7 @@ fn first_clash(alloc: Global, nodes: &[NodeSpec]) -> Result<Option<Clash<'_>>, A
 }
 
 /// Appends which two nodes clash.
-pub fn push_clash(
+pub(crate) fn push_clash(
     alloc: Global,
     text: &mut String,
     nodes: &[NodeSpec],
