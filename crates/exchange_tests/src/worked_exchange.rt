@@ -1,6 +1,5 @@
 //! Nodes of networks, and an exchange through a transparent clock, worked by hand: its events, what comes of them, and the lines that tell it.
 //! For the tests of worlds and of the checker.
-#![tactic(auto)]
 
 use event_codec::{PortConfig, PortIdentity};
 use network_model::{Name, NodeKind, NodeSpec};
@@ -11,19 +10,19 @@ use trace_model::TraceLine;
 use world_model::{Event, Heard, Nodes, Outcome, Report, Stepped, World, WorldRefusal, run};
 
 /// The identity of a master.
-pub const MASTER: PortIdentity = PortIdentity {
+pub(crate) const MASTER: PortIdentity = PortIdentity {
     clock: [0x00, 0x11, 0x22, 0xff, 0xfe, 0x33, 0x44, 0x55],
     port: 1,
 };
 
 /// The identity of a slave.
-pub const SLAVE: PortIdentity = PortIdentity {
+pub(crate) const SLAVE: PortIdentity = PortIdentity {
     clock: [0x00, 0xaa, 0xbb, 0xff, 0xfe, 0xcc, 0xdd, 0xee],
     port: 1,
 };
 
 /// The name that this text is.
-pub fn name(text: &str) -> Result<Name, Fail> {
+pub(crate) fn name(text: &str) -> Result<Name, Fail> {
     Ok(Name::new(text).ok_or("no name")?)
 }
 
@@ -36,7 +35,7 @@ fn config(identity: PortIdentity, domain: u8) -> PortConfig {
 }
 
 /// A master whose first number is 0.
-pub fn master(text: &str, identity: PortIdentity, domain: u8) -> Result<NodeSpec, Fail> {
+pub(crate) fn master(text: &str, identity: PortIdentity, domain: u8) -> Result<NodeSpec, Fail> {
     Ok(NodeSpec {
         name: name(text)?,
         kind: NodeKind::Master {
@@ -47,7 +46,7 @@ pub fn master(text: &str, identity: PortIdentity, domain: u8) -> Result<NodeSpec
 }
 
 /// A slave whose first number is 0.
-pub fn slave(text: &str, identity: PortIdentity, domain: u8) -> Result<NodeSpec, Fail> {
+pub(crate) fn slave(text: &str, identity: PortIdentity, domain: u8) -> Result<NodeSpec, Fail> {
     Ok(NodeSpec {
         name: name(text)?,
         kind: NodeKind::Slave {
@@ -58,7 +57,7 @@ pub fn slave(text: &str, identity: PortIdentity, domain: u8) -> Result<NodeSpec,
 }
 
 /// A transparent clock.
-pub fn clock(text: &str) -> Result<NodeSpec, Fail> {
+pub(crate) fn clock(text: &str) -> Result<NodeSpec, Fail> {
     Ok(NodeSpec {
         name: name(text)?,
         kind: NodeKind::Clock,
@@ -66,25 +65,25 @@ pub fn clock(text: &str) -> Result<NodeSpec, Fail> {
 }
 
 /// The moment of seconds, nanoseconds and units of 2^-16 ns.
-pub fn moment(seconds: u64, nanos: u32, fraction: u16) -> Result<ScaledTime, UnitRefusal> {
+pub(crate) fn moment(seconds: u64, nanos: u32, fraction: u16) -> Result<ScaledTime, UnitRefusal> {
     Ok(ScaledTime::join(Timestamp::new(seconds, nanos)?, fraction))
 }
 
 /// A world of these nodes.
-pub fn world(alloc: Global, specs: &[NodeSpec]) -> Result<World, WorldRefusal> {
+pub(crate) fn world(alloc: Global, specs: &[NodeSpec]) -> Result<World, WorldRefusal> {
     World::new(alloc, Nodes::new(alloc, specs)?)
 }
 
 /// A master, a slave and a transparent clock.
-pub fn specs() -> Result<[NodeSpec; 3], Fail> {
+pub(crate) fn specs() -> Result<[NodeSpec; 3], Fail> {
     Ok([master("M", MASTER, 0)?, slave("S", SLAVE, 0)?, clock("T")?])
 }
 
 /// How many events the exchange has.
-pub const LENGTH: usize = 14;
+pub(crate) const LENGTH: usize = 14;
 
 /// What the slave reports.
-pub const REPORT: Report = Report {
+pub(crate) const REPORT: Report = Report {
     offset2: 131_072_000,
     path2: 131_072_000,
     sync_tag: 5,
@@ -113,7 +112,7 @@ const EXCHANGE: [(&str, u64, (u64, u32, u16), Outcome); LENGTH] = [
 ];
 
 /// The event of this tag.
-pub fn event(tag: usize) -> Result<Event, Fail> {
+pub(crate) fn event(tag: usize) -> Result<Event, Fail> {
     let (node, copy, (seconds, nanos, fraction), _) = *EXCHANGE.get(tag).ok_or("no event")?;
     let (node, at) = (name(node)?, moment(seconds, nanos, fraction)?);
     let (master, diff, transit) = (name("M")?, 65_536_000, copy);
@@ -132,12 +131,12 @@ pub fn event(tag: usize) -> Result<Event, Fail> {
 }
 
 /// What comes of the event of this tag where there is memory.
-pub fn ample(tag: usize) -> Option<Outcome> {
+pub(crate) fn ample(tag: usize) -> Option<Outcome> {
     EXCHANGE.get(tag).map(|(_, _, _, outcome)| *outcome)
 }
 
 /// All events of the exchange.
-pub fn exchange() -> Result<[Event; LENGTH], Fail> {
+pub(crate) fn exchange() -> Result<[Event; LENGTH], Fail> {
     let mut events = [event(0)?; LENGTH];
     for tag in 0..LENGTH {
         events[tag] = event(tag)?;
@@ -146,7 +145,7 @@ pub fn exchange() -> Result<[Event; LENGTH], Fail> {
 }
 
 /// A world in which nothing happened, or None where memory was refused.
-pub fn begun(alloc: Global) -> Result<Option<World>, Fail> {
+pub(crate) fn begun(alloc: Global) -> Result<Option<World>, Fail> {
     match world(alloc, &specs()?) {
         Ok(world) => Ok(Some(world)),
         Err(WorldRefusal::Memory) => Ok(None),
@@ -155,7 +154,7 @@ pub fn begun(alloc: Global) -> Result<Option<World>, Fail> {
 }
 
 /// A world in which the exchange happened, and its answers, or None where memory was refused.
-pub fn played(alloc: Global) -> Result<Option<(World, Vec<Stepped>)>, Fail> {
+pub(crate) fn played(alloc: Global) -> Result<Option<(World, Vec<Stepped>)>, Fail> {
     let Some(mut world) = begun(alloc)? else {
         return Ok(None);
     };
@@ -167,7 +166,7 @@ pub fn played(alloc: Global) -> Result<Option<(World, Vec<Stepped>)>, Fail> {
 }
 
 /// The lines that tell the exchange, or None where memory was refused.
-pub fn told(alloc: Global) -> Result<Option<Vec<TraceLine>>, Fail> {
+pub(crate) fn told(alloc: Global) -> Result<Option<Vec<TraceLine>>, Fail> {
     let Some((world, answers)) = played(alloc)? else {
         return Ok(None);
     };
