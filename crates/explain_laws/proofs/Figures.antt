@@ -16,7 +16,7 @@ use Rattle.ptp_units.specs.Moment.{bound, stamp_of, fraction_of}
 use Rattle.datagram_text.specs.Shown.{nine_digits, stamp_text}
 use Rattle.recording_lines.specs.Timed.{is_time_octet}
 use Rattle.exchange_lines.specs.Moment.{moment_text}
-use Rattle.json_laws.specs.ReadBack.{IsOf128Bits, is_printed}
+use Rattle.explain_laws.specs.Measurements.{IsOf128Bits, is_printed}
 
 -- a digit, a sign or a point
 abbrev pub is_figure : ℕ → Bool

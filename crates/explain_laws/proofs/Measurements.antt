@@ -26,9 +26,9 @@ use Rattle.schedule_lines.proofs.Values.{value_read}
 use Rattle.recording_lines.specs.declared.measurement.Half.{Half}
 use Rattle.recording_lines.specs.declared.measurement.Half.TheVariants.{Sync, Response}
 use Rattle.recording_lines.specs.Measurement.{Measured, half_text, follow_text}
-use Rattle.json_laws.specs.ReadBack.{IsWithinRange, measured_data, is_printed, EachMeasurementIsJson}
-use Rattle.json_laws.proofs.Figures.{escape_figures, printed_figures, figures_decimal, figures_signed}
-use Rattle.json_laws.proofs.Figures.{figures_nanoseconds, figures_time}
+use Rattle.explain_laws.specs.Measurements.{IsWithinRange, measured_data, is_printed, EachMeasurementIsJson}
+use Rattle.explain_laws.proofs.Figures.{escape_figures, printed_figures, figures_decimal, figures_signed}
+use Rattle.explain_laws.proofs.Figures.{figures_nanoseconds, figures_time}
 
 -- ---- the compact text of the value is read as the value
 tags_at : (sync request response : ℕ) (follow : Option ℕ) → IsTag sync → IfSome follow IsTag → IsTag request → IsTag response

@@ -18,12 +18,12 @@ use Rattle.schedule_lines.proofs.Values.{value_read}
 use Rattle.recording_lines.specs.Measurement.{Measured, half_text, follow_text}
 use Rattle.exchange_lines.specs.Moment.{moment_text}
 use Rattle.exchange_lines.specs.Exchange.{json_results, json_times, sync_correction2, delay_correction2, between2}
-use Rattle.json_laws.specs.ReadBack.{IsOf128Bits, IsWithinRange, is_printed}
-use Rattle.json_laws.specs.Full.{IsExchangeWithinRange, full_data, EachFullMeasurementIsJson}
-use Rattle.json_laws.proofs.Figures.{escape_figures, printed_figures, figures_signed, figures_nanoseconds, figures_time, figures_moment}
-use Rattle.json_laws.proofs.Figures.{is_figure}
-use Rattle.json_laws.proofs.ReadBack.{tags_readable, half_alone, follow_is, ArePrinted, both, word, half_printed}
-use Rattle.json_laws.proofs.ReadBack.{number_printed, follow_printed, ascii}
+use Rattle.explain_laws.specs.Measurements.{IsOf128Bits, IsWithinRange, is_printed}
+use Rattle.explain_laws.specs.FullMeasurements.{IsExchangeWithinRange, full_data, EachFullMeasurementIsJson}
+use Rattle.explain_laws.proofs.Figures.{escape_figures, printed_figures, figures_signed, figures_nanoseconds, figures_time, figures_moment}
+use Rattle.explain_laws.proofs.Figures.{is_figure}
+use Rattle.explain_laws.proofs.Measurements.{tags_readable, half_alone, follow_is, ArePrinted, both, word, half_printed}
+use Rattle.explain_laws.proofs.Measurements.{number_printed, follow_printed, ascii}
 
 -- ---- the compact text of the value is read as the value
 abbrev fields : Measured → LastExchange → List Field

@@ -4,7 +4,7 @@ use Rattle.std.specs.Fmt.{digits}
 use Rattle.ptp_units.specs.Nanoseconds.{decimals}
 use Rattle.recording_lines.specs.declared.measurement.Half.TheVariants.{Response}
 use Rattle.recording_lines.specs.Measurement.{Measured, json_text}
-use Rattle.json_laws.specs.ReadBack.{IsWithinRange}
+use Rattle.explain_laws.specs.Measurements.{IsWithinRange}
 
 -- 1,000 ns and 4,000 ns, by a one-step Sync
 abbrev measured : Measured
