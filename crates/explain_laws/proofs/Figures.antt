@@ -15,7 +15,7 @@ use Rattle.ptp_units.proofs.LongDivision.{decimals-nothing, decimals-no_places, 
 use Rattle.ptp_units.specs.Moment.{bound, stamp_of, fraction_of}
 use Rattle.datagram_text.specs.Shown.{nine_digits, stamp_text}
 use Rattle.recording_lines.specs.Timed.{is_time_octet}
-use Rattle.exchange_lines.specs.Moment.{moment_text}
+use Rattle.recording_measure.specs.Moment.{moment_text}
 use Rattle.explain_laws.specs.Measurements.{IsOf128Bits, is_printed}
 
 -- a digit, a sign or a point

@@ -16,8 +16,8 @@ use Rattle.schedule_lines.proofs.Compact.{members_readable, members_ascending}
 use Rattle.schedule_lines.proofs.Keys.{Field, members_of}
 use Rattle.schedule_lines.proofs.Values.{value_read}
 use Rattle.recording_lines.specs.Measurement.{Measured, half_text, follow_text}
-use Rattle.exchange_lines.specs.Moment.{moment_text}
-use Rattle.exchange_lines.specs.Exchange.{json_results, json_times, sync_correction2, delay_correction2, between2}
+use Rattle.recording_measure.specs.Moment.{moment_text}
+use Rattle.recording_measure.specs.Exchange.{json_results, json_times, sync_correction2, delay_correction2, between2}
 use Rattle.explain_laws.specs.Measurements.{IsOf128Bits, IsWithinRange, is_printed}
 use Rattle.explain_laws.specs.FullMeasurements.{IsExchangeWithinRange, full_data, EachFullMeasurementIsJson}
 use Rattle.explain_laws.proofs.Figures.{escape_figures, printed_figures, figures_signed, figures_nanoseconds, figures_time, figures_moment}

@@ -9,8 +9,8 @@ use Rattle.schedule_lines.specs.Json.{value_in}
 use Rattle.schedule_lines.specs.Written.{whole, tags_data}
 use Rattle.slave_port.specs.declared.exchange.LastExchange.{LastExchange}
 use Rattle.recording_lines.specs.Measurement.{Measured, half_text}
-use Rattle.exchange_lines.specs.Moment.{moment_text}
-use Rattle.exchange_lines.specs.Exchange.{json_text, sync_correction2, delay_correction2, between2}
+use Rattle.recording_measure.specs.Moment.{moment_text}
+use Rattle.recording_measure.specs.Exchange.{json_text, sync_correction2, delay_correction2, between2}
 use Rattle.explain_laws.specs.Measurements.{IsOf128Bits, IsWithinRange, is_printed}
 
 -- the times of an exchange are moments, its numbers have 16 bits, and its corrections 128 when they are doubled

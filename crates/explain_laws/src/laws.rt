@@ -49,8 +49,7 @@ pub fn measurements_are_json()
 {}
 
 /// What `measure` writes in full is an object of seventeen members: those eight, and `delay_correction`,
-/// `request_number`, `sync_correction`, `sync_number`, `t1`, `t2`, `t2_to_t3`, `t3` and `t4`, as
-/// [`push_json`](exchange_lines::push_json) writes them.
+/// `request_number`, `sync_correction`, `sync_number`, `t1`, `t2`, `t2_to_t3`, `t3` and `t4`, with the values of its exchange.
 pub fn full_measurements_are_json()
     ensures { EachFullMeasurementIsJson }
 {}
