@@ -1,9 +1,9 @@
 //! The checker where memory is withheld: each growth in turn, by the script that runs these tests.
 
+use crate::worked_exchange::{REPORT, specs, told};
 use exchange_check::{CheckFault, Checker, TraceOut, Verdict, Why, check};
 use network_model::{Nodes, Report};
 use std::test::Fail;
-use worked_exchange::{REPORT, specs, told};
 
 /// With ample memory there is a checker, and lines that it can be fed, so the tests that withhold memory have something to try.
 #[test]

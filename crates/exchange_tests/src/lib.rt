@@ -6,6 +6,8 @@ mod checker_memory;
 #[cfg(test)]
 mod nodes;
 #[cfg(test)]
+mod worked_exchange;
+#[cfg(test)]
 mod world_memory;
 #[cfg(test)]
 mod worlds;

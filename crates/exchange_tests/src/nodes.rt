@@ -1,9 +1,9 @@
 //! The nodes of a network, found by name; and that a call succeeds where memory is there, which no contract says.
 
+use crate::worked_exchange::{MASTER, SLAVE, clock, master, name, slave};
 use network_model::{NodeSpec, Nodes, WorldRefusal};
 use std::alloc::Global;
 use std::test::Fail;
-use worked_exchange::{MASTER, SLAVE, clock, master, name, slave};
 
 /// The number of nodes of a network, or why there is none.
 fn size(alloc: Global, nodes: &[NodeSpec]) -> Result<usize, WorldRefusal> {

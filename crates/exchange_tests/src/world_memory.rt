@@ -1,7 +1,7 @@
 //! Worlds from which memory is withheld: each growth in turn, by the script that runs these tests.
 
+use crate::worked_exchange::{LENGTH, ample, begun, event, exchange};
 use std::test::Fail;
-use worked_exchange::{LENGTH, ample, begun, event, exchange};
 use world_model::{WorldRefusal, run};
 
 /// Of each event the answer is that of ample memory, or that memory was refused; the same event then

@@ -1,7 +1,7 @@
 //! That a world goes on after an event that it refuses, where `replay` ends.
 
+use crate::worked_exchange::{LENGTH, ample, begun, event, moment, name, played, specs, world};
 use std::test::Fail;
-use worked_exchange::{LENGTH, ample, begun, event, moment, name, played, specs, world};
 use world_model::{Event, RunStop, WorldRefusal, run};
 
 /// Events that a world refuses in which nothing happened, and why.

@@ -33,9 +33,9 @@ use Rattle.schedule_lines.proofs.Keys.{Field, members_of}
 use Rattle.schedule_lines.proofs.Printed.{moment_readable}
 use Rattle.schedule_lines.proofs.Values.{value_read}
 use Rattle.schedule_reading.specs.declared.transcript.Judged.{Judged}
-use Rattle.json_laws.specs.ReadBack.{IsOf128Bits, is_printed}
-use Rattle.json_laws.proofs.Figures.{all_of, escape_figures, printed_figures, figures_signed, figures_nanoseconds}
-use Rattle.json_laws.proofs.ReadBack.{tags_readable, ArePrinted, both, word, number_printed, ascii}
+use Rattle.explain_laws.specs.Measurements.{IsOf128Bits, is_printed}
+use Rattle.explain_laws.proofs.Figures.{all_of, escape_figures, printed_figures, figures_signed, figures_nanoseconds}
+use Rattle.explain_laws.proofs.Measurements.{tags_readable, ArePrinted, both, word, number_printed, ascii}
 use Rattle.explain_transcript.specs.declared.details.Details.{Details}
 use Rattle.explain_transcript.specs.declared.details.Moments.{Moments}
 use Rattle.explain_transcript.specs.declared.details.Octets.{Octets}

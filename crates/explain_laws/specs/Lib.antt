@@ -1,3 +1,5 @@
+pub mod Measurements
+pub mod FullMeasurements
 pub mod ReadBack
 pub mod AsChecked
 pub mod Unread

@@ -13,7 +13,7 @@ use Rattle.schedule_lines.specs.Json.{value_in}
 use Rattle.schedule_lines.specs.Ranges.{HasTags}
 use Rattle.schedule_lines.specs.Written.{whole, moment_data, difference_data, tags_data}
 use Rattle.schedule_reading.specs.declared.transcript.Judged.{Judged}
-use Rattle.json_laws.specs.ReadBack.{IsOf128Bits, is_printed}
+use Rattle.explain_laws.specs.Measurements.{IsOf128Bits, is_printed}
 use Rattle.explain_transcript.specs.declared.details.Details.{Details}
 use Rattle.explain_transcript.specs.declared.details.Moments.{Moments}
 use Rattle.explain_transcript.specs.declared.details.Octets.{Octets}

@@ -1,8 +1,10 @@
-//! Laws of what `explain` writes: contracts of functions that do nothing.
+//! Laws of what `explain` and `measure` write: contracts of functions that do nothing.
 
 ghost use Rattle.explain_laws.specs.AsChecked.{ExplainsAsChecked, JudgementsHaveOneAnswer, JudgesAsChecked};
 ghost use Rattle.explain_laws.specs.ReadBack.{EachJudgementIsJson};
 ghost use Rattle.explain_laws.specs.Unread.{EachOtherTellsTheReadings};
+ghost use Rattle.explain_laws.specs.Measurements.{EachMeasurementIsJson};
+ghost use Rattle.explain_laws.specs.FullMeasurements.{EachFullMeasurementIsJson};
 
 /// What `explain --json` writes of a report is one line of printed octets, which is read as an object of 18 members:
 /// `brackets`, `by_messages`, `by_readings`, `error`, `event`, `line`, `node`, `octets`, `offset2`, `otherwise`, `path2`,
@@ -37,4 +39,17 @@ pub fn explains_as_checked()
 /// results by the messages are those by the readings, so that the slave was told nothing else than what the clocks read.
 pub fn other_octets_tell_the_readings()
     ensures { EachOtherTellsTheReadings }
+{}
+
+/// What `measure` writes of a report as JSON is one line of printed octets, which is read as an object of eight members: `by`, `line`,
+/// `offset`, `offset2`, `path`, `path2`, `tags` and `time`, with the values of that report, of its line and of its time. This holds
+/// of all numbers of 64 bits, of results of 128 bits, and of any time that is read.
+pub fn measurements_are_json()
+    ensures { EachMeasurementIsJson }
+{}
+
+/// What `measure` writes in full is an object of seventeen members: those eight, and `delay_correction`,
+/// `request_number`, `sync_correction`, `sync_number`, `t1`, `t2`, `t2_to_t3`, `t3` and `t4`, with the values of its exchange.
+pub fn full_measurements_are_json()
+    ensures { EachFullMeasurementIsJson }
 {}

@@ -1,12 +1,16 @@
 //! What is told of each report of a transcript, and of all of them.
 #![tactic(auto)]
 
+mod answers;
 mod completing;
 mod others;
+mod outcome;
 mod past;
+mod played;
 mod refused;
 mod report;
 mod story;
+mod table;
 mod tally;
 mod told_reasons;
 mod wrong_value;

@@ -4,8 +4,8 @@ ghost use Rattle.std.specs.String.{string_bytes};
 ghost use Rattle.explain_words.specs.Lines.{are_lines};
 ghost use Rattle.explain_story.specs.Counts.{others_text};
 
+use crate::answers::{OtherOutcome, SlaveAnswers};
 use explain_words::push_lines;
-use slave_answers::{OtherOutcome, SlaveAnswers};
 use std::alloc::{AllocError, Global};
 
 /// Appends how many outcomes of messages that came to slaves, of how many, aren't those of a slave here; nothing where none isn't.

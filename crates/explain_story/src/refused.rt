@@ -6,9 +6,9 @@ ghost use Rattle.explain_story.specs.Report.{is_as_told, tells_otherwise, TellsR
 
 use crate::past::Past;
 use crate::report::{is_as_told, push_begin, push_reason, push_results, tells_otherwise};
+use crate::table::push_exchange;
 use crate::told_reasons::ToldReasons;
 use exchange_check::{Results, Why};
-use exchange_table::push_exchange;
 use explain_findings::{Case, push_otherwise};
 use explain_words::push_lines;
 use std::alloc::AllocError;

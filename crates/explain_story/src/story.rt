@@ -6,6 +6,7 @@ ghost use Rattle.explain_story.specs.Counts.{counts_of, has_octets, TellsCounts}
 ghost use Rattle.explain_fields.specs.Differing.{TellsMessages};
 ghost use Rattle.explain_story.specs.Report.{TellsReport};
 
+use crate::answers::SlaveAnswers;
 use crate::completing::{Completions, push_unreported};
 use crate::others::push_others;
 use crate::past::Pasts;
@@ -17,7 +18,6 @@ use exchange_check::{Checker, Evidence, KeptLine, Results, TraceLine, TraceOut};
 use explain_fields::{Compared, Differing};
 use explain_findings::{Case, Known, Reported, index_of};
 use network_model::NodeSpec;
-use slave_answers::SlaveAnswers;
 use std::alloc::{AllocError, Global};
 use std::marker::Model;
 

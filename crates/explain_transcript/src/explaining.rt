@@ -18,13 +18,13 @@ ghost use Rattle.explain_transcript.specs.Inner.Explaining.{IsExplaining, IsKept
 
 use crate::flaws::{Flaws, push_foreign};
 use crate::found::push_found;
+use crate::refusal::{Before, push_clash};
 use exchange_check::Results;
 use explain_findings::Reported;
 use explain_flaws::Foreign;
 use explain_input::{FoundInput, Input, Taken};
 use explain_story::{Story, ToldReasons};
 use network_model::WorldRefusal;
-use obstacle_text::{Before, push_clash};
 use schedule_lines::TranscriptLine;
 use schedule_reading::{Judged, TaskFault};
 use std::alloc::{AllocError, Global};

@@ -1,10 +1,10 @@
 //! The lines of an input that aren't what is asked for.
 ghost use Rattle.std.specs.Prelude.{◌≡◌};
 
+use crate::refusal::{Before, RefusedEvent, push_clash, push_refused};
 use explain_flaws::{FileForm, Flaw, FlawAt, Foreign, schedule_flaw, transcript_flaw};
 use explain_input::Input;
 use network_model::WorldRefusal;
-use obstacle_text::{Before, RefusedEvent, push_clash, push_refused};
 use schedule_lines::Line;
 use schedule_reading::{TaskFault, read_entry};
 use std::alloc::{AllocError, Global};

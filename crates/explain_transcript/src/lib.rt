@@ -8,6 +8,8 @@ mod flaws;
 mod found;
 mod json;
 mod judgements;
+mod refusal;
+mod words;
 
 pub use details::{Details, Moments, Octets};
 pub use explain_input::FoundInput;

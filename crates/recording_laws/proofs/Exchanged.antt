@@ -18,7 +18,7 @@ use Rattle.slave_port.proofs.Uses.{report_parts}
 use Rattle.recording_model.specs.declared.watched.Watched.{Watched}
 use Rattle.recording_model.specs.Listening.{Listening, setup_in, answer_in, answered, after_all, report_in, report_at}
 use Rattle.recording_model.specs.Listening.{ready_sync, ready_follow_up, ready_response}
-use Rattle.recording_listener.specs.Exchanged.{exchange_after, exchanged, exchange_at}
+use Rattle.recording_measure.specs.Exchanged.{exchange_after, exchanged, exchange_at}
 use Rattle.recording_laws.specs.EachExchange.{EachReportIsOfItsExchange}
 use Rattle.recording_lines.specs.declared.measurement.Half.TheVariants as halves
 use Rattle.recording_measure.specs.Made.{Measured}

@@ -44,7 +44,7 @@ pub fn each_datagram_is_counted_once()
 
 /// Each report that is written has the exchange that it was made of, and its two results are those of the four times
 /// and the corrections of that. So with [`Form::FullJson`](recording_measure::Form) and [`Form::FullTable`](recording_measure::Form) nothing is
-/// left out, and [`each_offset_is_of_its_times`](exchange_lines::laws::each_offset_is_of_its_times) holds in each line.
+/// left out, and [`each_offset_is_of_its_times`](recording_measure::laws::each_offset_is_of_its_times) holds in each line.
 pub fn each_report_is_of_its_exchange()
     ensures { EachReportIsOfItsExchange }
 {}

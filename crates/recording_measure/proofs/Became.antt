@@ -13,10 +13,11 @@ use Rattle.sync_watch.specs.Judged.{judged_sync}
 use Rattle.slave_port.specs.History.{Call, Event, General}
 use Rattle.recording_model.specs.declared.watched.Watched.{Watched}
 use Rattle.recording_model.specs.Listening.{Listening, table_capacity, is_of, arrival_of, ready_judged, answer_in}
-use Rattle.recording_listener.specs.declared.listener.Reply.{Reply}
+use Rattle.recording_measure.specs.declared.listener.Reply.{Reply}
 use Rattle.recording_model.specs.Begins.{is_beginning}
-use Rattle.recording_listener.specs.Became.{sync_begins, became_by, became_called, became_of}
-use Rattle.recording_listener.proofs.Replied.{own, asked}
+use Rattle.recording_measure.specs.Begins.{sync_begins}
+use Rattle.recording_measure.specs.Inner.Became.{became_by, became_called, became_of}
+use Rattle.recording_measure.proofs.Replied.{own, asked}
 use Rattle.recording_summary.specs.declared.no_report.NoReport.TheVariants as whys
 use Rattle.recording_measure.specs.Counts.{why_answered, why_heard, is_next, is_last, slave_begins, master_begins}
 use Rattle.recording_measure.specs.Inner.Counting.{why_by, is_slave_anew, is_master_anew}

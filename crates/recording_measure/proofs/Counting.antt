@@ -19,8 +19,8 @@ use Rattle.recording_quality.specs.Noted.{Noted, Reported}
 use Rattle.recording_quality.specs.declared.others.Others.{Others}
 use Rattle.recording_quality.specs.Others.{AreOthers}
 use Rattle.recording_quality.specs.Quality.{IsQuality}
-use Rattle.recording_listener.specs.declared.listener.Became.{Became}
-use Rattle.recording_listener.specs.declared.listener.Became.TheVariants as became
+use Rattle.recording_measure.specs.declared.listener.Became.{Became}
+use Rattle.recording_measure.specs.declared.listener.Became.TheVariants as became
 use Rattle.recording_summary.specs.declared.counts.Counts.{Counts}
 use Rattle.recording_summary.specs.declared.kind.Kind.{Kind}
 use Rattle.recording_summary.specs.declared.kind.Kind.TheVariants as kinds
@@ -31,7 +31,7 @@ use Rattle.recording_measure.specs.Counts.{kind_of, kind_of_refused, why_refused
 use Rattle.recording_measure.specs.Counts.{Fate, fate_in, early_fate, noted_of, meeting_of, is_so, IsCounts}
 use Rattle.recording_measure.specs.Meetings.{meeting_at}
 use Rattle.recording_measure.specs.Inner.Counting.{with_why, with_anew, why_by, is_slave_anew, is_master_anew}
-use Rattle.recording_listener.specs.Became.{became_of}
+use Rattle.recording_measure.specs.Inner.Became.{became_of}
 use Rattle.recording_measure.proofs.Became.{why-became, slave-became, master-became}
 
 -- ---- places

@@ -13,7 +13,7 @@ use Rattle.recording_lines.specs.declared.measurement.Half.TheVariants as halves
 use Rattle.recording_measure.specs.Made.{Measured}
 use Rattle.recording_measure.specs.declared.reports.Completed.{Completed}
 use Rattle.recording_measure.specs.Row.{Row, datagrams}
-use Rattle.recording_listener.specs.Exchanged.{exchange_at}
+use Rattle.recording_measure.specs.Exchanged.{exchange_at}
 use Rattle.recording_measure.specs.Measured.{half_of, measured_at}
 use Rattle.recording_measure.specs.Inner.Hearing.{completion, measured_by}
 

@@ -1,3 +1,8 @@
+pub mod Ways
+pub mod WorkedExchange
+mod Judged
+mod Listeners
+pub mod Replied
 pub mod Became
 pub mod Bodies
 pub mod Counting

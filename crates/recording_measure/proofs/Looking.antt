@@ -14,7 +14,7 @@ use Rattle.datagram_source.specs.Datagram.{datagram_of}
 use Rattle.recording_measure.specs.Made.{Measured}
 use Rattle.recording_model.specs.declared.watched.Watched.{Watched}
 use Rattle.recording_model.specs.Listening.{after_all}
-use Rattle.recording_listener.specs.declared.listener.Listener.{Listener}
+use Rattle.recording_measure.specs.declared.listener.Listener.{Listener}
 use Rattle.recording_measure.specs.declared.measuring.Measuring.{Measuring}
 use Rattle.recording_measure.specs.declared.measuring.Stage.{Stage}
 use Rattle.recording_measure.specs.declared.measuring.Stage.TheVariants.{Looking, Hearing}
@@ -31,7 +31,7 @@ use Rattle.recording_measure.specs.Inner.Stages.{whom_at, input_whom}
 use Rattle.recording_measure.specs.Inner.Watching.{whom_of}
 use Rattle.recording_measure.proofs.Watches.{whom_known, whom_stays}
 use Rattle.recording_measure.specs.Inner.Measuring.{IsMeasuring, IsStage, IsHearingAt, AddsRow}
-use Rattle.recording_listener.specs.StandsFor.{StandsFor}
+use Rattle.recording_measure.specs.Inner.StandsFor.{StandsFor}
 use Rattle.recording_measure.specs.Inner.Recordings.{AreKeptRows, AreRecordings, BeginsWith, IsFoundAt, IsNoticed}
 use Rattle.recording_measure.specs.Told.{place_in}
 use Rattle.recording_measure.specs.Counts.{early_at, IsCounts}

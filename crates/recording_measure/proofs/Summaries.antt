@@ -3,7 +3,7 @@ use Rattle.std.proofs.Common.{◌≡◌, ◌∙◌, ℕ, zero, suc, ◌<◌, Boo
 use Rattle.std.proofs.Common.{refl, sym, ap, subst, arith}
 use Rattle.std.specs.Prelude.{get_or, slice_get, option_map, if◌then◌else◌}
 use Rattle.std.specs.Option.{option_map_or}
-use Rattle.recording_listener.specs.declared.listener.Listener.{Listener}
+use Rattle.recording_measure.specs.declared.listener.Listener.{Listener}
 use Rattle.recording_measure.specs.declared.measuring.Stage.{Stage}
 use Rattle.recording_measure.specs.declared.measuring.Stage.TheVariants.{Looking, Hearing}
 use Rattle.recording_measure.specs.declared.recording.Recording.{Recording}

@@ -22,7 +22,7 @@ use Rattle.slave_port.specs.History.{next_number}
 use Rattle.recording_model.specs.declared.watched.Watched.{Watched}
 use Rattle.recording_model.specs.Recorded.{Recorded}
 use Rattle.recording_model.specs.Listening.{Listening, setup_in, table_capacity, is_of, answered, after_all}
-use Rattle.recording_listener.specs.Became.{sync_begins}
+use Rattle.recording_measure.specs.Begins.{sync_begins}
 use Rattle.recording_measure.specs.Made.{Measured}
 use Rattle.recording_quality.specs.Noted.{Noted}
 use Rattle.recording_quality.specs.declared.others.Meeting.{Meeting}

@@ -1,3 +1,7 @@
+pub mod Moment
+pub mod Exchange
+pub mod Exchanged
+pub mod Begins
 pub mod Watch
 pub mod Row
 pub mod Made

@@ -4,7 +4,7 @@ use Rattle.text_lines.specs.declared.line_fault.LineFault.{LineFault}
 use Rattle.text_lines.specs.declared.line_fault.LineFault.TheVariants.{Write, Field, Memory}
 use Rattle.text_lines.specs.Fault.{is_write}
 use Rattle.recording_lines.specs.Measurement.{table_head}
-use Rattle.exchange_lines.specs.Exchange as full
+use Rattle.recording_measure.specs.Exchange as full
 use Rattle.datagram_source.specs.declared.lines.LineForm.TheVariants.{Timed}
 use Rattle.datagram_source.specs.Datagram.{DatagramOf}
 use Rattle.datagram_source.specs.Rules.{DatagramRules, is_field}

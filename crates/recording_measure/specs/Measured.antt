@@ -10,14 +10,14 @@ use Rattle.recording_model.specs.Listening.{report_at}
 use Rattle.recording_lines.specs.declared.measurement.Half.{Half}
 use Rattle.recording_lines.specs.declared.measurement.Half.TheVariants as halves
 use Rattle.recording_lines.specs.Measurement.{json_text, row_text}
-use Rattle.exchange_lines.specs.Exchange as full
+use Rattle.recording_measure.specs.Exchange as full
 use Rattle.recording_measure.specs.declared.form.Form.{Form}
 use Rattle.recording_measure.specs.declared.form.Form.TheVariants.{Json, Table, FullJson, FullTable}
 use Rattle.recording_measure.specs.declared.watch.WantedPorts.{WantedPorts}
 use Rattle.recording_measure.specs.Watch.{watched_in}
 use Rattle.recording_measure.specs.Row.{Row, datagrams, heard}
 use Rattle.recording_measure.specs.Made.{Measured, plain}
-use Rattle.recording_listener.specs.Exchanged.{exchange_at}
+use Rattle.recording_measure.specs.Exchanged.{exchange_at}
 
 -- which half of a report a message completes
 abbrev pub half_of : Body → Half

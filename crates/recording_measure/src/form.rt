@@ -26,7 +26,7 @@ impl Form {
         match self {
             Form::Json | Form::FullJson => "",
             Form::Table => table_head(),
-            Form::FullTable => exchange_lines::table_head(),
+            Form::FullTable => crate::exchange::table_head(),
         }
     }
 }

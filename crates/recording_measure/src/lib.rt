@@ -1,10 +1,14 @@
 //! Offsets and delays from a recording at a slave: a slave port hears its datagrams.
 #![tactic(auto)]
 
+mod exchange;
 mod form;
 mod input;
+pub mod laws;
+mod listener;
 mod measuring;
 mod meetings;
+mod moment;
 mod place;
 mod place_counts;
 mod recording;

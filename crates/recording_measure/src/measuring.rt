@@ -17,6 +17,7 @@ ghost use Rattle.recording_measure.specs.Inner.Recordings.{BeginsWith};
 ghost use Rattle.recording_measure.specs.Inner.Measuring.{IsMeasuring, IsLooking, IsHearingAt, AddsRow};
 
 use crate::form::Form;
+use crate::listener::Listener;
 use crate::place_counts::PlaceCounts;
 use crate::recording::{Recording, Recordings};
 use crate::reports::TimedReports;
@@ -24,7 +25,6 @@ use crate::tally::Tally;
 use crate::watch::{WantedPorts, Watch};
 use capture_file::InterfaceName;
 use datagram_source::{Datagram, DatagramTask, LineForm};
-use recording_listener::Listener;
 use recording_model::Watched;
 use recording_summary::{Counts, Whom};
 use std::alloc::Global;

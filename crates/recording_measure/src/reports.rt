@@ -11,19 +11,19 @@ ghost use Rattle.recording_measure.specs.Row.{Row, row_of, datagrams};
 ghost use Rattle.recording_measure.specs.Measured.{half_of, text_as, measured_at, measurements};
 ghost use Rattle.recording_measure.specs.Counts.{Fate, fate_in, fate_at, fates, IsCounts};
 ghost use Rattle.recording_measure.specs.Inner.Recordings.{AreKeptRows};
-ghost use Rattle.recording_listener.specs.Became.{exchange_by};
-ghost use Rattle.recording_listener.specs.StandsFor.{StandsFor};
+ghost use Rattle.recording_measure.specs.Inner.Became.{exchange_by};
+ghost use Rattle.recording_measure.specs.Inner.StandsFor.{StandsFor};
 ghost use Rattle.recording_measure.specs.Inner.Hearing.{report_by};
 ghost use Rattle.recording_measure.specs.Inner.Hearing.{recorded_of, completion, made_of, measured_by, IsOfOutput, Goes, GoesAtOnce};
 
 use crate::form::Form;
+use crate::listener::{Became, Listener};
 use crate::recording::Kept;
 use crate::tally::Tally;
 use datagram_source::Datagram;
 use event_codec::Body;
 use ptp_units::ScaledTime;
 use recording_lines::{Half, Measurement, push_json, push_row};
-use recording_listener::{Became, Listener};
 use recording_model::Watched;
 use slave_port::{Heard, LastExchange, Report};
 use std::alloc::{AllocError, Global};
@@ -104,8 +104,8 @@ fn push_as(form: Form, text: &mut String, made: &Made<'_>) -> Result<(), AllocEr
     match (form, exchange) {
         (Form::Json, _) => push_json(text, measured),
         (Form::Table, _) => push_row(text, measured),
-        (Form::FullJson, Some(exchange)) => exchange_lines::push_json(text, measured, exchange),
-        (Form::FullTable, Some(exchange)) => exchange_lines::push_row(text, measured, exchange),
+        (Form::FullJson, Some(exchange)) => crate::exchange::push_json(text, measured, exchange),
+        (Form::FullTable, Some(exchange)) => crate::exchange::push_row(text, measured, exchange),
         (Form::FullJson | Form::FullTable, None) => Ok(()),
     }
 }

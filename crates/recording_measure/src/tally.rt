@@ -14,12 +14,12 @@ ghost use Rattle.recording_measure.specs.Counts.{Fate, early_fate, noted_of, IsC
 ghost use Rattle.recording_measure.specs.Inner.Counting.{why_by, with_why, with_anew};
 ghost use Rattle.recording_measure.specs.Inner.Hearing.{recorded_of, made_of};
 
+use crate::listener::Became;
 use crate::meetings::{meeting_at, take_some};
 use crate::reports::Made;
 use datagram_source::Datagram;
 use event_codec::{Body, DecodeRefusal, Header, Message};
 use ptp_units::ScaledTime;
-use recording_listener::Became;
 use recording_summary::{Counts, Kind, NoReport};
 use slave_port::{Heard, Reason};
 

@@ -2,8 +2,8 @@
 use Rattle.std.specs.Prelude.{ℕ, ◌==◌, Bool, true, false, List, [], if◌then◌else◌}
 use Rattle.std.specs.Prelude.{Option, Some, None}
 use Rattle.event_codec.specs.declared.message.Header.{Header}
-use Rattle.recording_listener.specs.declared.listener.Became.{Became}
-use Rattle.recording_listener.specs.declared.listener.Became.TheVariants.{Heard, HeardAnew, HeardBefore, Asked, Repeated, Anew, Foreign}
+use Rattle.recording_measure.specs.declared.listener.Became.{Became}
+use Rattle.recording_measure.specs.declared.listener.Became.TheVariants.{Heard, HeardAnew, HeardBefore, Asked, Repeated, Anew, Foreign}
 use Rattle.recording_summary.specs.declared.counts.Counts.{Counts}
 use Rattle.recording_summary.specs.declared.kind.Kind.{Kind}
 use Rattle.recording_summary.specs.declared.no_report.NoReport.{NoReport}

@@ -14,14 +14,14 @@ use Rattle.recording_measure.specs.Made.{Measured}
 use Rattle.recording_model.specs.declared.watched.Watched.{Watched}
 use Rattle.recording_model.specs.Recorded.{Recorded}
 use Rattle.recording_model.specs.Listening.{report_in, report_at}
-use Rattle.recording_listener.specs.declared.listener.Became.{Became}
-use Rattle.recording_listener.specs.Became.{heard_by}
+use Rattle.recording_measure.specs.declared.listener.Became.{Became}
+use Rattle.recording_measure.specs.Inner.Became.{heard_by}
 use Rattle.recording_measure.specs.declared.reports.Completed.{Completed}
 use Rattle.datagram_source.specs.declared.datagram.Datagram.{Datagram}
 use Rattle.datagram_source.specs.Said.{reading_of}
 use Rattle.recording_measure.specs.declared.reports.Made.{Made}
 use Rattle.recording_measure.specs.declared.form.Form.{Form}
-use Rattle.recording_listener.specs.Exchanged.{exchange_at}
+use Rattle.recording_measure.specs.Exchanged.{exchange_at}
 use Rattle.recording_measure.specs.Measured.{half_of, texts_as}
 
 -- a datagram without where its octets lie

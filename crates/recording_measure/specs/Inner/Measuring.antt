@@ -5,7 +5,7 @@ use Rattle.datagram_source.specs.declared.datagram.Datagram.{Datagram}
 use Rattle.datagram_source.specs.Datagram.{datagram_of}
 use Rattle.recording_model.specs.declared.watched.Watched.{Watched}
 use Rattle.recording_model.specs.Listening.{after_all}
-use Rattle.recording_listener.specs.StandsFor.{StandsFor}
+use Rattle.recording_measure.specs.Inner.StandsFor.{StandsFor}
 use Rattle.recording_measure.specs.declared.measuring.Measuring.{Measuring}
 use Rattle.recording_measure.specs.declared.measuring.Stage.{Stage}
 use Rattle.recording_measure.specs.declared.measuring.Stage.TheVariants.{Looking, Hearing}

@@ -11,7 +11,7 @@ use Rattle.recording_measure.specs.Row.{Row, row_of, datagrams}
 use Rattle.recording_measure.specs.Measured.{texts_as, measured_at, measurements}
 use Rattle.recording_measure.specs.declared.tally.Tally.{Tally}
 use Rattle.recording_measure.specs.Counts.{Fate, fates, IsCounts}
-use Rattle.recording_listener.specs.StandsFor.{StandsFor}
+use Rattle.recording_measure.specs.Inner.StandsFor.{StandsFor}
 use Rattle.recording_measure.specs.Inner.Recordings.{AreKeptRows}
 use Rattle.recording_measure.proofs.KeptRows.{those_kept, alone, one_there, until_alone, went_alone}
 use Rattle.recording_measure.proofs.measuring.Measuring.begin.Goals as goal

@@ -2,7 +2,7 @@ use Rattle.std.proofs.Common.{◌∙◌, ◌∷◌, ℕ, refl, sym, ap, subst}
 use Rattle.event_codec.specs.Packet.{Contents, contents}
 use Rattle.recording_model.specs.Listening.{Listening, after_all}
 use Rattle.recording_model.specs.Recorded.{Recorded}
-use Rattle.recording_listener.specs.declared.listener.Became.{Became}
+use Rattle.recording_measure.specs.declared.listener.Became.{Became}
 use Rattle.recording_summary.specs.declared.counts.Counts.{Counts}
 use Rattle.recording_measure.specs.Counts.{kind_of, fate_in, meeting_of, IsCounts}
 use Rattle.recording_measure.specs.Meetings.{meeting_at}

@@ -8,7 +8,7 @@ use Rattle.recording_model.specs.Listening.{after_all}
 use Rattle.recording_measure.specs.Row.{Row, datagrams}
 use Rattle.recording_measure.specs.Measured.{texts_as, measured_at, measurements}
 use Rattle.recording_measure.specs.Counts.{fates, IsCounts}
-use Rattle.recording_listener.specs.StandsFor.{StandsFor}
+use Rattle.recording_measure.specs.Inner.StandsFor.{StandsFor}
 use Rattle.recording_measure.proofs.Goes.{texts-after}
 use Rattle.recording_measure.proofs.KeptRows.{are_next, kept_until}
 use Rattle.recording_measure.proofs.reports.TimedReports.hear_kept.Goals as goal

@@ -7,7 +7,7 @@ use Rattle.recording_model.specs.Listening.{after_all}
 use Rattle.recording_measure.specs.Row.{Row, datagrams}
 use Rattle.recording_measure.specs.Measured.{texts_as, measurements}
 use Rattle.recording_measure.specs.Counts.{fates, IsCounts}
-use Rattle.recording_listener.specs.StandsFor.{StandsFor}
+use Rattle.recording_measure.specs.Inner.StandsFor.{StandsFor}
 use Rattle.recording_measure.specs.Inner.Recordings.{AreKeptRows}
 use Rattle.recording_measure.proofs.reports.TimedReports.hear_kept.Given as goal
 

@@ -1,6 +1,0 @@
--- The asymmetry of two crossings is that of their ways.
-use Rattle.crossing_laws.proofs.Asymmetry.{shows_asymmetry}
-use Rattle.crossing_laws.proofs.laws.asymmetry_is_of_the_ways.Goals as goal
-
-pub returns : goal.returns
-returns c = shows_asymmetry

@@ -1,7 +1,0 @@
-use Rattle.std.proofs.Common.{append_assoc}
-use Rattle.std.proofs.lemmas.Result.{IfOk-equal}
-use Rattle.exchange_lines.proofs.exchange.push_row_numbers.Goals as goal
-
-pub returns : goal.returns
-returns c =
-    IfOk-equal c.write.result _ _ _ c.write.ensures.bytes (rw (c.sync_correction.ensures, c.delay_correction.ensures, c.between.ensures) (simp append_assoc))

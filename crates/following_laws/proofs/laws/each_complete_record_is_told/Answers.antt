@@ -1,6 +1,0 @@
--- A record that has what it needs is told.
-use Rattle.following_laws.proofs.Waiting.{each_complete}
-use Rattle.following_laws.proofs.laws.each_complete_record_is_told.Goals as goal
-
-pub returns : goal.returns
-returns c = each_complete

@@ -1,4 +1,0 @@
-pub mod Choice
-pub mod Sound
-pub mod Complete
-pub mod InCourse

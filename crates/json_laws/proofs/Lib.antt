@@ -1,4 +1,0 @@
-pub mod Figures
-pub mod ReadBack
-pub mod Full
-pub mod Worked

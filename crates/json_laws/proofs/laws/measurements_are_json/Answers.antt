@@ -1,5 +1,0 @@
-use Rattle.json_laws.proofs.ReadBack.{each_is_json}
-use Rattle.json_laws.proofs.laws.measurements_are_json.Goals as goal
-
-pub returns : goal.returns
-returns c = each_is_json

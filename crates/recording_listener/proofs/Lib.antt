@@ -1,3 +1,0 @@
-mod Judged
-mod Listeners
-pub mod Replied

@@ -1,4 +1,0 @@
-pub mod Exchanged
-pub mod Became
-pub mod StandsFor
-pub mod Inner

@@ -1,0 +1,17 @@
+pub mod Along
+pub mod Times
+pub mod Resting
+pub mod Lines
+pub mod Asymmetry
+pub mod Journeys
+pub mod Worked
+pub mod WorkedApart
+pub mod WorkedAsymmetry
+pub mod WorkedTaps
+pub mod Choices
+pub mod Tracks
+pub mod Waiting
+pub mod Free
+pub mod Courses
+pub mod WorkedChoice
+pub mod WorkedCrossings

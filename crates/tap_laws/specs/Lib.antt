@@ -1,0 +1,9 @@
+pub mod Told
+pub mod Way
+pub mod Record
+pub mod Lines
+pub mod Asymmetry
+pub mod Choice
+pub mod Sound
+pub mod Complete
+pub mod InCourse
