@@ -11,8 +11,8 @@ use Rattle.recording_quality.specs.declared.others.MessageKind.TheVariants.{Sync
 use Rattle.recording_quality.specs.declared.others.Others.{Others}
 use Rattle.recording_quality.specs.declared.others.Repeats.{Repeats}
 use Rattle.recording_quality.specs.Others.{other_domain, is_of_domain, kept_of, nobody, AreDomains, IsTurn, AreRepeats, AreOthers}
-use Rattle.recording_quality.specs.Wide.{at_most}
-use Rattle.recording_quality.proofs.Noting.{count_none, count_more}
+use Rattle.statistics.specs.Wide.{at_most}
+use Rattle.statistics.proofs.Counts.{count_none, count_more}
 
 module _ (m : Meeting) (earlier : List Meeting) (there : List ℕ) (so : AreDomains earlier there) where
   pub one_domain : (own : ℕ) → own < 256 → Some own ≡ other_domain m

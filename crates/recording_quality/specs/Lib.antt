@@ -1,6 +1,3 @@
-pub mod Wide
-pub mod Series
-pub mod Trend
 pub mod Noted
 pub mod Quality
 pub mod Others

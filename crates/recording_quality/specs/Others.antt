@@ -18,7 +18,7 @@ use Rattle.recording_quality.specs.declared.others.Repeats.{Repeats}
 use Rattle.recording_quality.specs.declared.others.Sender.{Sender}
 use Rattle.recording_quality.specs.declared.others.Senders.{Senders}
 use Rattle.recording_quality.specs.declared.others.Turn.{Turn}
-use Rattle.recording_quality.specs.Wide.{at_most}
+use Rattle.statistics.specs.Wide.{at_most}
 
 -- ---- of whom a message is
 abbrev pub master_met : Met → Option PortIdentity

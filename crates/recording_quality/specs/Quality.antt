@@ -11,11 +11,11 @@ use Rattle.recording_lines.specs.declared.measurement.Half.TheVariants.{Sync, Re
 use Rattle.recording_quality.specs.declared.quality.Quality.{Quality}
 use Rattle.recording_quality.specs.declared.quality.Statistics.{Statistics}
 use Rattle.recording_quality.specs.declared.quality.Times.{Times}
-use Rattle.recording_quality.specs.declared.series.Point.{Point}
+use Rattle.statistics.specs.declared.series.Point.{Point}
 use Rattle.recording_quality.specs.Noted.{Noted, Reported}
-use Rattle.recording_quality.specs.Series.{IsSeries, IsSpread}
-use Rattle.recording_quality.specs.Trend.{IsTrend}
-use Rattle.recording_quality.specs.Wide.{at_most}
+use Rattle.statistics.specs.Series.{IsSeries, IsSpread}
+use Rattle.statistics.specs.Trend.{IsTrend}
+use Rattle.statistics.specs.Wide.{at_most}
 
 -- ---- reports
 -- the offset of a report that a Sync completed, doubled

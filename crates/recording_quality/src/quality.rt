@@ -3,12 +3,11 @@ ghost use Rattle.std.specs.Ordering.{int_eq};
 ghost use Rattle.recording_quality.specs.Noted.{Noted};
 ghost use Rattle.recording_quality.specs.Quality.{is_finer, is_cut, is_fall, AreStatistics, AreTimes, IsQuality};
 
-use crate::series::{Point, Series, Spread, count_if};
-use crate::trend::Trend;
 use event_codec::DecodeRefusal;
 use ptp_units::ScaledTime;
 use recording_lines::Half;
 use slave_port::{LastExchange, Report};
+use statistics::{Point, Series, Spread, Trend, count_if};
 
 /// A microsecond, in units of 2^-16 ns.
 const MICROSECOND: u128 = 65_536_000;

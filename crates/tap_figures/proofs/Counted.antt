@@ -1,7 +1,7 @@
 -- What is kept of crossings, once there is one more of a kind.
 use Rattle.std.proofs.Common.{◌≡◌, ◌∷◌, List, map, refl, sym, subst}
-use Rattle.recording_quality.specs.Series.{IsSeries}
-use Rattle.recording_quality.specs.Trend.{IsTrend}
+use Rattle.statistics.specs.Series.{IsSeries}
+use Rattle.statistics.specs.Trend.{IsTrend}
 use Rattle.tap_crossing.specs.declared.crossing.Crossing.{Crossing}
 use Rattle.tap_crossing.specs.declared.sighting.Kind.TheVariants as kinds
 use Rattle.tap_sums.specs.Sums.{of_kind}

@@ -1,4 +1,3 @@
 mod Counted
-mod Counts
 mod Kept
 mod Worked

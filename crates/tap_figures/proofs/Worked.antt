@@ -1,23 +1,12 @@
--- Worked cases: medians of 3, 1 and 2, of 1, 3, 2 and 4, and of none; of four messages what changed; and why nothing is told of
--- records.
-use Rattle.std.proofs.Common.{◌≡◌, pos, true, List, [], ◌∷◌, Some, None, refl}
+-- Worked cases: of four messages what changed; and why nothing is told of records.
+use Rattle.std.proofs.Common.{true, List, [], ◌∷◌, refl}
 use Rattle.tap_crossing.specs.declared.changes.Changes.{Changes}
 use Rattle.tap_crossing.specs.declared.crossing.NoCrossing.TheVariants.{TooBig, TwoStepAtFromAlone, OtherTimestamp}
 use Rattle.tap_crossing.specs.declared.crossing.MessageOutcome.{MessageOutcome}
 use Rattle.tap_crossing.specs.declared.crossing.MessageOutcome.TheVariants.{Waits, Spoils, IsSpoiled, Closed}
 use Rattle.tap_crossing.specs.Changes.{no_changes}
 use Rattle.tap_figures.specs.Changed.{AreChanged}
-use Rattle.tap_figures.specs.Median.{middle_of}
 use Rattle.tap_figures.specs.Untold.{AreUntold}
-
-three : middle_of (pos 1 ∷ pos 2 ∷ pos 3 ∷ []) ≡ Some (record { lower = pos 2; upper = pos 2 })
-three = refl
-
-four : middle_of (pos 1 ∷ pos 2 ∷ pos 3 ∷ pos 4 ∷ []) ≡ Some (record { lower = pos 2; upper = pos 3 })
-four = refl
-
-none : middle_of [] ≡ None
-none = refl
 
 -- a flag of two messages, and the log interval of one of these
 abbrev changes : List Changes

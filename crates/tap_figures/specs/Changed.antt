@@ -1,6 +1,6 @@
 -- How many messages had other fields changed between the taps than their corrections.
 use Rattle.std.specs.Prelude.{◌≡◌, List, [], ◌∷◌, count_by}
-use Rattle.recording_quality.specs.Wide.{at_most}
+use Rattle.statistics.specs.Wide.{at_most}
 use Rattle.tap_crossing.specs.Changes.{is_any}
 use Rattle.tap_crossing.specs.declared.changes.Changes.{Changes}
 use Rattle.tap_crossing.specs.declared.crossing.Crossing.{Crossing}

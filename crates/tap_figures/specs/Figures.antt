@@ -1,8 +1,8 @@
 -- What is kept of crossings, the newest in front.
 use Rattle.std.specs.Prelude.{pos, ◌+ℤ◌, ◌*ℤ◌, ◌^◌, unsigned_abs, List, map}
-use Rattle.recording_quality.specs.declared.series.Point.{Point}
-use Rattle.recording_quality.specs.Series.{IsSeries}
-use Rattle.recording_quality.specs.Trend.{IsTrend}
+use Rattle.statistics.specs.declared.series.Point.{Point}
+use Rattle.statistics.specs.Series.{IsSeries}
+use Rattle.statistics.specs.Trend.{IsTrend}
 use Rattle.tap_crossing.specs.declared.crossing.Crossing.{Crossing}
 use Rattle.tap_crossing.specs.declared.sighting.Kind.TheVariants as kinds
 use Rattle.tap_sums.specs.declared.spread.Quantity.TheVariants as quantities
@@ -10,7 +10,7 @@ use Rattle.tap_sums.specs.Sums.{of_kind, value_of}
 use Rattle.tap_figures.specs.declared.figures.Figures.{Figures}
 use Rattle.tap_figures.specs.declared.figures.KindFigures.{KindFigures}
 use Rattle.tap_figures.specs.Changed.{AreChanged, changes_in}
-use Rattle.tap_figures.specs.Median.{IsRecent}
+use Rattle.statistics.specs.Median.{IsRecent}
 
 -- a rest, doubled, by the correction, which is raised by 2^97 and stands in the place of a time
 abbrev pub point_of : Crossing → Point

@@ -1,6 +1,6 @@
 -- Of how many records nothing is told, by what messages brought.
 use Rattle.std.specs.Prelude.{◌≡◌, Bool, true, false, List, count_by}
-use Rattle.recording_quality.specs.Wide.{at_most}
+use Rattle.statistics.specs.Wide.{at_most}
 use Rattle.tap_crossing.specs.declared.crossing.NoCrossing.{NoCrossing}
 use Rattle.tap_crossing.specs.declared.crossing.NoCrossing.TheVariants as reasons
 use Rattle.tap_crossing.specs.declared.crossing.MessageOutcome.{MessageOutcome}

@@ -3,7 +3,7 @@ ghost use Rattle.std.specs.Prelude.{◌≡◌, List, [], ◌∷◌};
 ghost use Rattle.tap_crossing.specs.declared.changes.Changes.{Changes};
 ghost use Rattle.tap_figures.specs.Changed.{AreChanged};
 
-use crate::counting::count_if;
+use statistics::count_if;
 use tap_crossing::Changes;
 
 /// How many messages of crossings had a field changed between the taps, each as far as 2^64 - 1; corrections are none of these.

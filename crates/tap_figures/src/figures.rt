@@ -3,11 +3,10 @@ ghost use Rattle.tap_crossing.specs.Crossing.{IsWithin};
 ghost use Rattle.tap_crossing.specs.declared.crossing.Crossing.{Crossing};
 ghost use Rattle.tap_sums.specs.Sums.{of_kind, value_of};
 ghost use Rattle.tap_figures.specs.Figures.{AreFigures, AreRecent, point_of};
-ghost use Rattle.tap_figures.specs.Median.{IsMedian, IsRecent, last};
+ghost use Rattle.statistics.specs.Median.{IsMedian, IsRecent, last};
 
 use crate::changed::Changed;
-use crate::recent::{Middle, Recent};
-use recording_quality::{Point, Series, Trend};
+use statistics::{Middle, Point, Recent, Series, Trend};
 use std::alloc::{AllocError, Global};
 use tap_crossing::{Crossing, Kind};
 use tap_sums::Quantity;

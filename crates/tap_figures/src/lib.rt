@@ -3,12 +3,9 @@
 #![tactic(auto)]
 
 mod changed;
-mod counting;
 mod figures;
-mod recent;
 mod untold;
 
 pub use changed::Changed;
 pub use figures::Figures;
-pub use recent::{Middle, RECENT_MOST};
 pub use untold::Untold;

@@ -3,7 +3,7 @@ ghost use Rattle.std.specs.Prelude.{◌≡◌, List, [], ◌∷◌};
 ghost use Rattle.tap_crossing.specs.declared.crossing.MessageOutcome.{MessageOutcome};
 ghost use Rattle.tap_figures.specs.Untold.{AreUntold, is_spoiling, is_closed, too_big, two_step_at_from_alone, other_timestamp};
 
-use crate::counting::count_if;
+use statistics::count_if;
 use tap_crossing::{MessageOutcome, NoCrossing};
 
 /// Of how many records nothing is told, by why, each as far as 2^64 - 1.

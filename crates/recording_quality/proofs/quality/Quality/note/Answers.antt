@@ -1,6 +1,7 @@
 use Rattle.std.proofs.Common.{◌∙◌, sym, ap}
 use Rattle.recording_quality.specs.Quality.{is_cut}
-use Rattle.recording_quality.proofs.Noting.{count_more, noted_statistics}
+use Rattle.statistics.proofs.Counts.{count_more}
+use Rattle.recording_quality.proofs.Noting.{noted_statistics}
 use Rattle.recording_quality.proofs.quality.Quality.note.Goals as goal
 
 pub returns : goal.returns

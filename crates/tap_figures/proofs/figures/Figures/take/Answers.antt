@@ -1,5 +1,5 @@
 use Rattle.std.proofs.Common.{map, List}
-use Rattle.recording_quality.specs.declared.series.Point.{Point}
+use Rattle.statistics.specs.declared.series.Point.{Point}
 use Rattle.tap_crossing.specs.declared.sighting.Kind.TheVariants.{Sync, DelayReq}
 use Rattle.tap_sums.specs.Sums.{of_kind}
 use Rattle.tap_figures.specs.Changed.{changes_in}

@@ -1,9 +1,9 @@
 //! Counts that stay at 2^64 - 1.
 ghost use Rattle.std.specs.Prelude.{◌≡◌};
-ghost use Rattle.tap_figures.specs.Inner.Counting.{with_one_if};
+ghost use Rattle.statistics.specs.Counting.{with_one_if};
 
 /// One more, where it is so, as far as 2^64 - 1.
-pub(crate) fn count_if(count: u64, is_so: bool) -> u64
+pub fn count_if(count: u64, is_so: bool) -> u64
     ensures { result ≡ with_one_if is_so count }
 {
     if is_so {

@@ -1,9 +1,9 @@
 -- What a line through values over their times is drawn by. Lists of them have the newest in front.
 use Rattle.std.specs.Prelude.{◌≡◌, ◌*◌, List}
-use Rattle.recording_quality.specs.declared.series.Point.{Point}
-use Rattle.recording_quality.specs.declared.trend.Trend.{Trend}
-use Rattle.recording_quality.specs.Wide.{wide, wide_sum}
-use Rattle.recording_quality.specs.Series.{above, below}
+use Rattle.statistics.specs.declared.series.Point.{Point}
+use Rattle.statistics.specs.declared.trend.Trend.{Trend}
+use Rattle.statistics.specs.Wide.{wide, wide_sum}
+use Rattle.statistics.specs.Series.{above, below}
 
 -- the sums over these values
 pub record IsTrend (points : List Point) (t : Trend) : Type 0 where

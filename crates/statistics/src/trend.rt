@@ -1,5 +1,5 @@
 ghost use Rattle.std.specs.Prelude.{◌≡◌, List, [], ◌∷◌};
-ghost use Rattle.recording_quality.specs.Trend.{IsTrend};
+ghost use Rattle.statistics.specs.Trend.{IsTrend};
 
 use crate::series::{Point, size_above, size_below};
 use crate::wide::Wide;

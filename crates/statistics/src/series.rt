@@ -1,8 +1,8 @@
 ghost use Rattle.std.specs.Prelude.{◌≡◌, List, [], ◌∷◌};
 ghost use Rattle.std.specs.List.{cons_option};
-ghost use Rattle.recording_quality.specs.Series.{IsSeries, IsSpread, above, below, lesser, greater};
-ghost use Rattle.recording_quality.specs.Inner.Counting.{with_one_if};
+ghost use Rattle.statistics.specs.Series.{IsSeries, IsSpread, above, below, lesser, greater};
 
+use crate::counting::count_if;
 use crate::wide::Wide;
 
 /// What was measured at a line.
@@ -80,17 +80,6 @@ fn greater(point: Point, greatest: Option<Point>) -> Option<Point>
     }
 }
 
-/// One more, where it is so, as far as 2^64 - 1.
-pub(crate) fn count_if(count: u64, is_so: bool) -> u64
-    ensures { result ≡ with_one_if is_so count }
-{
-    if is_so {
-        count.saturating_add(1)
-    } else {
-        count
-    }
-}
-
 impl Spread {
     /// The least and the greatest of no values.
     pub fn new() -> Spread
@@ -111,7 +100,7 @@ impl Spread {
     }
 
     /// Takes one more value, if there is one.
-    pub(crate) fn take_some(&mut self, point: Option<Point>)
+    pub fn take_some(&mut self, point: Option<Point>)
         ensures { (points : List Point) → IsSpread points self.old → IsSpread (cons_option point points) self.new }
     {
         if let Some(point) = point {

@@ -1,7 +1,7 @@
 -- Sums of 256 bits, which stay at the most that these hold, and counts of 64.
 use Rattle.std.specs.Prelude.{ℕ, ◌+◌, ◌-◌, ◌*◌, ◌^◌, min, List}
 use Rattle.std.specs.Prelude.{sum_by}
-use Rattle.recording_quality.specs.declared.wide.Wide.{Wide}
+use Rattle.statistics.specs.declared.wide.Wide.{Wide}
 
 -- the sum that it is
 abbrev pub wide : Wide → ℕ

@@ -1,10 +1,10 @@
 -- What is told of values that were measured. Lists of them have the newest in front.
 use Rattle.std.specs.Prelude.{◌≡◌, ℕ, ◌+◌, ◌*◌, ◌==◌, ℤ, pos, negsuc, int_lt, unsigned_abs, if◌then◌else◌}
 use Rattle.std.specs.Prelude.{List, [], ◌∷◌, length, count_by, Option, Some, None}
-use Rattle.recording_quality.specs.declared.series.Point.{Point}
-use Rattle.recording_quality.specs.declared.series.Series.{Series}
-use Rattle.recording_quality.specs.declared.series.Spread.{Spread}
-use Rattle.recording_quality.specs.Wide.{wide, wide_sum, at_most}
+use Rattle.statistics.specs.declared.series.Point.{Point}
+use Rattle.statistics.specs.declared.series.Series.{Series}
+use Rattle.statistics.specs.declared.series.Spread.{Spread}
+use Rattle.statistics.specs.Wide.{wide, wide_sum, at_most}
 
 -- a value above 0, or else 0
 abbrev pub above : ℤ → ℕ

@@ -1,6 +1,8 @@
 //! Means, deviations and slopes, rounded. Each is None where a sum is too big to divide.
 
-use recording_quality::{Series, Trend, Wide};
+use crate::series::Series;
+use crate::trend::Trend;
+use crate::wide::Wide;
 use std::fmt;
 use std::fmt::{Display, Formatter};
 
