@@ -6,18 +6,18 @@ use Rattle.std.specs.Option.{option_map_or, option_or}
 use Rattle.std.specs.List.{position}
 use Rattle.event_codec.specs.declared.port.PortIdentity.{PortIdentity}
 use Rattle.event_codec.specs.Port.{is_same_port}
-use Rattle.recording_quality.specs.declared.others.Meeting.{Meeting}
-use Rattle.recording_quality.specs.declared.others.MessageKind.{MessageKind}
-use Rattle.recording_quality.specs.declared.others.MessageKind.TheVariants.{Sync, FollowUp, DelayReq, DelayResp}
-use Rattle.recording_quality.specs.declared.others.Met.{Met}
-use Rattle.recording_quality.specs.declared.others.Met.TheVariants.{First, Repeat, Master, Slave, Domain}
-use Rattle.recording_quality.specs.declared.others.Newcomer.{Newcomer}
-use Rattle.recording_quality.specs.declared.others.Numbered.{Numbered}
-use Rattle.recording_quality.specs.declared.others.Others.{Others}
-use Rattle.recording_quality.specs.declared.others.Repeats.{Repeats}
-use Rattle.recording_quality.specs.declared.others.Sender.{Sender}
-use Rattle.recording_quality.specs.declared.others.Senders.{Senders}
-use Rattle.recording_quality.specs.declared.others.Turn.{Turn}
+use Rattle.recording_summary.specs.declared.others.Meeting.{Meeting}
+use Rattle.recording_summary.specs.declared.others.MessageKind.{MessageKind}
+use Rattle.recording_summary.specs.declared.others.MessageKind.TheVariants.{Sync, FollowUp, DelayReq, DelayResp}
+use Rattle.recording_summary.specs.declared.others.Met.{Met}
+use Rattle.recording_summary.specs.declared.others.Met.TheVariants.{First, Repeat, Master, Slave, Domain}
+use Rattle.recording_summary.specs.declared.others.Newcomer.{Newcomer}
+use Rattle.recording_summary.specs.declared.others.Numbered.{Numbered}
+use Rattle.recording_summary.specs.declared.others.Others.{Others}
+use Rattle.recording_summary.specs.declared.others.Repeats.{Repeats}
+use Rattle.recording_summary.specs.declared.others.Sender.{Sender}
+use Rattle.recording_summary.specs.declared.others.Senders.{Senders}
+use Rattle.recording_summary.specs.declared.others.Turn.{Turn}
 use Rattle.statistics.specs.Wide.{at_most}
 
 -- ---- of whom a message is

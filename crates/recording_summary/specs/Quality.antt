@@ -8,11 +8,11 @@ use Rattle.event_codec.specs.declared.refusal.DecodeRefusal.TheVariants.{Short, 
 use Rattle.event_codec.specs.declared.refusal.DecodeRefusal.TheVariants.{Nanoseconds}
 use Rattle.recording_lines.specs.declared.measurement.Half.{Half}
 use Rattle.recording_lines.specs.declared.measurement.Half.TheVariants.{Sync, Response}
-use Rattle.recording_quality.specs.declared.quality.Quality.{Quality}
-use Rattle.recording_quality.specs.declared.quality.Statistics.{Statistics}
-use Rattle.recording_quality.specs.declared.quality.Times.{Times}
+use Rattle.recording_summary.specs.declared.quality.Quality.{Quality}
+use Rattle.recording_summary.specs.declared.quality.Statistics.{Statistics}
+use Rattle.recording_summary.specs.declared.quality.Times.{Times}
 use Rattle.statistics.specs.declared.series.Point.{Point}
-use Rattle.recording_quality.specs.Noted.{Noted, Reported}
+use Rattle.recording_summary.specs.Noted.{Noted, Reported}
 use Rattle.statistics.specs.Series.{IsSeries, IsSpread}
 use Rattle.statistics.specs.Trend.{IsTrend}
 use Rattle.statistics.specs.Wide.{at_most}

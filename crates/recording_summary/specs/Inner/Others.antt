@@ -1,12 +1,12 @@
 -- What is kept of one message more.
 use Rattle.std.specs.Prelude.{ℕ, Some}
-use Rattle.recording_quality.specs.declared.others.Meeting.{Meeting}
-use Rattle.recording_quality.specs.declared.others.MessageKind.{MessageKind}
-use Rattle.recording_quality.specs.declared.others.MessageKind.TheVariants.{Sync, FollowUp, DelayReq, DelayResp}
-use Rattle.recording_quality.specs.declared.others.Met.{Met}
-use Rattle.recording_quality.specs.declared.others.Met.TheVariants.{First, Repeat, Master, Slave, Domain}
-use Rattle.recording_quality.specs.declared.others.Numbered.{Numbered}
-use Rattle.recording_quality.specs.declared.others.Repeats.{Repeats}
+use Rattle.recording_summary.specs.declared.others.Meeting.{Meeting}
+use Rattle.recording_summary.specs.declared.others.MessageKind.{MessageKind}
+use Rattle.recording_summary.specs.declared.others.MessageKind.TheVariants.{Sync, FollowUp, DelayReq, DelayResp}
+use Rattle.recording_summary.specs.declared.others.Met.{Met}
+use Rattle.recording_summary.specs.declared.others.Met.TheVariants.{First, Repeat, Master, Slave, Domain}
+use Rattle.recording_summary.specs.declared.others.Numbered.{Numbered}
+use Rattle.recording_summary.specs.declared.others.Repeats.{Repeats}
 
 -- the last of its kind that is the first of its number
 abbrev pub with_first : MessageKind → Numbered → Repeats → Repeats

@@ -1,9 +1,9 @@
 use Rattle.std.proofs.Common.{◌∙◌, Option, ap}
 use Rattle.std.specs.Option.{option_map_or}
 use Rattle.event_codec.specs.declared.port.PortIdentity.{PortIdentity}
-use Rattle.recording_quality.specs.declared.others.Senders.{Senders}
-use Rattle.recording_quality.specs.Others.{with_sender, senders, other_master, other_slave}
-use Rattle.recording_quality.proofs.others.Others.take.Goals as goal
+use Rattle.recording_summary.specs.declared.others.Senders.{Senders}
+use Rattle.recording_summary.specs.Others.{with_sender, senders, other_master, other_slave}
+use Rattle.recording_summary.proofs.others.Others.take.Goals as goal
 
 pub returns : goal.returns
 returns c = λ earlier so.

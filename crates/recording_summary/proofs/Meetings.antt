@@ -5,12 +5,12 @@ use Rattle.std.specs.Prelude.{min, ◌==◌, count_by, slice_set}
 use Rattle.std.specs.Option.{option_map_or}
 use Rattle.std.proofs.lemmas.Bool.{cases_eq, eq-eqb, ne_eqb}
 use Rattle.std.proofs.lemmas.List.{length-set, length-replicate, get_or-replicate, get_or-set_same, get_or-set_other}
-use Rattle.recording_quality.specs.declared.others.Meeting.{Meeting}
-use Rattle.recording_quality.specs.declared.others.MessageKind.{MessageKind}
-use Rattle.recording_quality.specs.declared.others.MessageKind.TheVariants.{Sync, FollowUp, DelayReq, DelayResp}
-use Rattle.recording_quality.specs.declared.others.Others.{Others}
-use Rattle.recording_quality.specs.declared.others.Repeats.{Repeats}
-use Rattle.recording_quality.specs.Others.{other_domain, is_of_domain, kept_of, nobody, AreDomains, IsTurn, AreRepeats, AreOthers}
+use Rattle.recording_summary.specs.declared.others.Meeting.{Meeting}
+use Rattle.recording_summary.specs.declared.others.MessageKind.{MessageKind}
+use Rattle.recording_summary.specs.declared.others.MessageKind.TheVariants.{Sync, FollowUp, DelayReq, DelayResp}
+use Rattle.recording_summary.specs.declared.others.Others.{Others}
+use Rattle.recording_summary.specs.declared.others.Repeats.{Repeats}
+use Rattle.recording_summary.specs.Others.{other_domain, is_of_domain, kept_of, nobody, AreDomains, IsTurn, AreRepeats, AreOthers}
 use Rattle.statistics.specs.Wide.{at_most}
 use Rattle.statistics.proofs.Counts.{count_none, count_more}
 

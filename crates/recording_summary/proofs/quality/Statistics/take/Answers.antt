@@ -4,16 +4,16 @@ use Rattle.std.specs.Option.{option_map_or}
 use Rattle.std.specs.List.{cons_option}
 use Rattle.recording_lines.specs.declared.measurement.Half.{Half}
 use Rattle.recording_lines.specs.declared.measurement.Half.TheVariants.{Sync, Response}
-use Rattle.recording_quality.specs.declared.quality.Statistics.{Statistics}
+use Rattle.recording_summary.specs.declared.quality.Statistics.{Statistics}
 use Rattle.statistics.specs.declared.series.Point.{Point}
-use Rattle.recording_quality.specs.Noted.{Noted}
-use Rattle.recording_quality.specs.Quality.{offset_of, path_of, sync_correction_of, delay_correction_of, is_sync_at_once, is_request_at_once, AreStatistics}
+use Rattle.recording_summary.specs.Noted.{Noted}
+use Rattle.recording_summary.specs.Quality.{offset_of, path_of, sync_correction_of, delay_correction_of, is_sync_at_once, is_request_at_once, AreStatistics}
 use Rattle.statistics.specs.Series.{IsSeries, IsSpread}
 use Rattle.statistics.specs.Trend.{IsTrend}
 use Rattle.statistics.specs.Wide.{at_most}
 use Rattle.statistics.proofs.Counts.{count_none, count_more}
-use Rattle.recording_quality.proofs.Noting.{still_unreported}
-use Rattle.recording_quality.proofs.quality.Statistics.take.Goals as goal
+use Rattle.recording_summary.proofs.Noting.{still_unreported}
+use Rattle.recording_summary.proofs.quality.Statistics.take.Goals as goal
 
 pub returns-in-Sync : goal.returns-in-Sync
 returns-in-Sync c = λ refusal earlier so.

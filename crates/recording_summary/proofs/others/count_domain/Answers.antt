@@ -1,6 +1,6 @@
 use Rattle.std.proofs.Common.{◌∙◌, sym, arith}
-use Rattle.recording_quality.proofs.Meetings.{one_domain}
-use Rattle.recording_quality.proofs.others.count_domain.Goals as goal
+use Rattle.recording_summary.proofs.Meetings.{one_domain}
+use Rattle.recording_summary.proofs.others.count_domain.Goals as goal
 
 pub returns-in-Some : goal.returns-in-Some
 returns-in-Some c = λ earlier m of so. rw (c.saturating_add.ensures, c.from-place.ensures)

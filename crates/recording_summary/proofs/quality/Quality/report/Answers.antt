@@ -1,10 +1,10 @@
 use Rattle.std.proofs.Common.{◌∙◌, Some, None, refl, ap}
-use Rattle.recording_quality.specs.Noted.{Noted}
-use Rattle.recording_quality.specs.Quality.{is_cut}
+use Rattle.recording_summary.specs.Noted.{Noted}
+use Rattle.recording_summary.specs.Quality.{is_cut}
 use Rattle.statistics.specs.Wide.{at_most}
 use Rattle.statistics.proofs.Counts.{same_head}
-use Rattle.recording_quality.proofs.Noting.{reported_times}
-use Rattle.recording_quality.proofs.quality.Quality.report.Goals as goal
+use Rattle.recording_summary.proofs.Noting.{reported_times}
+use Rattle.recording_summary.proofs.quality.Quality.report.Goals as goal
 
 pub returns : goal.returns
 returns c = λ refusal earlier so.

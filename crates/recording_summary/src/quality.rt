@@ -1,7 +1,7 @@
 ghost use Rattle.std.specs.Prelude.{◌≡◌, pos, ◌+ℤ◌, List, [], ◌∷◌, Option, Some, None, option_map};
 ghost use Rattle.std.specs.Ordering.{int_eq};
-ghost use Rattle.recording_quality.specs.Noted.{Noted};
-ghost use Rattle.recording_quality.specs.Quality.{is_finer, is_cut, is_fall, AreStatistics, AreTimes, IsQuality};
+ghost use Rattle.recording_summary.specs.Noted.{Noted};
+ghost use Rattle.recording_summary.specs.Quality.{is_finer, is_cut, is_fall, AreStatistics, AreTimes, IsQuality};
 
 use event_codec::DecodeRefusal;
 use ptp_units::ScaledTime;

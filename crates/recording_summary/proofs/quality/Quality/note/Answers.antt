@@ -1,8 +1,8 @@
 use Rattle.std.proofs.Common.{◌∙◌, sym, ap}
-use Rattle.recording_quality.specs.Quality.{is_cut}
+use Rattle.recording_summary.specs.Quality.{is_cut}
 use Rattle.statistics.proofs.Counts.{count_more}
-use Rattle.recording_quality.proofs.Noting.{noted_statistics}
-use Rattle.recording_quality.proofs.quality.Quality.note.Goals as goal
+use Rattle.recording_summary.proofs.Noting.{noted_statistics}
+use Rattle.recording_summary.proofs.quality.Quality.note.Goals as goal
 
 pub returns : goal.returns
 returns c = λ noted earlier of_time of_refusal none so. record {

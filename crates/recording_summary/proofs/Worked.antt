@@ -1,11 +1,11 @@
 -- Worked cases: who else is there by a few messages.
 use Rattle.std.proofs.Common.{◌≡◌, ℕ, ◌*◌, [], ◌∷◌, replicate, Some, None, refl}
 use Rattle.event_codec.specs.declared.port.PortIdentity.{PortIdentity}
-use Rattle.recording_quality.specs.declared.others.Meeting.{Meeting}
-use Rattle.recording_quality.specs.declared.others.MessageKind.TheVariants.{Sync, FollowUp}
-use Rattle.recording_quality.specs.declared.others.Met.{Met}
-use Rattle.recording_quality.specs.declared.others.Met.TheVariants.{First, Repeat, Master}
-use Rattle.recording_quality.specs.Others.{other_master, senders, newcomer, least_lag}
+use Rattle.recording_summary.specs.declared.others.Meeting.{Meeting}
+use Rattle.recording_summary.specs.declared.others.MessageKind.TheVariants.{Sync, FollowUp}
+use Rattle.recording_summary.specs.declared.others.Met.{Met}
+use Rattle.recording_summary.specs.declared.others.Met.TheVariants.{First, Repeat, Master}
+use Rattle.recording_summary.specs.Others.{other_master, senders, newcomer, least_lag}
 
 -- another master, of this portNumber
 abbrev other : ℕ → PortIdentity

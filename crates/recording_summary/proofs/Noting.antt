@@ -1,9 +1,9 @@
 -- What is told with one datagram more, and with its report.
 use Rattle.std.proofs.Common.{◌≡◌, ◌∙◌, List, ◌∷◌, Option, None, refl, sym, ap, subst}
-use Rattle.recording_quality.specs.declared.quality.Statistics.{Statistics}
-use Rattle.recording_quality.specs.declared.quality.Times.{Times}
-use Rattle.recording_quality.specs.Noted.{Noted, Reported}
-use Rattle.recording_quality.specs.Quality.{AreStatistics, AreTimes}
+use Rattle.recording_summary.specs.declared.quality.Statistics.{Statistics}
+use Rattle.recording_summary.specs.declared.quality.Times.{Times}
+use Rattle.recording_summary.specs.Noted.{Noted, Reported}
+use Rattle.recording_summary.specs.Quality.{AreStatistics, AreTimes}
 use Rattle.statistics.specs.Wide.{at_most}
 use Rattle.statistics.proofs.Counts.{count_none, same_head}
 

@@ -1,6 +1,6 @@
 use Rattle.std.proofs.Common.{refl}
-use Rattle.recording_quality.proofs.Meetings.{no_firsts, no_others}
-use Rattle.recording_quality.proofs.others.Others.new.Goals as goal
+use Rattle.recording_summary.proofs.Meetings.{no_firsts, no_others}
+use Rattle.recording_summary.proofs.others.Others.new.Goals as goal
 
 pub returns : goal.returns
 returns c = no_others _ c.new.ensures c.new-2.ensures refl (record { last = refl; newcomer = refl })

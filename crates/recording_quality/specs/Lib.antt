@@ -1,4 +1,0 @@
-pub mod Noted
-pub mod Quality
-pub mod Others
-pub mod Inner
