@@ -5,8 +5,7 @@ use std::fmt;
 use std::fmt::{Display, Formatter};
 use std::io::Write;
 use tap_crossing::Kind;
-use tap_figures::{Changed, Figures};
-use tap_sums::{Quantity, Spread, Statistics, Sums};
+use tap_sums::{Changed, Figures, Quantity, Spread, Statistics, Sums};
 
 /// Halves of 2^-16 ns of a nanosecond.
 const NANOSECOND: u128 = 131_072;

@@ -15,7 +15,7 @@ use std::alloc::Global;
 use std::io::{Read, Write};
 use tap_choice::WantedTaps;
 use tap_following::Form;
-use tap_lines::table_head;
+use tap_sums::table_head;
 use text_lines::Counted;
 
 /// Follows messages between two taps, and writes each crossing when its record closes. `answer_datagrams` says which inputs there are, and

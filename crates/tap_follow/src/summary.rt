@@ -1,7 +1,7 @@
 //! What is told of an input beside its crossings.
 ghost use Rattle.std.specs.Prelude.{◌≡◌, MatchResult};
 ghost use Rattle.text_lines.specs.Counted.{device_of, HasNotFailed, HasFailedIf};
-ghost use Rattle.tap_figures.specs.Untold.{AreUntold};
+ghost use Rattle.tap_sums.specs.Untold.{AreUntold};
 ghost use Rattle.tap_sums.specs.Held.{AreSums};
 ghost use Rattle.tap_choice.specs.Sides.{lacks_tap};
 ghost use Rattle.tap_following.specs.Course.{Course};
@@ -20,9 +20,8 @@ use std::alloc::Global;
 use std::io::Write;
 use tap_choice::Sides;
 use tap_crossing::{Filled, Kind};
-use tap_figures::Untold;
 use tap_following::{Followed, Follower};
-use tap_sums::{Sums, push_sums};
+use tap_sums::{Sums, Untold, push_sums};
 use text_lines::{Counted, write_text};
 
 /// What is told of an input beside its crossings.

@@ -17,9 +17,9 @@ use Rattle.tap_crossing.specs.declared.sighting.Tap.{Tap}
 use Rattle.tap_crossing.specs.Placed.{placed}
 use Rattle.tap_crossing.specs.StandsFor.{StandsFor, StandsAfter}
 use Rattle.tap_crossing.specs.Told.{told}
-use Rattle.tap_figures.specs.declared.figures.Figures.{Figures}
-use Rattle.tap_figures.specs.Figures.{AreFigures}
-use Rattle.tap_figures.specs.Untold.{AreUntold}
+use Rattle.tap_sums.specs.declared.figures.Figures.{Figures}
+use Rattle.tap_sums.specs.Figures.{AreFigures}
+use Rattle.tap_sums.specs.Untold.{AreUntold}
 use Rattle.tap_sums.specs.declared.sums.Sums.{Sums}
 use Rattle.tap_sums.specs.Held.{AreSums}
 use Rattle.tap_following.specs.declared.followed.Followed.{Followed}

@@ -12,10 +12,10 @@ use Rattle.tap_following.specs.declared.following.Form.{Form}
 use Rattle.tap_following.specs.declared.followed.Followed.{Followed}
 use Rattle.tap_sums.specs.declared.sums.Sums.{Sums}
 use Rattle.tap_sums.specs.Held.{AreSums}
-use Rattle.tap_figures.specs.declared.figures.Figures.{Figures}
-use Rattle.tap_figures.specs.declared.untold.Untold.{Untold}
-use Rattle.tap_figures.specs.Figures.{AreFigures}
-use Rattle.tap_figures.specs.Untold.{AreUntold}
+use Rattle.tap_sums.specs.declared.figures.Figures.{Figures}
+use Rattle.tap_sums.specs.declared.untold.Untold.{Untold}
+use Rattle.tap_sums.specs.Figures.{AreFigures}
+use Rattle.tap_sums.specs.Untold.{AreUntold}
 use Rattle.tap_following.specs.Written.{records_most, placed_in, outcomes_in, crossings_in}
 use Rattle.tap_following.specs.Course.{Course}
 use Rattle.tap_following.specs.Held.{Held, Holding, IsFollowing, IsFollower}

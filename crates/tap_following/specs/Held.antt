@@ -12,10 +12,10 @@ use Rattle.tap_following.specs.Course.{Course, kept_most, first_followed}
 use Rattle.tap_following.specs.Followed.{watched_in}
 use Rattle.tap_sums.specs.declared.sums.Sums.{Sums}
 use Rattle.tap_sums.specs.Held.{AreSums}
-use Rattle.tap_figures.specs.declared.figures.Figures.{Figures}
-use Rattle.tap_figures.specs.declared.untold.Untold.{Untold}
-use Rattle.tap_figures.specs.Figures.{AreFigures}
-use Rattle.tap_figures.specs.Untold.{AreUntold}
+use Rattle.tap_sums.specs.declared.figures.Figures.{Figures}
+use Rattle.tap_sums.specs.declared.untold.Untold.{Untold}
+use Rattle.tap_sums.specs.Figures.{AreFigures}
+use Rattle.tap_sums.specs.Untold.{AreUntold}
 use Rattle.tap_following.specs.Written.{records_most, placed_in, outcomes_in, crossings_in}
 
 -- how crossings are written, whose messages are followed, the slave once it is known, the tables of their records, the

@@ -12,7 +12,7 @@ use Rattle.tap_crossing.specs.declared.sighting.Placed.{Placed}
 use Rattle.tap_crossing.specs.Placed.{placed}
 use Rattle.tap_crossing.specs.Records.{is_same_kind}
 use Rattle.tap_crossing.specs.Told.{told}
-use Rattle.tap_lines.specs.Crossed.{Told, json_text, row_text}
+use Rattle.tap_sums.specs.Crossed.{Told, json_text, row_text}
 use Rattle.tap_following.specs.declared.followed.Followed.{Followed}
 use Rattle.tap_following.specs.declared.following.Form.{Form}
 use Rattle.tap_following.specs.declared.following.Form.TheVariants.{Json, Table, Sums}

@@ -7,8 +7,8 @@ ghost use Rattle.tap_following.specs.Written.{written};
 ghost use Rattle.tap_following.specs.Course.{Course, begun, name_at, followed_by, arrival_of, with_tap, after, ended, new_text, end_text};
 ghost use Rattle.tap_following.specs.SoFar.{followed_so_far, crossings_so_far, open_so_far, outcomes_so_far};
 ghost use Rattle.tap_sums.specs.Held.{AreSums};
-ghost use Rattle.tap_figures.specs.Figures.{AreFigures};
-ghost use Rattle.tap_figures.specs.Untold.{AreUntold};
+ghost use Rattle.tap_sums.specs.Figures.{AreFigures};
+ghost use Rattle.tap_sums.specs.Untold.{AreUntold};
 ghost use Rattle.tap_following.specs.Held.{IsFollower, IsKept, KeepsFor};
 
 use crate::followed::{Followed, requester};
@@ -20,8 +20,7 @@ use std::alloc::{AllocError, Global};
 use std::marker::Model;
 use tap_choice::{Choice, Met, Pair, Side, Sides, TapName, WantedTaps};
 use tap_crossing::{Filled, Kind, Watched};
-use tap_figures::{Figures, Untold};
-use tap_sums::Sums;
+use tap_sums::{Figures, Sums, Untold};
 
 /// How many messages are kept until it is known which are followed.
 const KEPT_MOST: u64 = 1024;

@@ -9,7 +9,7 @@ ghost use Rattle.tap_crossing.specs.StandsFor.{StandsFor};
 ghost use Rattle.tap_crossing.specs.declared.crossing.MessageOutcome.{MessageOutcome};
 ghost use Rattle.tap_crossing.specs.declared.sighting.Kind.TheVariants as kinds;
 ghost use Rattle.tap_crossing.specs.declared.sighting.Placed.{Placed};
-ghost use Rattle.tap_figures.specs.Untold.{AreUntold};
+ghost use Rattle.tap_sums.specs.Untold.{AreUntold};
 ghost use Rattle.tap_following.specs.Written.{text_as, text_at, told_of, outcome_of};
 ghost use Rattle.tap_following.specs.Held.{IsFollowing};
 ghost use Rattle.tap_following.specs.Inner.Learned.{learned};
@@ -23,9 +23,7 @@ use std::fmt::Write;
 use std::marker::Model;
 use tap_choice::Met;
 use tap_crossing::{Crossing, Filled, Kind, MessageOutcome, Record, Taps};
-use tap_figures::{Figures, Untold};
-use tap_lines::{Crossed, push_json, push_row};
-use tap_sums::Sums;
+use tap_sums::{Crossed, Figures, Sums, Untold, push_json, push_row};
 
 /// How many records of a kind count.
 const RECORDS_MOST: usize = 256;

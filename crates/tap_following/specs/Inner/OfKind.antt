@@ -1,7 +1,7 @@
 -- What is held of one kind.
 use Rattle.tap_crossing.specs.declared.sighting.Kind.{Kind}
 use Rattle.tap_crossing.specs.declared.sighting.Kind.TheVariants as kinds
-use Rattle.tap_figures.specs.declared.untold.Untold.{Untold}
+use Rattle.tap_sums.specs.declared.untold.Untold.{Untold}
 use Rattle.tap_following.specs.Held.{Held}
 
 -- of how many records of the kind nothing is told

@@ -5,8 +5,8 @@ use Rattle.std.specs.String.{string_bytes}
 use Rattle.tap_crossing.specs.declared.sighting.Kind.TheVariants as kinds
 use Rattle.tap_crossing.specs.declared.sighting.Placed.{Placed}
 use Rattle.tap_crossing.specs.StandsFor.{StandsAfter}
-use Rattle.tap_figures.specs.Figures.{AreFigures}
-use Rattle.tap_figures.specs.Untold.{AreUntold}
+use Rattle.tap_sums.specs.Figures.{AreFigures}
+use Rattle.tap_sums.specs.Untold.{AreUntold}
 use Rattle.tap_sums.specs.Held.{AreSums}
 use Rattle.tap_following.specs.Held.{Held, IsFollowing}
 use Rattle.tap_following.specs.Written.{records_most, placed_in, outcome_of, outcomes_in, crossing_in, crossings_in, text_as, told_of}

@@ -1,3 +1,0 @@
-mod Counted
-mod Kept
-mod Worked
