@@ -38,12 +38,12 @@ KNOWN = {
         "It names",
         "  crates/ptp_units/specs/Moment.antt: Stamp",
     ],
-    "tap_lines": [
-        "# `tap_lines`",
-        "What happened to messages between two taps as text: crossings as lines of JSON and as rows of a table\\.",
-        "A crossing is to be as `Taps::meet` tells it\\.",
+    "tap_sums": [
+        "# `tap_sums`",
+        "What happened to messages between two taps, as text and in sums: .*",
+        "Crossings are to be as `Taps::meet` tells them\\. .*",
         "\\| call \\| says \\| clauses \\|",
-        "\\| `tap_lines::push_json` \\| .*",
+        "\\| `tap_sums::push_json` \\| .*",
         "\\| definition \\| says \\|",
     ],
     "trace_model::Sound": [

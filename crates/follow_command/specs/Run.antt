@@ -15,14 +15,14 @@ use Rattle.datagram_source.specs.declared.input.InputOutcome.{InputOutcome}
 use Rattle.datagram_source.specs.declared.input.InputOutcome.TheVariants.{Lines, Capture}
 use Rattle.datagram_source.specs.Input.{OutcomeFailed}
 use Rattle.tap_choice.specs.declared.wanted.WantedTaps.{WantedTaps}
-use Rattle.tap_following.specs.declared.following.Form.{Form}
-use Rattle.tap_following.specs.declared.following.Form.TheVariants.{Json, Table, Sums}
+use Rattle.tap_follow.specs.declared.following.Form.{Form}
+use Rattle.tap_follow.specs.declared.following.Form.TheVariants.{Json, Table, Sums}
 use Rattle.tap_follow.specs.declared.fault.FollowFault.{FollowFault}
 use Rattle.tap_follow.specs.declared.fault.FollowFault.TheVariants.{Write, Field, Memory, ThirdTap}
 use Rattle.tap_crossing.specs.declared.crossing.Crossing.{Crossing}
 use Rattle.tap_choice.specs.Sides.{lacks_tap}
-use Rattle.tap_following.specs.Course.{Course}
-use Rattle.tap_following.specs.SoFar.{crossings_so_far}
+use Rattle.tap_follow.specs.Course.{Course}
+use Rattle.tap_follow.specs.SoFar.{crossings_so_far}
 use Rattle.tap_sums.specs.Sums.{is_beyond}
 use Rattle.tap_follow.specs.declared.summary.Summary.{Summary}
 use Rattle.tap_follow.specs.Fault.{is_write}

@@ -16,8 +16,7 @@ use ptp_units::ScaledTime;
 use std::alloc::Global;
 use std::io::{Read, Write};
 use tap_choice::{Sides, TapName, WantedTaps};
-use tap_follow::{FollowFault, Summary, follow};
-use tap_following::Form;
+use tap_follow::{FollowFault, Form, Summary, follow};
 use tap_sums::Sums;
 use text_lines::{Cause, Counted, Numbered, Stopped};
 

@@ -14,11 +14,11 @@ use Rattle.recording_model.specs.declared.watched.Watched.{Watched}
 use Rattle.recording_model.specs.Listening.{Listening}
 use Rattle.recording_model.specs.Recorded.{Recorded}
 use Rattle.recording_measure.specs.Made.{Measured}
-use Rattle.recording_quality.specs.declared.quality.Quality.{Quality}
-use Rattle.recording_quality.specs.Noted.{Noted, Reported}
-use Rattle.recording_quality.specs.declared.others.Others.{Others}
-use Rattle.recording_quality.specs.Others.{AreOthers}
-use Rattle.recording_quality.specs.Quality.{IsQuality}
+use Rattle.recording_summary.specs.declared.quality.Quality.{Quality}
+use Rattle.recording_summary.specs.Noted.{Noted, Reported}
+use Rattle.recording_summary.specs.declared.others.Others.{Others}
+use Rattle.recording_summary.specs.Others.{AreOthers}
+use Rattle.recording_summary.specs.Quality.{IsQuality}
 use Rattle.recording_measure.specs.declared.listener.Became.{Became}
 use Rattle.recording_measure.specs.declared.listener.Became.TheVariants as became
 use Rattle.recording_summary.specs.declared.counts.Counts.{Counts}

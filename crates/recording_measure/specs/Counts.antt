@@ -24,10 +24,10 @@ use Rattle.recording_model.specs.Recorded.{Recorded}
 use Rattle.recording_model.specs.Listening.{Listening, setup_in, table_capacity, is_of, answered, after_all}
 use Rattle.recording_measure.specs.Begins.{sync_begins}
 use Rattle.recording_measure.specs.Made.{Measured}
-use Rattle.recording_quality.specs.Noted.{Noted}
-use Rattle.recording_quality.specs.declared.others.Meeting.{Meeting}
-use Rattle.recording_quality.specs.Others.{AreOthers}
-use Rattle.recording_quality.specs.Quality.{IsQuality}
+use Rattle.recording_summary.specs.Noted.{Noted}
+use Rattle.recording_summary.specs.declared.others.Meeting.{Meeting}
+use Rattle.recording_summary.specs.Others.{AreOthers}
+use Rattle.recording_summary.specs.Quality.{IsQuality}
 use Rattle.recording_summary.specs.declared.counts.Counts.{Counts}
 use Rattle.recording_summary.specs.declared.kind.Kind.{Kind}
 use Rattle.recording_summary.specs.declared.kind.Kind.TheVariants as kinds

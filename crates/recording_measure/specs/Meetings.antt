@@ -3,11 +3,11 @@ use Rattle.std.specs.Prelude.{ℕ, Option, Some, None, option_map}
 use Rattle.event_codec.specs.declared.message.Body.{Body}
 use Rattle.event_codec.specs.declared.message.Body.TheVariants as bodies
 use Rattle.event_codec.specs.declared.message.Header.{Header}
-use Rattle.recording_quality.specs.declared.others.Meeting.{Meeting}
-use Rattle.recording_quality.specs.declared.others.MessageKind.{MessageKind}
-use Rattle.recording_quality.specs.declared.others.MessageKind.TheVariants.{Sync, FollowUp, DelayReq, DelayResp}
-use Rattle.recording_quality.specs.declared.others.Met.{Met}
-use Rattle.recording_quality.specs.declared.others.Met.TheVariants.{First, Repeat, Master, Slave, Domain}
+use Rattle.recording_summary.specs.declared.others.Meeting.{Meeting}
+use Rattle.recording_summary.specs.declared.others.MessageKind.{MessageKind}
+use Rattle.recording_summary.specs.declared.others.MessageKind.TheVariants.{Sync, FollowUp, DelayReq, DelayResp}
+use Rattle.recording_summary.specs.declared.others.Met.{Met}
+use Rattle.recording_summary.specs.declared.others.Met.TheVariants.{First, Repeat, Master, Slave, Domain}
 use Rattle.recording_summary.specs.declared.no_report.NoReport.{NoReport}
 use Rattle.recording_summary.specs.declared.no_report.NoReport.TheVariants as whys
 

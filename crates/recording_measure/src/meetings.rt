@@ -2,13 +2,12 @@
 
 ghost use Rattle.std.specs.Prelude.{◌≡◌, List};
 ghost use Rattle.std.specs.List.{cons_option};
-ghost use Rattle.recording_quality.specs.Others.{AreOthers};
+ghost use Rattle.recording_summary.specs.Others.{AreOthers};
 ghost use Rattle.recording_measure.specs.Meetings.{message_kind, met_as, met_by, meeting_at};
 
 use event_codec::{Body, Header, Message};
 use ptp_units::ScaledTime;
-use recording_quality::{Meeting, MessageKind, Met, Others};
-use recording_summary::NoReport;
+use recording_summary::{Meeting, MessageKind, Met, NoReport, Others};
 
 /// Which message it is.
 fn message_kind(body: &Body) -> MessageKind

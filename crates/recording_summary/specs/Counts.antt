@@ -1,7 +1,7 @@
 -- Where counts of datagrams that gave no report stand, and what one more makes of them.
 use Rattle.std.specs.Prelude.{◌≡◌, ℕ, ◌+◌, ◌-◌, ◌*◌, ◌^◌, min, [], replicate, slice_index, slice_set}
-use Rattle.recording_quality.specs.Others.{AreOthers}
-use Rattle.recording_quality.specs.Quality.{IsQuality}
+use Rattle.recording_summary.specs.Others.{AreOthers}
+use Rattle.recording_summary.specs.Quality.{IsQuality}
 use Rattle.recording_summary.specs.declared.counts.Counts.{Counts}
 use Rattle.recording_summary.specs.declared.kind.Kind.{Kind}
 use Rattle.recording_summary.specs.declared.kind.Kind.TheVariants as kinds

@@ -1,12 +1,12 @@
 //! What is told of the numbers of reports, and of what they are worth.
 
+use crate::beware_others::{doubt_others, doubt_repeats, doubt_turn};
 use crate::counts::Counts;
 use crate::kind::Kind;
 use crate::no_report::NoReport;
-use crate::others::{doubt_others, doubt_repeats, doubt_turn};
+use crate::quality::{Statistics, Times};
 use ptp_units::{Nanoseconds, ScaledTime};
-use recording_quality::{Point, Series, Spread, Statistics, Times};
-use rounded_series::{Signed, Thousandths, deviation, mean, slope};
+use statistics::{Point, Series, Signed, Spread, Thousandths, deviation, mean, slope};
 use std::fmt;
 use std::fmt::{Display, Formatter};
 use std::io::Write;

@@ -5,7 +5,8 @@ ghost use Rattle.recording_summary.specs.Counts.{place_of, count_at, AreNone, wi
 
 use crate::kind::{ALL_KINDS, KINDS, Kind};
 use crate::no_report::{ALL_REASONS, NoReport, REASONS};
-use recording_quality::{Others, Quality};
+use crate::others::Others;
+use crate::quality::Quality;
 use std::fmt;
 use std::fmt::{Display, Formatter};
 use std::io::Write;

@@ -1,17 +1,23 @@
-//! What is told of what was measured: whom the input is of, how many datagrams gave no report and why, and what speaks
-//! against the numbers.
+//! What is told of what was measured: whom the input is of, how many datagrams gave no report and why, who else is there, what reports,
+//! times and datagrams say of what the numbers are worth, and what speaks against them.
 #![tactic(auto)]
 
 mod beware;
+mod beware_others;
 mod callers;
 mod counts;
 mod kind;
 mod no_report;
 mod others;
+mod quality;
 mod whom;
 
 pub use callers::Callers;
 pub use counts::Counts;
 pub use kind::Kind;
 pub use no_report::NoReport;
+pub use others::{
+    Meeting, MessageKind, Met, Newcomer, Numbered, Others, Repeats, Sender, Senders, Turn,
+};
+pub use quality::{Quality, Statistics, Times};
 pub use whom::{Known, Whom};

@@ -1,138 +1,390 @@
-//! What is told of who else is there.
+//! Who else is there: other masters and slaves, other domains, a master that takes over, and messages that come twice.
 
-use datagram_text::Identity;
-use recording_quality::{Newcomer, Others, Repeats, Senders};
-use std::fmt;
-use std::fmt::{Display, Formatter};
-use std::io::Write;
+ghost use Rattle.std.specs.Prelude.{◌≡◌, List, [], ◌∷◌, ◌-◌, Option};
+ghost use Rattle.std.specs.List.{position};
+ghost use Rattle.std.specs.Option.{option_map_or};
+ghost use Rattle.recording_summary.specs.Others.{is_master_sync, newcomer_of, IsTurn, kept_of, lag_of, lesser_lag, greater_lag};
+ghost use Rattle.recording_summary.specs.Others.{AreRepeats, is_for, with_more, with_sender, nobody, other_master, other_slave};
+ghost use Rattle.recording_summary.specs.Others.{other_domain, AreDomains, AreOthers};
+ghost use Rattle.recording_summary.specs.Inner.Others.{with_kept};
 
-/// Units of 2^-16 ns in a nanosecond.
-const NANOSECOND: u128 = 65_536;
+use event_codec::PortIdentity;
+use ptp_units::{ScaledTime, Seq};
 
-/// How many domains are named.
-const NAMED_MOST: usize = 8;
+/// How many senders are listed by themselves.
+const LISTED_MOST: usize = 8;
 
-/// Ports, each with how many messages it sent.
-#[derive(Clone, Copy)]
-struct Listed<'a>(&'a Senders);
+/// How many domains there can be.
+const DOMAINS: usize = 256;
 
-impl Display for Listed<'_> {
-    fn fmt<W: fmt::Write>(&self, f: &mut Formatter<W>) -> fmt::Result {
-        let Senders { listed, rest } = self.0;
-        for (place, sender) in listed.iter().enumerate() {
-            if let Some(sender) = sender {
-                let comma = if place > 0 { ", " } else { "" };
-                write!(f, "{comma}{} of {}", sender.count, Identity(&sender.port))?;
-            }
-        }
-        if *rest > 0 {
-            write!(f, ", {rest} of further ones")?;
-        }
-        Ok(())
+/// Which message of the mechanism one is (IEEE 1588-2019, table 36).
+#[derive(Clone, Copy, Debug, PartialEq, Eq)]
+pub enum MessageKind {
+    /// A Sync.
+    Sync,
+    /// A Follow_Up.
+    FollowUp,
+    /// A Delay_Req.
+    DelayReq,
+    /// A Delay_Resp.
+    DelayResp,
+}
+
+/// Of whom a message is.
+#[derive(Clone, Copy, Debug, PartialEq, Eq)]
+pub enum Met {
+    /// It is of the master and the slave that are watched, and the first with its number.
+    First(MessageKind, Seq),
+    /// It is of these, and its number came before.
+    Repeat(MessageKind, Seq),
+    /// It is of another master of the domain.
+    Master(MessageKind, PortIdentity),
+    /// It is a Delay_Req of another slave of the domain.
+    Slave(PortIdentity),
+    /// It is of another domain.
+    Domain(u8),
+}
+
+/// A message that says who is there.
+#[derive(Clone, Copy, Debug, PartialEq, Eq)]
+pub struct Meeting {
+    /// The number of its line.
+    pub line: u64,
+    /// The time of its line.
+    pub time: ScaledTime,
+    /// Of whom it is.
+    pub met: Met,
+}
+
+/// A port, and how many messages it sent. The count stays at 2^64 - 1.
+#[derive(Clone, Copy, Debug, PartialEq, Eq)]
+pub struct Sender {
+    /// Its portIdentity.
+    pub port: PortIdentity,
+    /// How many.
+    pub count: u64,
+}
+
+/// The first eight ports that sent messages, in this order, and how many messages all others sent. Each count stays at 2^64 - 1.
+#[derive(Clone, Copy, Debug, PartialEq, Eq)]
+pub struct Senders {
+    /// The first eight.
+    pub listed: [Option<Sender>; LISTED_MOST],
+    /// How many messages are of others.
+    pub rest: u64,
+}
+
+/// The first Sync of another master since the last one of the master.
+#[derive(Clone, Copy, Debug, PartialEq, Eq)]
+pub struct Newcomer {
+    /// The other master.
+    pub port: PortIdentity,
+    /// The line of its Sync.
+    pub line: u64,
+    /// The time of that line.
+    pub time: ScaledTime,
+}
+
+/// Until when the master sends Syncs, and who does from then on.
+#[derive(Clone, Copy, Debug, PartialEq, Eq)]
+pub struct Turn {
+    /// The time of its last Sync.
+    pub last: Option<ScaledTime>,
+    /// Who sent a Sync since then.
+    pub newcomer: Option<Newcomer>,
+}
+
+/// The number of a message, and its time.
+#[derive(Clone, Copy, Debug, PartialEq, Eq)]
+pub struct Numbered {
+    /// Its sequenceId.
+    pub number: Seq,
+    /// The time of its line.
+    pub time: ScaledTime,
+}
+
+/// How much later messages came that repeat the last number of their kind, in 2^-16 ns; 0 where the time is before that of the first.
+#[derive(Clone, Copy, Debug, PartialEq, Eq)]
+pub struct Repeats {
+    /// The last Sync that is the first of its number.
+    pub sync: Option<Numbered>,
+    /// The same of Follow_Ups.
+    pub follow_up: Option<Numbered>,
+    /// The same of Delay_Reqs.
+    pub request: Option<Numbered>,
+    /// The same of Delay_Resps.
+    pub response: Option<Numbered>,
+    /// The least.
+    pub least: Option<u128>,
+    /// The greatest.
+    pub greatest: Option<u128>,
+}
+
+/// Who else is there.
+#[derive(Clone, Copy, Debug, PartialEq, Eq)]
+pub struct Others {
+    /// Other masters of the domain, by their Syncs, Follow_Ups and Delay_Resps.
+    pub masters: Senders,
+    /// Other slaves of the domain, by their Delay_Reqs.
+    pub slaves: Senders,
+    /// How many messages are of each other domain. Each count stays at 2^64 - 1.
+    pub domains: [u64; DOMAINS],
+    /// Until when the master sends.
+    pub turn: Turn,
+    /// What came twice.
+    pub repeats: Repeats,
+}
+
+/// Whether this is a Sync of the master that is watched.
+fn is_master_sync(met: Met) -> bool
+    ensures { result ≡ is_master_sync met }
+{
+    matches!(
+        met,
+        Met::First(MessageKind::Sync, _) | Met::Repeat(MessageKind::Sync, _)
+    )
+}
+
+/// Who comes by a Sync, if it is of another master.
+fn newcomer_of(meeting: &Meeting) -> Option<Newcomer>
+    ensures { result ≡ newcomer_of meeting.now }
+{
+    let Meeting { line, time, met } = *meeting;
+    match met {
+        Met::Master(MessageKind::Sync, port) => Some(Newcomer { port, line, time }),
+        _ => None,
     }
 }
 
-/// Domains, each with how many messages are of it: the lowest, and all others together.
-#[derive(Clone, Copy)]
-struct Domains<'a>(&'a [u64; 256]);
-
-impl Display for Domains<'_> {
-    fn fmt<W: fmt::Write>(&self, f: &mut Formatter<W>) -> fmt::Result {
-        let mut named = 0;
-        let mut rest: u64 = 0;
-        for (domain, count) in self.0.iter().enumerate() {
-            if *count > 0 {
-                if named < NAMED_MOST {
-                    let comma = if named > 0 { ", " } else { "" };
-                    write!(f, "{comma}{count} of domain {domain}")?;
-                    named += 1;
-                } else {
-                    rest = rest.saturating_add(*count);
-                }
-            }
-        }
-        if rest > 0 {
-            write!(f, ", {rest} of further ones")?;
-        }
-        Ok(())
+/// The other master of whom a message is.
+fn other_master(meeting: &Meeting) -> Option<PortIdentity>
+    ensures { result ≡ other_master meeting.now }
+{
+    match meeting.met {
+        Met::Master(_, port) => Some(port),
+        _ => None,
     }
 }
 
-/// How much later messages came that repeat others, where that is known.
-#[derive(Clone, Copy)]
-struct Lags<'a>(&'a Repeats);
+/// The other slave of whom a message is.
+fn other_slave(meeting: &Meeting) -> Option<PortIdentity>
+    ensures { result ≡ other_slave meeting.now }
+{
+    match meeting.met {
+        Met::Slave(port) => Some(port),
+        _ => None,
+    }
+}
 
-impl Display for Lags<'_> {
-    fn fmt<W: fmt::Write>(&self, f: &mut Formatter<W>) -> fmt::Result {
-        let (Some(least), Some(greatest)) = (self.0.least, self.0.greatest) else {
-            return Ok(());
+/// The other domain of which a message is.
+fn other_domain(meeting: &Meeting) -> Option<u8>
+    ensures { result ≡ other_domain meeting.now }
+{
+    match meeting.met {
+        Met::Domain(domain) => Some(domain),
+        _ => None,
+    }
+}
+
+/// The lesser of two lags.
+fn lesser_lag(lag: Option<u128>, least: Option<u128>) -> Option<u128>
+    ensures { result ≡ lesser_lag lag least }
+{
+    match (lag, least) {
+        (Some(lag), Some(least)) => Some(lag.min(least)),
+        (Some(lag), None) => Some(lag),
+        (None, least) => least,
+    }
+}
+
+/// The greater of two lags.
+fn greater_lag(lag: Option<u128>, greatest: Option<u128>) -> Option<u128>
+    ensures { result ≡ greater_lag lag greatest }
+{
+    match (lag, greatest) {
+        (Some(lag), Some(greatest)) => Some(lag.max(greatest)),
+        (Some(lag), None) => Some(lag),
+        (None, greatest) => greatest,
+    }
+}
+
+/// Whether this place is free, or that of a port.
+fn is_for(port: PortIdentity, place: &Option<Sender>) -> bool
+    ensures { result ≡ is_for port place.now }
+{
+    match place {
+        Some(sender) => sender.port == port,
+        None => true,
+    }
+}
+
+/// A port with one message more.
+fn with_more(port: PortIdentity, place: Option<Sender>) -> Sender
+    ensures { result ≡ with_more port place }
+{
+    match place {
+        Some(sender) => Sender {
+            port: sender.port,
+            count: sender.count.saturating_add(1),
+        },
+        None => Sender { port, count: 1 },
+    }
+}
+
+impl Senders {
+    /// No message came.
+    fn new() -> Senders
+        ensures { result ≡ nobody }
+    {
+        Senders {
+            listed: [None; LISTED_MOST],
+            rest: 0,
+        }
+    }
+
+    /// The first place that is free or that of a port.
+    fn place_of(&self, port: PortIdentity) -> Option<usize>
+        ensures { result ≡ position (is_for port) self.now.listed }
+    {
+        self.listed.iter().position(|place| is_for(port, place))
+    }
+
+    /// Takes a message of a port.
+    fn take(&mut self, port: PortIdentity)
+        ensures { self.new ≡ with_sender port self.old }
+    {
+        match self.place_of(port) {
+            Some(place) => self.listed[place] = Some(with_more(port, self.listed[place])),
+            None => self.rest = self.rest.saturating_add(1),
+        }
+    }
+
+    /// Takes a message of a port, if it is of one.
+    fn take_some(&mut self, port: Option<PortIdentity>)
+        ensures { self.new ≡ option_map_or (λ port. with_sender port self.old) port self.old }
+    {
+        if let Some(port) = port {
+            self.take(port);
+        }
+    }
+}
+
+impl Turn {
+    /// Takes a message.
+    fn take(&mut self, meeting: &Meeting)
+        ensures { (earlier : List Meeting) → IsTurn earlier self.old → IsTurn (meeting.now ∷ earlier) self.new }
+    {
+        if is_master_sync(meeting.met) {
+            *self = Turn {
+                last: Some(meeting.time),
+                newcomer: None,
+            };
+        } else {
+            self.newcomer = self.newcomer.or(newcomer_of(meeting));
+        }
+    }
+}
+
+impl Repeats {
+    /// The last of a kind that is the first of its number.
+    fn last(&self, kind: MessageKind) -> Option<Numbered>
+        ensures { result ≡ kept_of kind self.now }
+    {
+        match kind {
+            MessageKind::Sync => self.sync,
+            MessageKind::FollowUp => self.follow_up,
+            MessageKind::DelayReq => self.request,
+            MessageKind::DelayResp => self.response,
+        }
+    }
+
+    /// How much later a message came than the first of its number, where it repeats the last of its kind.
+    fn lag(&self, meeting: &Meeting) -> Option<u128>
+        ensures { result ≡ lag_of meeting.now (λ kind. kept_of kind self.now) }
+    {
+        let Met::Repeat(kind, number) = meeting.met else {
+            return None;
         };
-        write!(
-            f,
-            ", from {} to {} ns after the first",
-            least / NANOSECOND,
-            greatest / NANOSECOND
-        )
+        let first = self.last(kind)?;
+        if first.number == number {
+            Some(meeting.time.value().saturating_sub(first.time.value()))
+        } else {
+            None
+        }
+    }
+
+    /// Keeps a message, where it is the first of its number.
+    fn keep(&mut self, meeting: &Meeting)
+        ensures { self.new ≡ with_kept meeting.now self.old }
+    {
+        let Met::First(kind, number) = meeting.met else {
+            return;
+        };
+        let time = meeting.time;
+        let first = Some(Numbered { number, time });
+        match kind {
+            MessageKind::Sync => self.sync = first,
+            MessageKind::FollowUp => self.follow_up = first,
+            MessageKind::DelayReq => self.request = first,
+            MessageKind::DelayResp => self.response = first,
+        }
+    }
+
+    /// Takes a message.
+    fn take(&mut self, meeting: &Meeting)
+        ensures { (earlier : List Meeting) → AreRepeats earlier self.old → AreRepeats (meeting.now ∷ earlier) self.new }
+    {
+        let lag = self.lag(meeting);
+        self.least = lesser_lag(lag, self.least);
+        self.greatest = greater_lag(lag, self.greatest);
+        self.keep(meeting);
     }
 }
 
-/// Tells how many messages have a number that came before, if any. What can't be written is lost.
-pub(crate) fn doubt_repeats<E: Write>(count: u64, repeats: &Repeats, errors: &mut E) {
-    if count > 0 {
-        let _ = writeln!(
-            errors,
-            "ptpx: beware: messages with a number that came before: {count}{}; a mirror of both directions writes each twice, and the \
-             first of each was used",
-            Lags(repeats)
-        );
+/// Counts a message of another domain, if it is of one.
+fn count_domain(domains: &mut [u64; DOMAINS], domain: Option<u8>)
+    ensures { (earlier : List Meeting) (meeting : Meeting) → domain ≡ other_domain meeting
+        → AreDomains earlier domains.old → AreDomains (meeting ∷ earlier) domains.new }
+{
+    if let Some(domain) = domain {
+        let place = usize::from(domain);
+        domains[place] = domains[place].saturating_add(1);
     }
 }
 
-/// Tells that the Syncs of the master end so many tenths of a second before the recording does, and whose begin then. What can't be
-/// written is lost.
-pub(crate) fn doubt_turn<E: Write>(
-    tenths: u128,
-    newcomer: Option<Newcomer>,
-    unit: &'static str,
-    errors: &mut E,
-) {
-    let (seconds, tenths) = (tenths / 10, tenths % 10);
-    let _ = match newcomer {
-        Some(Newcomer { port, line, .. }) => writeln!(
-            errors,
-            "ptpx: beware: the Syncs of the master end {seconds}.{tenths} s before the recording does, and those of {} begin at {unit} \
-             {line}; --master {} measures by them",
-            Identity(&port),
-            Identity(&port)
-        ),
-        None => writeln!(
-            errors,
-            "ptpx: beware: the Syncs of the master end {seconds}.{tenths} s before the recording does: it went away"
-        ),
-    };
-}
+impl Others {
+    /// Nobody else was met yet.
+    pub fn new() -> Others
+        ensures { AreOthers [] result }
+    {
+        Others {
+            masters: Senders::new(),
+            slaves: Senders::new(),
+            domains: [0; DOMAINS],
+            turn: Turn {
+                last: None,
+                newcomer: None,
+            },
+            repeats: Repeats {
+                sync: None,
+                follow_up: None,
+                request: None,
+                response: None,
+                least: None,
+                greatest: None,
+            },
+        }
+    }
 
-/// Tells who else is there, by their messages, if anybody is. What can't be written is lost.
-pub(crate) fn doubt_others<E: Write>(others: &Others, errors: &mut E) {
-    if others.masters.listed[0].is_some() {
-        let _ = writeln!(
-            errors,
-            "ptpx: beware: messages of other masters of the domain: {}; --master picks one",
-            Listed(&others.masters)
-        );
-    }
-    if others.slaves.listed[0].is_some() {
-        let _ = writeln!(
-            errors,
-            "ptpx: beware: Delay_Reqs of other slaves of the domain: {}; --slave picks one",
-            Listed(&others.slaves)
-        );
-    }
-    if others.domains.iter().any(|count| *count > 0) {
-        let _ = writeln!(
-            errors,
-            "ptpx: beware: messages of other domains: {}; --domain picks one",
-            Domains(&others.domains)
-        );
+    /// Takes a message of the recording: who else it says is there, until when the master sends, and what
+    /// came twice.
+    pub fn take(&mut self, meeting: &Meeting)
+        ensures { (earlier : List Meeting) → AreOthers earlier self.old → AreOthers (meeting.now ∷ earlier) self.new }
+    {
+        self.masters.take_some(other_master(meeting));
+        self.slaves.take_some(other_slave(meeting));
+        count_domain(&mut self.domains, other_domain(meeting));
+        self.turn.take(meeting);
+        self.repeats.take(meeting);
     }
 }

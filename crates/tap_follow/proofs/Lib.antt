@@ -1,3 +1,8 @@
+mod Reversed
+mod Courses
+mod Coming
+mod SoFar
+mod Worked
 mod Takings
 mod TapNames
 mod OneCourse

@@ -8,9 +8,9 @@ use Rattle.text_lines.specs.declared.fault.ReadingFault.TheVariants.{Read, LineT
 use Rattle.text_lines.specs.declared.fault.Stopped.{Stopped}
 use Rattle.text_lines.proofs.OneAnswer as sole
 use Rattle.tap_choice.specs.declared.met.Met.{Met}
-use Rattle.tap_following.specs.declared.follower.Arrival.{Arrival}
-use Rattle.tap_following.specs.declared.follower.Arrival.TheVariants as arrivals
-use Rattle.tap_following.specs.Course.{Course, arrival_of, begun}
+use Rattle.tap_follow.specs.declared.follower.Arrival.{Arrival}
+use Rattle.tap_follow.specs.declared.follower.Arrival.TheVariants as arrivals
+use Rattle.tap_follow.specs.Course.{Course, arrival_of, begun}
 use Rattle.tap_follow.specs.declared.fault.FollowFault.{FollowFault}
 use Rattle.tap_follow.specs.declared.fault.FollowFault.TheVariants.{Write, Field, Memory, ThirdTap}
 use Rattle.datagram_source.specs.Datagram.{PlaceOf, Line, DatagramOf, IsTapDatagram}

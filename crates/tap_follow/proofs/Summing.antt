@@ -3,8 +3,8 @@ use Rattle.std.proofs.Common.{◌≡◌, ◌∙◌, ℕ, List, [], ◌++◌, Opt
 use Rattle.std.specs.Prelude.{MatchResult}
 use Rattle.std.specs.Io.KnownBytes.{Appends}
 use Rattle.text_lines.specs.declared.writing.WriteFailed.{WriteFailed}
-use Rattle.tap_following.specs.Course.{Course}
-use Rattle.tap_following.specs.SoFar.{crossings_so_far}
+use Rattle.tap_follow.specs.Course.{Course}
+use Rattle.tap_follow.specs.SoFar.{crossings_so_far}
 use Rattle.tap_sums.specs.Text.{sums_text}
 use Rattle.tap_follow.specs.declared.fault.FollowFault.{FollowFault}
 use Rattle.tap_follow.specs.declared.fault.FollowFault.TheVariants.{Write, Field, Memory, ThirdTap}

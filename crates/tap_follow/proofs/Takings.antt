@@ -14,10 +14,10 @@ use Rattle.tap_choice.specs.declared.met.Side.{Side}
 use Rattle.tap_choice.specs.declared.met.Side.TheVariants as taps
 use Rattle.tap_choice.specs.declared.sides.Sides.{Sides}
 use Rattle.tap_choice.specs.Sides.{is_named, side_of, sides_after, both_named}
-use Rattle.tap_following.specs.declared.follower.Arrival.{Arrival}
-use Rattle.tap_following.specs.declared.follower.Arrival.TheVariants as arrivals
-use Rattle.tap_following.specs.Course.{Course, arrival_as, arrival_of, with_tap, after, new_text}
-use Rattle.tap_following.specs.Held.{Holding, IsFollower}
+use Rattle.tap_follow.specs.declared.follower.Arrival.{Arrival}
+use Rattle.tap_follow.specs.declared.follower.Arrival.TheVariants as arrivals
+use Rattle.tap_follow.specs.Course.{Course, arrival_as, arrival_of, with_tap, after, new_text}
+use Rattle.tap_follow.specs.Held.{Holding, IsFollower}
 use Rattle.tap_follow.specs.declared.fault.FollowFault.{FollowFault}
 use Rattle.tap_follow.specs.declared.fault.FollowFault.TheVariants.{Write, Field, Memory, ThirdTap}
 use Rattle.tap_follow.specs.Datagram.{met_in, IsTapAt}

@@ -1,2 +1,4 @@
 pub mod Number
 pub mod Taking
+pub mod Learned
+pub mod OfKind

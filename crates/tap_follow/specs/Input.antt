@@ -6,10 +6,10 @@ use Rattle.text_lines.specs.declared.fault.Stopped.{Stopped}
 use Rattle.datagram_source.specs.declared.input.InputOutcome.{InputOutcome}
 use Rattle.datagram_source.specs.Input.{AnswersLines, AnswersInput}
 use Rattle.tap_choice.specs.declared.wanted.WantedTaps.{WantedTaps}
-use Rattle.tap_following.specs.declared.following.Form.{Form}
-use Rattle.tap_following.specs.declared.following.Form.TheVariants.{Json, Table, Sums}
-use Rattle.tap_following.specs.Course.{begun}
-use Rattle.tap_lines.specs.Crossed.{table_head}
+use Rattle.tap_follow.specs.declared.following.Form.{Form}
+use Rattle.tap_follow.specs.declared.following.Form.TheVariants.{Json, Table, Sums}
+use Rattle.tap_follow.specs.Course.{begun}
+use Rattle.tap_sums.specs.Crossed.{table_head}
 use Rattle.tap_follow.specs.declared.fault.FollowFault.{FollowFault}
 use Rattle.tap_follow.specs.Rules.{follow_rules}
 

@@ -1,3 +1,8 @@
+pub mod Followed
+pub mod Written
+pub mod Course
+pub mod SoFar
+pub mod Held
 pub mod Fault
 pub mod Datagram
 pub mod Rules

@@ -6,7 +6,7 @@ use Rattle.text_lines.specs.declared.fault.Cause.TheVariants.{Reading, Task}
 use Rattle.text_lines.specs.declared.fault.ReadingFault.TheVariants.{Read, LineTooLong, TooManyLines}
 use Rattle.text_lines.specs.declared.fault.Stopped.{Stopped}
 use Rattle.tap_choice.specs.declared.wanted.WantedTaps.{WantedTaps}
-use Rattle.tap_following.specs.declared.following.Form.{Form}
+use Rattle.tap_follow.specs.declared.following.Form.{Form}
 use Rattle.tap_follow.specs.declared.fault.FollowFault.{FollowFault}
 use Rattle.tap_follow.specs.declared.fault.FollowFault.TheVariants.{Write, Field, Memory, ThirdTap}
 use Rattle.tap_follow.specs.Input.{FollowsLines}

@@ -5,9 +5,9 @@ use Rattle.datagram_source.specs.Datagram.{Line, DatagramOf}
 use Rattle.datagram_source.specs.Rules.{DatagramRules}
 use Rattle.tap_choice.specs.declared.met.Met.{Met}
 use Rattle.tap_choice.specs.declared.met.Side.{Side}
-use Rattle.tap_following.specs.declared.follower.Arrival.{Arrival}
-use Rattle.tap_following.specs.declared.follower.Arrival.TheVariants as arrivals
-use Rattle.tap_following.specs.Course.{Course, arrival_of, with_tap, after, ended, new_text, end_text}
+use Rattle.tap_follow.specs.declared.follower.Arrival.{Arrival}
+use Rattle.tap_follow.specs.declared.follower.Arrival.TheVariants as arrivals
+use Rattle.tap_follow.specs.Course.{Course, arrival_of, with_tap, after, ended, new_text, end_text}
 use Rattle.tap_follow.specs.declared.fault.FollowFault.{FollowFault}
 use Rattle.tap_follow.specs.declared.fault.FollowFault.TheVariants.{Write, Field, Memory, ThirdTap}
 use Rattle.tap_follow.specs.Datagram.{met_in, IsTapAt}

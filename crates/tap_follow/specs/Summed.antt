@@ -1,8 +1,8 @@
 -- The sums over the crossings of an input, as they are written.
 use Rattle.std.specs.Prelude.{◌≡◌, ℕ, ⊤, List, Option, Result, MatchResult}
 use Rattle.std.specs.Io.KnownBytes.{Appends}
-use Rattle.tap_following.specs.Course.{Course}
-use Rattle.tap_following.specs.SoFar.{crossings_so_far}
+use Rattle.tap_follow.specs.Course.{Course}
+use Rattle.tap_follow.specs.SoFar.{crossings_so_far}
 use Rattle.tap_sums.specs.Text.{sums_text}
 use Rattle.tap_follow.specs.declared.fault.FollowFault.{FollowFault}
 use Rattle.tap_follow.specs.declared.fault.FollowFault.TheVariants.{Write, Field, Memory, ThirdTap}

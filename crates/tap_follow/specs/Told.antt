@@ -4,9 +4,9 @@ use Rattle.std.specs.Prelude.{ℕ, List}
 use Rattle.datagram_source.specs.declared.input.InputOutcome.{InputOutcome}
 use Rattle.datagram_source.specs.Left.{LeavesInput}
 use Rattle.tap_choice.specs.declared.wanted.WantedTaps.{WantedTaps}
-use Rattle.tap_following.specs.declared.following.Form.{Form}
-use Rattle.tap_following.specs.Course.{Course, begun}
-use Rattle.tap_following.specs.Held.{Holding, IsFollower}
+use Rattle.tap_follow.specs.declared.following.Form.{Form}
+use Rattle.tap_follow.specs.Course.{Course, begun}
+use Rattle.tap_follow.specs.Held.{Holding, IsFollower}
 use Rattle.tap_follow.specs.declared.fault.FollowFault.{FollowFault}
 use Rattle.tap_follow.specs.declared.summary.Summary.{Summary}
 use Rattle.tap_follow.specs.Rules.{follow_rules}

@@ -1,12 +1,11 @@
 //! What crossings come to, for people.
 
-use rounded_series::{Thousandths, slope};
+use statistics::{RECENT_MOST, Thousandths, slope};
 use std::fmt;
 use std::fmt::{Display, Formatter};
 use std::io::Write;
 use tap_crossing::Kind;
-use tap_figures::{Changed, Figures, RECENT_MOST};
-use tap_sums::{Quantity, Spread, Statistics, Sums};
+use tap_sums::{Changed, Figures, Quantity, Spread, Statistics, Sums};
 
 /// Halves of 2^-16 ns of a nanosecond.
 const NANOSECOND: u128 = 131_072;

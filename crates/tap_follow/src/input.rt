@@ -8,14 +8,14 @@ ghost use Rattle.tap_follow.specs.Input.{FollowsInput, head_text};
 ghost use Rattle.tap_follow.specs.Told.{TellsInput};
 
 use crate::fault::FollowFault;
+use crate::following::Form;
 use crate::summary::Summary;
 use crate::task::Taking;
 use datagram_source::{InputOutcome, answer_datagrams};
 use std::alloc::Global;
 use std::io::{Read, Write};
 use tap_choice::WantedTaps;
-use tap_following::Form;
-use tap_lines::table_head;
+use tap_sums::table_head;
 use text_lines::Counted;
 
 /// Follows messages between two taps, and writes each crossing when its record closes. `answer_datagrams` says which inputs there are, and

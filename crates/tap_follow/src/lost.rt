@@ -3,7 +3,7 @@
 use crate::summary::Summary;
 use std::io::Write;
 use tap_crossing::{Filled, Kind};
-use tap_figures::Untold;
+use tap_sums::Untold;
 
 /// The words for event messages of a kind: one, more, and the message that belongs to one.
 fn words(kind: Kind) -> (&'static str, &'static str, &'static str) {

@@ -1,17 +1,19 @@
 //! What is told of an input beside its crossings.
 ghost use Rattle.std.specs.Prelude.{◌≡◌, MatchResult};
 ghost use Rattle.text_lines.specs.Counted.{device_of, HasNotFailed, HasFailedIf};
-ghost use Rattle.tap_figures.specs.Untold.{AreUntold};
+ghost use Rattle.tap_sums.specs.Untold.{AreUntold};
 ghost use Rattle.tap_sums.specs.Held.{AreSums};
 ghost use Rattle.tap_choice.specs.Sides.{lacks_tap};
-ghost use Rattle.tap_following.specs.Course.{Course};
-ghost use Rattle.tap_following.specs.SoFar.{followed_so_far, crossings_so_far, open_so_far, outcomes_so_far};
+ghost use Rattle.tap_follow.specs.Course.{Course};
+ghost use Rattle.tap_follow.specs.SoFar.{followed_so_far, crossings_so_far, open_so_far, outcomes_so_far};
 ghost use Rattle.tap_follow.specs.Told.{IsSummaryOf, kept_in};
 ghost use Rattle.tap_follow.specs.Fault.{is_write};
 ghost use Rattle.tap_follow.specs.Summed.{WritesSums};
 
 use crate::fault::FollowFault;
 use crate::figures::tell_figures;
+use crate::followed::Followed;
+use crate::follower::Follower;
 use crate::lost::{tell_lost, tell_untold};
 use crate::task::Taking;
 use crate::told::Told;
@@ -20,9 +22,7 @@ use std::alloc::Global;
 use std::io::Write;
 use tap_choice::Sides;
 use tap_crossing::{Filled, Kind};
-use tap_figures::Untold;
-use tap_following::{Followed, Follower};
-use tap_sums::{Sums, push_sums};
+use tap_sums::{Sums, Untold, push_sums};
 use text_lines::{Counted, write_text};
 
 /// What is told of an input beside its crossings.

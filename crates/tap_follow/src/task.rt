@@ -4,14 +4,16 @@ ghost use Rattle.std.specs.String.{string_bytes};
 ghost use Rattle.std.specs.Io.KnownBytes.{Appends};
 ghost use Rattle.text_lines.specs.Counted.{device_of, HasNotFailed, HasFailedIf};
 ghost use Rattle.datagram_source.specs.Datagram.{datagram_of};
-ghost use Rattle.tap_following.specs.Course.{Course, begun};
-ghost use Rattle.tap_following.specs.Held.{IsFollower};
+ghost use Rattle.tap_follow.specs.Course.{Course, begun};
+ghost use Rattle.tap_follow.specs.Held.{IsFollower};
 ghost use Rattle.tap_follow.specs.Datagram.{met_in};
 ghost use Rattle.tap_follow.specs.Fault.{is_write};
 ghost use Rattle.tap_follow.specs.Rules.{follow_rules};
 ghost use Rattle.tap_follow.specs.Inner.Taking.{ChangesAs};
 
 use crate::fault::FollowFault;
+use crate::follower::{Arrival, Follower};
+use crate::following::Form;
 use crate::tap::tap_met;
 use crate::told::Told;
 use capture_file::InterfaceName;
@@ -19,7 +21,6 @@ use datagram_source::{Datagram, DatagramTask, LineForm};
 use std::alloc::Global;
 use std::io::Write;
 use tap_choice::{Met, Side, WantedTaps};
-use tap_following::{Arrival, Follower, Form};
 use text_lines::{Counted, LineFault, write_text};
 
 /// Follows the messages of datagrams, and tells whose these are.

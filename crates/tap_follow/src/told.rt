@@ -1,9 +1,9 @@
 //! Whose messages are followed, told as soon as that is known, and at which taps something was met.
 
+use crate::follower::Follower;
 use datagram_text::Identity;
 use std::io::Write;
 use tap_choice::TapName;
-use tap_following::Follower;
 
 /// How many taps are named.
 const NAMED_MOST: usize = 8;

@@ -8,9 +8,9 @@ use Rattle.tap_choice.specs.declared.met.Side.{Side}
 use Rattle.tap_choice.specs.declared.sides.Sides.{Sides}
 use Rattle.tap_choice.specs.declared.wanted.WantedTaps.{WantedTaps}
 use Rattle.tap_choice.specs.Known.{Known, noticed, pair_of, other_side}
-use Rattle.tap_following.specs.declared.followed.Followed.{Followed}
-use Rattle.tap_following.specs.Followed.{slave_in}
-use Rattle.tap_following.specs.Course.{Course, after_as, ended_as, first_followed, kept_most, followed_by, followed_with, name_at, syncs_most}
+use Rattle.tap_follow.specs.declared.followed.Followed.{Followed}
+use Rattle.tap_follow.specs.Followed.{slave_in}
+use Rattle.tap_follow.specs.Course.{Course, after_as, ended_as, first_followed, kept_most, followed_by, followed_with, name_at, syncs_most}
 use Rattle.tap_laws.specs.InCourse.{IsByChoice, EachCourseIsByChoice}
 
 with_from : (enough : Bool) (slave : Option PortIdentity) (pair : Pair) (from_name to_name : List ℕ) (f : Followed)

@@ -21,8 +21,8 @@ use Rattle.tap_crossing.specs.Crossing.{crossing, no_crossing}
 use Rattle.tap_crossing.specs.Record.{place_in, with_place, complete, after}
 use Rattle.tap_crossing.specs.Records.{unclosed, with, new_record, joined, open_record, is_same_kind, records}
 use Rattle.tap_crossing.specs.Told.{crossed_unless, closes_or_waits, comes_to, told}
-use Rattle.tap_following.specs.declared.followed.Followed.{Followed}
-use Rattle.tap_following.specs.Written.{records_most, placed_at, placed_in, crossing_in, crossings_in}
+use Rattle.tap_follow.specs.declared.followed.Followed.{Followed}
+use Rattle.tap_follow.specs.Written.{records_most, placed_at, placed_in, crossing_in, crossings_in}
 use Rattle.tap_laws.specs.Sound.{crossings_of, TheseAreTold, WasMet, EachWasMet, IsOneOf, IsMadeOf, EachCrossingIsMade}
 
 pub these_told : TheseAreTold

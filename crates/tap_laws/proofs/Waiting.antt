@@ -23,7 +23,7 @@ use Rattle.tap_crossing.specs.Crossing.{crossing, no_crossing}
 use Rattle.tap_crossing.specs.Record.{no_places, place_in, with_place, needed, complete, closed_or_open, after}
 use Rattle.tap_crossing.specs.Records.{unclosed, with, new_record, joined, open_record, is_same_kind, records}
 use Rattle.tap_crossing.specs.Told.{crossed_unless, closes_or_waits, comes_to, told}
-use Rattle.tap_following.specs.Written.{crossing_in}
+use Rattle.tap_follow.specs.Written.{crossing_in}
 use Rattle.tap_laws.specs.Sound.{crossings_of}
 use Rattle.tap_laws.specs.Complete.{is_of, met_of, AreSingle, is_free, opened_by, EachCompleteIsTold}
 

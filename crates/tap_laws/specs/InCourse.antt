@@ -3,9 +3,9 @@
 use Rattle.std.specs.Prelude.{◌≡◌, ℕ, List, Some}
 use Rattle.tap_choice.specs.declared.met.Met.{Met}
 use Rattle.tap_choice.specs.declared.wanted.WantedTaps.{WantedTaps}
-use Rattle.tap_following.specs.declared.followed.Followed.{Followed}
-use Rattle.tap_following.specs.declared.following.Form.{Form}
-use Rattle.tap_following.specs.Course.{Course, begun, with_tap, after, ended, syncs_most}
+use Rattle.tap_follow.specs.declared.followed.Followed.{Followed}
+use Rattle.tap_follow.specs.declared.following.Form.{Form}
+use Rattle.tap_follow.specs.Course.{Course, begun, with_tap, after, ended, syncs_most}
 use Rattle.tap_laws.specs.Choice.{known_after}
 
 -- it does, and those that are followed go from the tap that these tell

@@ -12,8 +12,8 @@ use Rattle.tap_crossing.specs.declared.crossing.MessageOutcome.TheVariants as ou
 use Rattle.tap_crossing.specs.Crossing.{crossing, no_crossing}
 use Rattle.tap_crossing.specs.Record.{complete}
 use Rattle.tap_crossing.specs.Told.{told}
-use Rattle.tap_following.specs.declared.followed.Followed.{Followed}
-use Rattle.tap_following.specs.Written.{records_most, placed_at, placed_in, crossing_in, crossings_in}
+use Rattle.tap_follow.specs.declared.followed.Followed.{Followed}
+use Rattle.tap_follow.specs.Written.{records_most, placed_at, placed_in, crossing_in, crossings_in}
 
 -- the crossings that are told of messages with their places, the newest in front
 abbrev pub crossings_of : (capacity : ℕ) → List Placed → List Crossing

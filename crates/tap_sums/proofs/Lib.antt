@@ -1,2 +1,6 @@
 mod Divisions
 mod Pairs
+mod Counted
+mod Kept
+mod WorkedLines
+mod WorkedFigures

@@ -1,7 +1,11 @@
+pub mod Crossed
 pub mod Rounded
 pub mod Sums
 pub mod Text
 pub mod KindHeld
 pub mod Shown
 pub mod Held
+pub mod Changed
+pub mod Figures
+pub mod Untold
 pub mod Inner

@@ -3,7 +3,7 @@ use Rattle.std.specs.Prelude.{ℕ, ℤ, pos, List, ◌++◌, codes, Option, Some
 use Rattle.std.specs.Fmt.{decimal}
 use Rattle.tap_crossing.specs.declared.crossing.Crossing.{Crossing}
 use Rattle.tap_crossing.specs.declared.sighting.Kind.TheVariants as kinds
-use Rattle.tap_lines.specs.Crossed.{kind_text, units_text}
+use Rattle.tap_sums.specs.Crossed.{kind_text, units_text}
 use Rattle.tap_sums.specs.declared.spread.BothWays.{BothWays}
 use Rattle.tap_sums.specs.declared.spread.Spread.{Spread}
 use Rattle.tap_sums.specs.declared.spread.Statistics.{Statistics}

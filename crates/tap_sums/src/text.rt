@@ -1,42 +1,17 @@
-ghost use Rattle.std.specs.Prelude.{◌≡◌, ◌++◌, ◌+ℤ◌, List, OnOk, Some, ◌^◌, ◌<◌, IfSome};
+ghost use Rattle.std.specs.Prelude.{◌≡◌, ◌++◌, List, OnOk, ◌^◌, ◌<◌, IfSome};
 ghost use Rattle.std.specs.String.{string_bytes};
 ghost use Rattle.tap_crossing.specs.declared.crossing.Crossing.{Crossing};
-ghost use Rattle.tap_lines.specs.Crossed.{kind_text};
 ghost use Rattle.tap_sums.specs.Held.{AreSums};
 ghost use Rattle.tap_sums.specs.Text.{units_or_null, members_text, spread_text, step_units, statistics_front, statistics_rest, statistics_back};
 ghost use Rattle.tap_sums.specs.Text.{statistics_text, both_text, lines_text, sums_text};
 ghost use Rattle.tap_sums.specs.Shown.{IsShown, AreShown, AreToldShown, AreBothShown};
 
+use crate::crossed::{KindName, nanoseconds};
 use crate::spread::{BothWays, Spread, Statistics};
 use crate::sums::Sums;
-use ptp_units::Nanoseconds;
 use std::alloc::AllocError;
-use std::fmt;
-use std::fmt::{Display, Formatter, Write};
+use std::fmt::Write;
 use tap_crossing::Kind;
-
-/// The name of a kind.
-#[derive(Clone, Copy)]
-struct KindName(Kind);
-
-impl Display for KindName {
-    ghost output = { λ name. Some (kind_text name.0) };
-
-    fn fmt<W: fmt::Write>(&self, f: &mut Formatter<W>) -> fmt::Result {
-        f.write_str(match self.0 {
-            Kind::Sync => "sync",
-            Kind::DelayReq => "delay_req",
-        })
-    }
-}
-
-/// A number of units, which shows as nanoseconds.
-fn nanoseconds(units: i128) -> Nanoseconds
-    requires { IsShown units }
-    ensures { result.0 ≡ units +ℤ units }
-{
-    Nanoseconds(units + units)
-}
 
 /// Appends a number of units as nanoseconds, or null.
 fn push_units(text: &mut String, units: Option<i128>) -> Result<(), AllocError>

@@ -2,8 +2,8 @@ use Rattle.std.proofs.Common.{◌∙◌, ap, subst}
 use Rattle.std.specs.Prelude.{Bool, ℕ}
 use Rattle.std.specs.Option.{ForSome}
 use Rattle.text_lines.specs.Counted.{device_of}
-use Rattle.tap_following.specs.declared.following.Form.{Form}
-use Rattle.tap_following.specs.SoFar.{crossings_so_far}
+use Rattle.tap_follow.specs.declared.following.Form.{Form}
+use Rattle.tap_follow.specs.SoFar.{crossings_so_far}
 use Rattle.tap_follow.specs.Input.{FollowsInput}
 use Rattle.tap_follow.specs.Told.{TellsInput}
 use Rattle.follow_command.specs.Run.{EndsAs, follow_status, taps_wanted, lacking}

@@ -3,8 +3,8 @@ use Rattle.std.specs.Prelude.{◌≡◌, ◌≢◌, ℕ, List, [], Option, Some,
 use Rattle.std.specs.Io.KnownBytes.{Appends}
 use Rattle.text_lines.specs.Task.{WentOut}
 use Rattle.tap_choice.specs.declared.met.Met.{Met}
-use Rattle.tap_following.specs.Course.{Course}
-use Rattle.tap_following.specs.Held.{Holding, IsFollower}
+use Rattle.tap_follow.specs.Course.{Course}
+use Rattle.tap_follow.specs.Held.{Holding, IsFollower}
 use Rattle.tap_follow.specs.declared.fault.FollowFault.{FollowFault}
 use Rattle.tap_follow.specs.declared.fault.FollowFault.TheVariants.{Write, Field, Memory, ThirdTap}
 use Rattle.tap_follow.specs.Fault.{is_write}

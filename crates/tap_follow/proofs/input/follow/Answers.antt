@@ -1,8 +1,8 @@
 use Rattle.std.proofs.Common.{ℕ, List, sym, subst}
 use Rattle.datagram_source.specs.Input.{AnswersInput}
 use Rattle.datagram_source.specs.Left.{LeavesInput}
-use Rattle.tap_following.specs.Course.{begun}
-use Rattle.tap_following.specs.Held.{Holding, IsFollower}
+use Rattle.tap_follow.specs.Course.{begun}
+use Rattle.tap_follow.specs.Held.{Holding, IsFollower}
 use Rattle.tap_follow.specs.Rules.{follow_rules}
 use Rattle.tap_follow.proofs.input.follow.Goals as goal
 

@@ -6,8 +6,8 @@ use Rattle.recording_measure.specs.declared.listener.Became.{Became}
 use Rattle.recording_summary.specs.declared.counts.Counts.{Counts}
 use Rattle.recording_measure.specs.Counts.{kind_of, fate_in, meeting_of, IsCounts}
 use Rattle.recording_measure.specs.Meetings.{meeting_at}
-use Rattle.recording_quality.specs.declared.others.Others.{Others}
-use Rattle.recording_quality.specs.Others.{AreOthers}
+use Rattle.recording_summary.specs.declared.others.Others.{Others}
+use Rattle.recording_summary.specs.Others.{AreOthers}
 use Rattle.std.specs.Prelude.{filter_map}
 use Rattle.std.specs.List.{cons_option}
 use Rattle.recording_measure.specs.Inner.Counting.{with_why, with_anew, why_by}

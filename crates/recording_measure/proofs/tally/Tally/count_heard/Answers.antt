@@ -1,7 +1,7 @@
 use Rattle.std.proofs.Common.{◌≡◌, ◌∙◌, Option, sym, ap, subst}
 use Rattle.std.specs.List.{cons_option}
-use Rattle.recording_quality.specs.declared.others.Meeting.{Meeting}
-use Rattle.recording_quality.specs.Others.{AreOthers}
+use Rattle.recording_summary.specs.declared.others.Meeting.{Meeting}
+use Rattle.recording_summary.specs.Others.{AreOthers}
 use Rattle.recording_summary.specs.declared.counts.Counts.{Counts}
 use Rattle.recording_measure.specs.Meetings.{meeting_at}
 use Rattle.recording_measure.proofs.Counting.{anew_same, why_same}

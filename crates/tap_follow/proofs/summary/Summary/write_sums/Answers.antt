@@ -1,5 +1,5 @@
 use Rattle.std.specs.String.{string_bytes}
-use Rattle.tap_following.specs.SoFar.{crossings_so_far}
+use Rattle.tap_follow.specs.SoFar.{crossings_so_far}
 use Rattle.tap_follow.proofs.Summing.{wrote_sums}
 use Rattle.tap_follow.proofs.summary.Summary.write_sums.Goals as goal
 

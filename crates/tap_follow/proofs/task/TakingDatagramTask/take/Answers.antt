@@ -1,8 +1,8 @@
 use Rattle.std.proofs.Common.{◌∙◌, [], inl, inr, refl, sym, subst}
 use Rattle.std.proofs.KnownBytes.{Appends-nil}
 use Rattle.datagram_source.specs.Datagram.{datagram_of}
-use Rattle.tap_following.specs.declared.follower.Arrival.{Arrival}
-use Rattle.tap_following.specs.Course.{with_tap}
+use Rattle.tap_follow.specs.declared.follower.Arrival.{Arrival}
+use Rattle.tap_follow.specs.Course.{with_tap}
 use Rattle.tap_follow.specs.Rules.{TakesAt}
 use Rattle.tap_follow.proofs.Takings.{taken_at, no_output_keeps, third_keeps}
 use Rattle.tap_follow.proofs.task.TakingDatagramTask.take.Goals as goal

@@ -1,3 +1,0 @@
--- What serves functions inside this crate and proofs alone. No contract of a public call rests on it, so nobody has to believe it.
-pub mod Counting
-pub mod Others

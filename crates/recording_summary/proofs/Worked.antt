@@ -1,0 +1,33 @@
+-- Worked cases: who else is there by a few messages.
+use Rattle.std.proofs.Common.{◌≡◌, ℕ, ◌*◌, [], ◌∷◌, replicate, Some, None, refl}
+use Rattle.event_codec.specs.declared.port.PortIdentity.{PortIdentity}
+use Rattle.recording_summary.specs.declared.others.Meeting.{Meeting}
+use Rattle.recording_summary.specs.declared.others.MessageKind.TheVariants.{Sync, FollowUp}
+use Rattle.recording_summary.specs.declared.others.Met.{Met}
+use Rattle.recording_summary.specs.declared.others.Met.TheVariants.{First, Repeat, Master}
+use Rattle.recording_summary.specs.Others.{other_master, senders, newcomer, least_lag}
+
+-- another master, of this portNumber
+abbrev other : ℕ → PortIdentity
+other port = record { clock = 2 ∷ 0 ∷ 0 ∷ 255 ∷ 254 ∷ 17 ∷ 34 ∷ 153 ∷ []; port = port }
+
+abbrev at : (line : ℕ) → Met → Meeting
+at line met = record { line = line; time = line * 100; met = met }
+
+-- two messages of the first, and one of the second
+two_masters : senders other_master (at 3 (Master FollowUp (other 1)) ∷ at 2 (Master Sync (other 2)) ∷ at 1 (Master Sync (other 1)) ∷ [])
+    ≡ record {
+      listed = Some (record { port = other 1; count = 2 }) ∷ Some (record { port = other 2; count = 1 }) ∷ replicate 6 None;
+      rest = 0;
+    }
+two_masters = refl
+
+-- the second one's Sync came before the master's last
+taken_over : newcomer (at 9 (Master Sync (other 1)) ∷ at 8 (First Sync (record { 0 = 5 })) ∷ at 7 (Master Sync (other 2)) ∷ [])
+    ≡ Some (record { port = other 1; line = 9; time = 900 })
+taken_over = refl
+
+-- a Sync that comes again 200 later, with its Follow_Up between
+repeated : least_lag (at 6 (Repeat Sync (record { 0 = 5 })) ∷ at 5 (First FollowUp (record { 0 = 5 })) ∷ at 4 (First Sync (record { 0 = 5 })) ∷ [])
+    ≡ Some 200
+repeated = refl

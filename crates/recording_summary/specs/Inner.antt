@@ -1,0 +1,2 @@
+-- What serves functions inside this crate and proofs alone. No contract of a public call rests on it, so nobody has to believe it.
+pub mod Others

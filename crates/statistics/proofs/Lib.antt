@@ -1,0 +1,3 @@
+mod Kept
+mod Worked
+pub mod Counts

@@ -1,4 +1,0 @@
-mod Counted
-mod Counts
-mod Kept
-mod Worked

@@ -1,0 +1,15 @@
+use Rattle.std.proofs.Common.{sym, subst}
+use Rattle.tap_follow.specs.Course.{Course}
+use Rattle.tap_follow.specs.Held.{Holding, IsFollower}
+use Rattle.tap_follow.proofs.SoFar.{sums-known, sums-unknown}
+use Rattle.tap_follow.proofs.follower.Follower.sums.Goals as goal
+
+pub returns-in-Some : goal.returns-in-Some
+returns-in-Some c = λ (course : Course) stands.
+    let at = subst (λ (t : Holding). IsFollower t course) (sym c.self.view_is) stands in
+    sums-known course _ c.in-Some.following c.sums.result at c.in-Some.is c.sums.ensures
+
+pub returns-in-None : goal.returns-in-None
+returns-in-None c = λ (course : Course) stands.
+    let at = subst (λ (t : Holding). IsFollower t course) (sym c.self.view_is) stands in
+    sums-unknown course _ c.new.result at (λ held is. cc) c.new.ensures

@@ -1,5 +1,0 @@
-mod Reversed
-mod Courses
-mod Coming
-mod SoFar
-mod Worked
