@@ -1,5 +1,5 @@
 //! The datagrams of a capture, each of which gives a line.
-ghost use Rattle.std.specs.Prelude.{◌≡◌, ◌≤◌, length, MatchResult};
+ghost use Rattle.std.specs.Prelude.{◌≡◌, MatchResult};
 ghost use Rattle.text_lines.specs.Counted.{HasNotFailed};
 ghost use Rattle.capture_file.specs.Task.{FailedAt};
 ghost use Rattle.datagram_source.specs.Rules.{packet_rules};

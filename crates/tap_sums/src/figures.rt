@@ -7,12 +7,10 @@ ghost use Rattle.statistics.specs.Median.{IsMedian, IsRecent, last};
 
 use crate::changed::Changed;
 use crate::spread::Quantity;
+use crate::total::RAISED;
 use statistics::{Middle, Point, Recent, Series, Trend};
 use std::alloc::{AllocError, Global};
 use tap_crossing::{Crossing, Kind};
-
-/// What corrections are raised by, so that none is below 0: 2^97.
-const RAISED: i128 = 1 << 97;
 
 /// The last crossings of a kind.
 #[derive(Drop)]
