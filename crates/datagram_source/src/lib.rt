@@ -1,5 +1,5 @@
-//! An input of datagrams, whatever it is: lines, each of which tells one, or a capture, whose packets carry them. Its first octets
-//! tell which. What is done with a datagram is up to a task.
+//! An input of datagrams: lines, each of which tells one, or a capture, whose packets carry them, and are counted. Which of the two it
+//! is its first octets tell, unless it has to be a capture. What is done with a datagram is up to a task.
 #![tactic(auto)]
 
 mod compressed;

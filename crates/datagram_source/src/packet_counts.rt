@@ -20,7 +20,7 @@ enum NoDatagram {
     Simple,
 }
 
-/// Every reason, in the order of the summary.
+/// Every reason, in the order in which they are told.
 const ALL_REASONS: [NoDatagram; REASONS] = [
     NoDatagram::Other,
     NoDatagram::Fragment,
@@ -30,7 +30,7 @@ const ALL_REASONS: [NoDatagram; REASONS] = [
 ];
 
 impl NoDatagram {
-    /// What the summary says after a count of one.
+    /// What is said after a count of one.
     fn name(self) -> &'static str {
         match self {
             NoDatagram::Other => "packet without PTP",

@@ -27,7 +27,7 @@ pub(crate) struct PacketSource<'errors, T, E> {
 }
 
 impl<T: DatagramTask, E: Write> PacketSource<'_, T, E> {
-    /// Takes a packet, if it is of the interface that is asked for and carries a datagram.
+    /// Takes a packet, if it is of the interface that is asked for and carries a datagram. At a fault of the task it isn't counted.
     fn take_captured<W: Write>(
         &mut self,
         number: u64,
@@ -55,20 +55,20 @@ impl<T: DatagramTask, E: Write> PacketSource<'_, T, E> {
             return Ok(());
         }
         let found = find_datagram(captured.link, captured.octets);
+        if let Found::Datagram(octets) = found {
+            let datagram = Datagram {
+                place: Place::Interface(captured.interface),
+                number,
+                time: ScaledTime::join(captured.time, 0),
+                stamp: Stamp::Clock(captured.time),
+                octets,
+                said: message_in(octets),
+            };
+            self.task.take(&datagram, output, self.errors)?;
+        }
         self.counts
             .count_captured(captured.time, captured.link, found);
-        let Found::Datagram(octets) = found else {
-            return Ok(());
-        };
-        let datagram = Datagram {
-            place: Place::Interface(captured.interface),
-            number,
-            time: ScaledTime::join(captured.time, 0),
-            stamp: Stamp::Clock(captured.time),
-            octets,
-            said: message_in(octets),
-        };
-        self.task.take(&datagram, output, self.errors)
+        Ok(())
     }
 }
 

@@ -1,5 +1,5 @@
 -- The JSON of a measurement with its exchange, read again.
-use Rattle.std.proofs.Common.{◌≡◌, ◌∙◌, ℕ, ℤ, ◌<◌, ◌^◌, true, List, [], ◌∷◌, ◌++◌, codes, Option, Some, None}
+use Rattle.std.proofs.Common.{◌≡◌, ◌∙◌, ℕ, ℤ, ◌<◌, ◌^◌, true, List, [], ◌∷◌, ◌++◌, codes, Some}
 use Rattle.std.proofs.Common.{refl, ap, sym, arith, append_assoc}
 use Rattle.std.specs.Fmt.{decimal, signed_decimal}
 use Rattle.std.specs.List.{list_all}
@@ -18,7 +18,7 @@ use Rattle.schedule_lines.proofs.Values.{value_read}
 use Rattle.recording_lines.specs.Measurement.{Measured, half_text, follow_text}
 use Rattle.recording_measure.specs.Moment.{moment_text}
 use Rattle.recording_measure.specs.Exchange.{json_results, json_times, sync_correction2, delay_correction2, between2}
-use Rattle.explain_laws.specs.Measurements.{IsOf128Bits, IsWithinRange, is_printed}
+use Rattle.explain_laws.specs.Measurements.{IsOf128Bits, IsWithinRange}
 use Rattle.explain_laws.specs.FullMeasurements.{IsExchangeWithinRange, full_data, EachFullMeasurementIsJson}
 use Rattle.explain_laws.proofs.Figures.{escape_figures, printed_figures, figures_signed, figures_nanoseconds, figures_time, figures_moment}
 use Rattle.explain_laws.proofs.Figures.{is_figure}

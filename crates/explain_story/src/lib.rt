@@ -1,4 +1,5 @@
-//! What is told of each report of a transcript, and of all of them.
+//! What is told of each report of a transcript, with its exchange as a table, and of all of them, with what a slave of this repository
+//! would have answered.
 #![tactic(auto)]
 
 mod answers;

@@ -1,5 +1,5 @@
-//! What is wrong with a transcript or a schedule, where, and by how much: for a person as text, and as JSON for
-//! programs, a line a report.
+//! What is wrong with a transcript or a schedule, where, and by how much, and why an event can't happen: for a person as text, and as
+//! JSON for programs, a line a report.
 #![tactic(auto)]
 
 mod details;

@@ -1,4 +1,5 @@
-//! Offsets and delays from a recording at a slave: a slave port hears its datagrams.
+//! Offsets and delays from a recording at a slave: a slave port hears its datagrams, and each report goes out as a line, in full with
+//! what it was made of.
 #![tactic(auto)]
 
 mod exchange;
