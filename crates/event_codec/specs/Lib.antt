@@ -1,5 +1,6 @@
 pub mod Layout
 pub mod Packet
+pub mod Header
 pub mod Port
 pub mod Refusal
 pub mod EncodeRefusal

@@ -15,9 +15,9 @@ use crate::refusal::DecodeRefusal;
 use ptp_units::{Interval, Seq, Timestamp};
 
 /// The octets of the header that every message begins with.
-const HEADER_LENGTH: usize = 34;
+pub(crate) const HEADER_LENGTH: usize = 34;
 
-fn array_at<const N: usize>(octets: &[u8], at: usize) -> [u8; N]
+pub(crate) fn array_at<const N: usize>(octets: &[u8], at: usize) -> [u8; N]
     requires { at + N ≤ length octets.now }
     ensures { result ≡ slice_range octets.now at (at + N) }
 {
@@ -26,7 +26,7 @@ fn array_at<const N: usize>(octets: &[u8], at: usize) -> [u8; N]
     array
 }
 
-fn u16_at(octets: &[u8], at: usize) -> u16
+pub(crate) fn u16_at(octets: &[u8], at: usize) -> u16
     requires { at + 2 ≤ length octets.now }
     ensures { result ≡ number octets.now at 2 }
 {
@@ -58,7 +58,7 @@ fn port_identity_at(octets: &[u8], at: usize) -> PortIdentity
 }
 
 /// The header, of a message of version 2.
-fn header_of(octets: &[u8]) -> Header
+pub(crate) fn header_of(octets: &[u8]) -> Header
     requires whole { 34 ≤ length octets.now }
     requires version { slice_index octets.now 1 % 16 ≡ 2 }
     ensures { IsHeader result (slice_index octets.now 0 % 16) (number octets.now 2 2) octets.now }

@@ -5,6 +5,7 @@
 mod correction;
 mod decoding;
 mod encoding;
+mod header;
 pub mod laws;
 mod message;
 mod message_type;
@@ -16,6 +17,7 @@ mod refusal;
 pub use correction::patch_correction;
 pub use decoding::decode;
 pub use encoding::encode;
+pub use header::{Announce, decode_announce, decode_header};
 pub use message::{Body, Header, Message, NO_FLAGS, TWO_STEP};
 pub use nibble::Nibble;
 pub use port::{PortConfig, PortIdentity};

@@ -1,5 +1,5 @@
-/// The identity of a port: its clock's identity and its number there (IEEE 1588-2019, 5.3.5).
-#[derive(Clone, Copy, Debug, PartialEq, Eq, Hash)]
+/// The identity of a port: its clock's identity and its number there (IEEE 1588-2019, 5.3.5). Ports of one clock stand together.
+#[derive(Clone, Copy, Debug, PartialEq, Eq, PartialOrd, Ord, Hash)]
 pub struct PortIdentity {
     /// clockIdentity, an EUI-64.
     pub clock: [u8; 8],
