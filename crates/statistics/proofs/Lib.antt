@@ -1,3 +1,4 @@
 mod Kept
 mod Worked
+mod InOrder
 pub mod Counts

@@ -1,9 +1,11 @@
 -- Worked cases: what is told of the first two reports of a real recording, of packets 23 and 25. Their offsets are -3512.5 ns and
--- -2709 ns, and their path delays 18522.5 ns and 17719 ns. And medians of 3, 1 and 2, of 1, 3, 2 and 4, and of none.
-use Rattle.std.proofs.Common.{◌≡◌, pos, negsuc, [], ◌∷◌, Some, None, refl}
+-- -2709 ns, and their path delays 18522.5 ns and 17719 ns. Medians of 3, 1 and 2, of 1, 3, 2 and 4, and of none. And the greatest change
+-- of 5, 9, 3 and 9, which is the fall from 9 to 3: the rise behind it is as great.
+use Rattle.std.proofs.Common.{◌≡◌, ℕ, pos, negsuc, [], ◌∷◌, Some, None, refl}
 use Rattle.statistics.specs.declared.series.Point.{Point}
 use Rattle.statistics.specs.Median.{middle_of}
 use Rattle.statistics.specs.Series.{above, below, square, least, greatest}
+use Rattle.statistics.specs.Step as step
 use Rattle.statistics.specs.Wide.{wide_sum}
 
 abbrev path_23 : Point
@@ -47,3 +49,13 @@ four = refl
 
 none : middle_of [] ≡ None
 none = refl
+
+abbrev value_at : ℕ → ℕ → Point
+value_at line value = record { line = line; time = line; value = pos value }
+
+fall : step.greatest (value_at 4 9 ∷ value_at 3 3 ∷ value_at 2 9 ∷ value_at 1 5 ∷ [])
+    ≡ Some (record { from = value_at 2 9; to = value_at 3 3; before = value_at 2 9 ∷ value_at 1 5 ∷ [] })
+fall = refl
+
+no_change : step.greatest (value_at 1 5 ∷ []) ≡ None
+no_change = refl

@@ -1,5 +1,9 @@
 pub mod Wide
 pub mod Counting
+pub mod Cases
 pub mod Series
 pub mod Trend
+pub mod Step
 pub mod Median
+pub mod Flow
+pub mod Spike

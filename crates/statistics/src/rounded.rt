@@ -1,6 +1,7 @@
-//! Means, deviations and slopes, rounded. Each is None where a sum is too big to divide.
+//! Means, deviations, slopes and steps, rounded. Each is None where a sum is too big to divide.
 
 use crate::series::Series;
+use crate::step::Step;
 use crate::trend::Trend;
 use crate::wide::Wide;
 use std::fmt;
@@ -38,6 +39,15 @@ pub struct Growth {
     pub rate: Signed,
     /// Whether a line of this slope explains half of how the values vary, or more.
     pub explains_half: bool,
+}
+
+/// What one step in a series comes to.
+#[derive(Clone, Copy)]
+pub struct Shift {
+    /// By how much the mean of the values behind the step is above that of those before, in thousandths of a nanosecond.
+    pub by: Signed,
+    /// Whether a step explains more than half of how the values vary, and more than a line over their times does.
+    pub explains_most: bool,
 }
 
 impl Display for Thousandths {
@@ -157,8 +167,15 @@ pub fn deviation(series: &Series) -> Option<u128> {
     in_thousandths(quotient(spread, pairs)?.isqrt())
 }
 
-/// The front of a number, below 2^63, and how many of its bits are left out behind that.
-fn front(mut wide: Wide) -> (u128, u32) {
+/// A number by its front, which is below 2^63, and how many of its bits are left out behind that.
+#[derive(Clone, Copy)]
+struct Front {
+    bits: u128,
+    behind: u32,
+}
+
+/// The front of a number.
+fn front_of(mut wide: Wide) -> Front {
     let mut behind: u32 = 0;
     for _place in 0..256 {
         if wide.high == 0 && wide.low < 1 << 63 {
@@ -167,7 +184,20 @@ fn front(mut wide: Wide) -> (u128, u32) {
         wide = half(wide);
         behind = behind.saturating_add(1);
     }
-    (wide.low, behind)
+    Front {
+        bits: wide.low,
+        behind,
+    }
+}
+
+/// The front of a product, by the fronts of its factors.
+fn front_of_product(one: Front, other: Front) -> Front {
+    let Front { bits, behind } = front_of(product(one.bits, other.bits));
+    let left_out = one.behind.saturating_add(other.behind);
+    Front {
+        bits,
+        behind: behind.saturating_add(left_out),
+    }
 }
 
 /// So many times doubled, as far as 2^128 - 1.
@@ -178,23 +208,27 @@ fn doubled(mut number: u128, times: u32) -> u128 {
     number
 }
 
-/// Whether a line explains half of how values vary, by the fronts of these numbers: twice the square of the rise isn't below the
-/// product of the others.
-fn explains(rise: Wide, run: Wide, varied: Wide) -> bool {
-    let (rise, rise_behind) = front(rise);
-    let (run, run_behind) = front(run);
-    let (varied, varied_behind) = front(varied);
-    let behind = rise_behind.saturating_mul(2);
-    let others_behind = run_behind.saturating_add(varied_behind);
-    let explained = rise.saturating_mul(rise).saturating_mul(2);
-    let wanted = run.saturating_mul(varied);
-    doubled(explained, behind.saturating_sub(others_behind))
-        >= doubled(wanted, others_behind.saturating_sub(behind))
+/// Whether a number is below another one, by their fronts.
+fn is_below(one: Front, other: Front) -> bool {
+    doubled(one.bits, one.behind.saturating_sub(other.behind))
+        < doubled(other.bits, other.behind.saturating_sub(one.behind))
 }
 
-/// How much the values of a series, in halves of the unit of their times, grow by these; None of fewer than two values, and where all
-/// times are one.
-pub fn slope(series: &Series, trend: &Trend) -> Option<Growth> {
+/// A line through values over their times, by least squares, each number times the square of how many there are.
+#[derive(Clone, Copy)]
+struct Line {
+    /// Whether the values fall.
+    is_negative: bool,
+    /// How much values and times vary together, without its sign.
+    rise: Wide,
+    /// How much the times vary.
+    run: Wide,
+    /// How much the values vary.
+    varied: Wide,
+}
+
+/// The line through a series.
+fn line_of(series: &Series, trend: &Trend) -> Option<Line> {
     let count = series.count;
     let span = narrow(trend.times)?;
     let total = total(series)?;
@@ -206,13 +240,86 @@ pub fn slope(series: &Series, trend: &Trend) -> Option<Growth> {
     } else {
         difference(above, sum(below, straight)?)
     };
-    let run = spread(count, span, trend.squares)?;
-    let explains_half = explains(rise, run, spread(count, total.size, series.squares)?);
-    let size = rounded_quotient(rise, run)?;
-    let rate = Signed { is_negative, size };
+    Some(Line {
+        is_negative,
+        rise,
+        run: spread(count, span, trend.squares)?,
+        varied: spread(count, total.size, series.squares)?,
+    })
+}
+
+/// Whether a line explains half of how values vary: twice the square of the rise isn't below the product of the others.
+fn explains_half(line: &Line) -> bool {
+    let rise = front_of(line.rise);
+    let explained = front_of_product(rise, rise);
+    let twice = Front {
+        bits: explained.bits.saturating_mul(2),
+        behind: explained.behind,
+    };
+    !is_below(
+        twice,
+        front_of_product(front_of(line.run), front_of(line.varied)),
+    )
+}
+
+/// How much the values of a series, in halves of the unit of their times, grow by these; None of fewer than two values, and where all
+/// times are one.
+pub fn slope(series: &Series, trend: &Trend) -> Option<Growth> {
+    let line = line_of(series, trend)?;
+    let size = rounded_quotient(line.rise, line.run)?;
+    let is_negative = line.is_negative;
     Some(Growth {
-        rate,
-        explains_half,
+        rate: Signed { is_negative, size },
+        explains_half: explains_half(&line),
+    })
+}
+
+/// A number so many times, and its sign, less another one so many times.
+fn signed_difference(one: Signed, count: u64, other: Signed, others: u64) -> Option<(bool, Wide)> {
+    let minuend = product(one.size, u128::from(count));
+    let subtrahend = product(other.size, u128::from(others));
+    if one.is_negative != other.is_negative {
+        return Some((one.is_negative, sum(minuend, subtrahend)?));
+    }
+    let (is_less, size) = difference(minuend, subtrahend);
+    Some((is_less != one.is_negative, size))
+}
+
+/// Whether a step explains more than half of how values vary, and more than a line does. The sum of the values of so many pairs, one
+/// before the step and one behind it, changes by `jump`.
+fn explains_most(line: &Line, jump: Wide, pairs: u128) -> bool {
+    let jump = front_of(jump);
+    let pairs = front_of(product(pairs, 1));
+    let explained = front_of_product(jump, jump);
+    let twice = Front {
+        bits: explained.bits.saturating_mul(2),
+        behind: explained.behind,
+    };
+    let rise = front_of(line.rise);
+    let by_line = front_of_product(front_of_product(rise, rise), pairs);
+    let by_step = front_of_product(explained, front_of(line.run));
+    let has_no_line = line.run.low == 0 && line.run.high == 0;
+    is_below(front_of_product(pairs, front_of(line.varied)), twice)
+        && (has_no_line || is_below(by_line, by_step))
+}
+
+/// What a step at the greatest change from one value to the next comes to; None of fewer than two values.
+pub fn shift_of(step: &Step, trend: &Trend) -> Option<Shift> {
+    let before = step.greatest?.before;
+    let count = step.all.count;
+    let behind = count.checked_sub(before.count)?;
+    let pairs = u128::from(before.count) * u128::from(behind);
+    let (is_negative, jump) = signed_difference(
+        total(&step.all)?,
+        before.count,
+        total(&before)?,
+        count,
+    )?;
+    let fine = narrow(jump)?.checked_mul(PARTS)?.checked_div(pairs)?;
+    let size = fine.checked_add(NANOSECOND / 2)? / NANOSECOND;
+    Some(Shift {
+        by: Signed { is_negative, size },
+        explains_most: explains_most(&line_of(&step.all, trend)?, jump, pairs),
     })
 }
 

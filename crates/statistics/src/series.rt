@@ -140,4 +140,13 @@ impl Series {
         self.least = lesser(point, self.least);
         self.greatest = greater(point, self.greatest);
     }
+
+    /// Takes one more value, if there is one.
+    pub fn take_some(&mut self, point: Option<Point>)
+        ensures { (points : List Point) → IsSeries points self.old → IsSeries (cons_option point points) self.new }
+    {
+        if let Some(point) = point {
+            self.take(point);
+        }
+    }
 }
