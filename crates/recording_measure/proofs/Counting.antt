@@ -1,7 +1,7 @@
 -- What is counted with one datagram more.
 use Rattle.std.proofs.Common.{◌≡◌, ◌∙◌, ◌⊎◌, inl, inr, ℕ, ◌+◌, ◌*◌, ◌<◌, Bool, true, false, List, [], ◌∷◌, length, get_or}
 use Rattle.std.proofs.Common.{Option, Some, None, Ok, Err, refl, sym, ap, subst, arith}
-use Rattle.std.specs.Prelude.{cond, ◌==◌, count_by, is_some, slice_set, map, filter_map, option_map}
+use Rattle.std.specs.Prelude.{cond, ◌==◌, ◌||◌, count_by, is_some, slice_set, map, filter_map, option_map}
 use Rattle.std.specs.List.{cons_option}
 use Rattle.std.specs.Result.{result_err}
 use Rattle.std.proofs.lemmas.Bool.{cases_eq, eq-eqb, ne_eqb}
@@ -20,7 +20,6 @@ use Rattle.recording_summary.specs.declared.others.Others.{Others}
 use Rattle.recording_summary.specs.Others.{AreOthers}
 use Rattle.recording_summary.specs.Quality.{IsQuality}
 use Rattle.recording_measure.specs.declared.listener.Became.{Became}
-use Rattle.recording_measure.specs.declared.listener.Became.TheVariants as became
 use Rattle.recording_summary.specs.declared.counts.Counts.{Counts}
 use Rattle.recording_summary.specs.declared.kind.Kind.{Kind}
 use Rattle.recording_summary.specs.declared.kind.Kind.TheVariants as kinds
@@ -30,7 +29,7 @@ use Rattle.recording_summary.specs.Counts.{AreNone, kind_number, why_number, pla
 use Rattle.recording_measure.specs.Counts.{kind_of, kind_of_refused, why_refused, at_most}
 use Rattle.recording_measure.specs.Counts.{Fate, fate_in, early_fate, noted_of, meeting_of, is_so, IsCounts}
 use Rattle.recording_measure.specs.Meetings.{meeting_at}
-use Rattle.recording_measure.specs.Inner.Counting.{with_why, with_anew, why_by, is_slave_anew, is_master_anew}
+use Rattle.recording_measure.specs.Inner.Counting.{with_why, why_by, is_slave_anew, is_master_anew, is_anew}
 use Rattle.recording_measure.specs.Inner.Became.{became_of}
 use Rattle.recording_measure.proofs.Became.{why-became, slave-became, master-became}
 
@@ -62,30 +61,6 @@ module _ (p : Fate → Bool) (fate : Fate) (all : List Fate) (count : ℕ) where
       let more = sum_by-cons (λ f. cond (p f) 1 0) fate all in
       let none = ap {B = ℕ} (λ (b : Bool). cond b 1 0) is in
       omega (arith, more, none, so)
-
-slave_more : (b : Became) (counts : Counts) (fate : Fate) (all : List Fate) → fate.slave_anew ≡ is_slave_anew b
-    → counts.slave_anew ≡ at_most (count_by (λ f. f.slave_anew) all)
-    → (with_anew b counts).slave_anew ≡ at_most (count_by (λ f. f.slave_anew) (fate ∷ all))
-slave_more became.Anew counts fate all is so = count_yes (λ f. f.slave_anew) fate all counts.slave_anew is so
-slave_more _ counts fate all is so = count_no (λ f. f.slave_anew) fate all counts.slave_anew is so
-
-master_more : (b : Became) (counts : Counts) (fate : Fate) (all : List Fate) → fate.master_anew ≡ is_master_anew b
-    → counts.master_anew ≡ at_most (count_by (λ f. f.master_anew) all)
-    → (with_anew b counts).master_anew ≡ at_most (count_by (λ f. f.master_anew) (fate ∷ all))
-master_more (became.HeardAnew heard) counts fate all is so = count_yes (λ f. f.master_anew) fate all counts.master_anew is so
-master_more _ counts fate all is so = count_no (λ f. f.master_anew) fate all counts.master_anew is so
-
--- the counts of those that gave no report, and of reports, and what they are worth are those of before
-anew_others : (b : Became) (counts : Counts)
-    → ((with_anew b counts).unreported ≡ counts.unreported) × ((with_anew b counts).reports ≡ counts.reports)
-    × ((with_anew b counts).quality ≡ counts.quality)
-anew_others (became.Heard heard) counts = (refl, refl, refl)
-anew_others _ counts = (refl, refl, refl)
-
--- who else is there, too
-pub anew_same : (b : Became) (counts : Counts) → (with_anew b counts).others ≡ counts.others
-anew_same (became.Heard heard) counts = refl
-anew_same _ counts = refl
 
 pub why_same : (kind : Kind) (why : Option NoReport) (counts : Counts) → (with_why kind why counts).others ≡ counts.others
 why_same kind None counts = refl
@@ -131,8 +106,6 @@ module _ (fate : Fate) (all : List Fate) (there : List ℕ) (many : length there
 -- a datagram was noted, and isn't counted yet
 pub record IsNoted (fate : Fate) (all : List Fate) (counts : Counts) : Type 0 where
   pub reports : counts.reports ≡ at_most (count_by (λ f. is_some f.measured) all)
-  pub slave_anew : counts.slave_anew ≡ at_most (count_by (λ f. f.slave_anew) all)
-  pub master_anew : counts.master_anew ≡ at_most (count_by (λ f. f.master_anew) all)
   pub unreported : Table all counts.unreported
   pub places : length counts.unreported ≡ 140
   pub quality : IsQuality (map noted_of (fate ∷ all)) counts.quality
@@ -148,59 +121,51 @@ pub noted_counts : (fate : Fate) (all : List Fate) (counts later : Counts) → I
     → IsNoted fate all later
 noted_counts fate all counts later so others better = record {
   reports = ap (λ (c : Counts). c.reports) others ∙ so.reports;
-  slave_anew = ap (λ (c : Counts). c.slave_anew) others ∙ so.slave_anew;
-  master_anew = ap (λ (c : Counts). c.master_anew) others ∙ so.master_anew;
   unreported = subst (Table all) (sym (ap (λ (c : Counts). c.unreported) others)) so.unreported;
   places = ap (λ (c : Counts). length c.unreported) others ∙ so.places;
   quality = better;
   others = subst (AreOthers (filter_map meeting_of all)) (sym (ap (λ (c : Counts). c.others) others)) so.others;
 }
 
-more_by : (why : Option NoReport) (b : Became) (fate : Fate) (all : List Fate) (counts : Counts) (others : Others) → fate.why ≡ why
-    → fate.measured ≡ None → fate.slave_anew ≡ is_slave_anew b → fate.master_anew ≡ is_master_anew b → IsNoted fate all counts
+more_by : (why : Option NoReport) (fate : Fate) (all : List Fate) (counts : Counts) (others : Others) → fate.why ≡ why
+    → fate.measured ≡ None → IsNoted fate all counts
     → AreOthers (filter_map meeting_of (fate ∷ all)) others
-    → IsCounts (fate ∷ all) (record (with_why fate.kind why (with_anew b counts)) { others = others })
-more_by None b fate all counts others is unmeasured slave master so met = record {
-  reports = (anew_others b counts).1
-      ∙ count_no (λ f. is_some f.measured) fate all counts.reports (ap is_some unmeasured) so.reports;
-  slave_anew = slave_more b counts fate all slave so.slave_anew;
-  master_anew = master_more b counts fate all master so.master_anew;
-  unreported = subst (Table (fate ∷ all)) (sym (anew_others b counts).0)
-      (table_none fate all counts.unreported so.places so.unreported is);
-  places = ap length (anew_others b counts).0 ∙ so.places;
-  quality = subst (IsQuality (map noted_of (fate ∷ all))) (sym (anew_others b counts).2) so.quality;
+    → IsCounts (fate ∷ all) (record (with_why fate.kind why counts) { others = others })
+more_by None fate all counts others is unmeasured so met = record {
+  reports = count_no (λ f. is_some f.measured) fate all counts.reports (ap is_some unmeasured) so.reports;
+  unreported = table_none fate all counts.unreported so.places so.unreported is;
+  places = so.places;
+  quality = so.quality;
   others = met;
 }
-more_by (Some own) b fate all counts others is unmeasured slave master so met = record {
-  reports = (anew_others b counts).1
-      ∙ count_no (λ f. is_some f.measured) fate all counts.reports (ap is_some unmeasured) so.reports;
-  slave_anew = slave_more b counts fate all slave so.slave_anew;
-  master_anew = master_more b counts fate all master so.master_anew;
-  unreported = subst (λ (there : List ℕ). Table (fate ∷ all)
-      (slice_set there (place_of fate.kind own) (with_one (get_or there (place_of fate.kind own) 0))))
-      (sym (anew_others b counts).0) (table_more fate all counts.unreported so.places so.unreported own is);
-  places = length-set (with_anew b counts).unreported (place_of fate.kind own) _ ∙ ap length (anew_others b counts).0 ∙ so.places;
-  quality = subst (IsQuality (map noted_of (fate ∷ all))) (sym (anew_others b counts).2) so.quality;
+more_by (Some own) fate all counts others is unmeasured so met = record {
+  reports = count_no (λ f. is_some f.measured) fate all counts.reports (ap is_some unmeasured) so.reports;
+  unreported = table_more fate all counts.unreported so.places so.unreported own is;
+  places = length-set counts.unreported (place_of fate.kind own) _ ∙ so.places;
+  quality = so.quality;
   others = met;
 }
 
 -- of one that a port hears in this state
 pub heard_counts : (w : Watched) (d : Recorded) (m : Contents) (l : Listening) (b : Became) (all : List Fate) (counts : Counts)
     (others : Others) → d.said ≡ Ok m → b ≡ became_of w d.line d.time m m.body l → IsNoted (fate_in w d l) all counts
-    → AreOthers (cons_option (meeting_at d.line d.time m.body m.header (why_by w.domain m.header b)) (filter_map meeting_of all)) others
+    → AreOthers (cons_option (meeting_at d.line d.time m.body m.header (why_by w.domain m.header b) (is_anew b)) (filter_map meeting_of all))
+    others
     → IsCounts (fate_in w d l ∷ all)
-    (record (with_why (kind_of m.body) (why_by w.domain m.header b) (with_anew b counts)) { others = others })
+    (record (with_why (kind_of m.body) (why_by w.domain m.header b) counts) { others = others })
 heard_counts w d m l b all counts others said is so met =
     let own : Recorded = record d { said = Ok m } in
     let why = ap (why_by w.domain m.header) is ∙ why-became w d.line d.time m m.body l in
+    let slave = ap is_slave_anew is ∙ slave-became w d.line d.time m m.body l in
+    let master = ap is_master_anew is ∙ master-became w d.line d.time m m.body l in
+    let met_at : Option NoReport → Bool → Bool → Type 0 =
+    λ (y : Option NoReport) (s t : Bool). AreOthers (cons_option (meeting_at d.line d.time m.body m.header y (s || t)) (filter_map meeting_of all))
+    others in
     subst (λ (s : Reading). IsCounts (fate_in w (record d { said = s }) l ∷ all)
-    (record (with_why (kind_of m.body) (why_by w.domain m.header b) (with_anew b counts)) { others = others })) (sym said)
-    (more_by (why_by w.domain m.header b) b (fate_in w own l) all counts others (sym why) refl
-    (sym (ap is_slave_anew is ∙ slave-became w d.line d.time m m.body l))
-    (sym (ap is_master_anew is ∙ master-became w d.line d.time m m.body l))
+    (record (with_why (kind_of m.body) (why_by w.domain m.header b) counts) { others = others })) (sym said)
+    (more_by (why_by w.domain m.header b) (fate_in w own l) all counts others (sym why) refl
     (subst (λ (s : Reading). IsNoted (fate_in w (record d { said = s }) l) all counts) said so)
-    (subst (λ (y : Option NoReport). AreOthers (cons_option (meeting_at d.line d.time m.body m.header y) (filter_map meeting_of all)) others)
-    why met))
+    (subst (λ (it : Option NoReport × (Bool × Bool)). met_at it.0 it.1.0 it.1.1) (λ i. (why i, (slave i, master i))) met))
 
 -- of one that isn't one of the four messages
 pub refused_counts : (w : Watched) (d : Recorded) (refusal : DecodeRefusal) (l : Listening) (all : List Fate) (counts : Counts)
@@ -211,7 +176,7 @@ refused_counts w d refusal l all counts said so =
     let own : Recorded = record d { said = Err refusal } in
     subst (λ (s : Reading). IsCounts (fate_in w (record d { said = s }) l ∷ all)
     (with_unreported (kind_of_refused refusal) (why_refused (kind_of_refused refusal)) counts)) (sym said)
-    (more_by (Some (why_refused (kind_of_refused refusal))) became.HeardBefore (fate_in w own l) all counts counts.others refl refl refl refl
+    (more_by (Some (why_refused (kind_of_refused refusal))) (fate_in w own l) all counts counts.others refl refl
     (subst (λ (s : Reading). IsNoted (fate_in w (record d { said = s }) l) all counts) said so) so.others)
 
 -- of one that came too early
@@ -221,7 +186,7 @@ early_counts d m all counts said so =
     let own : Recorded = record d { said = Ok m } in
     subst (λ (s : Reading). IsCounts (early_fate (record d { said = s }) ∷ all)
     (with_unreported (kind_of m.body) whys.TooEarly counts)) (sym said)
-    (more_by (Some whys.TooEarly) became.HeardBefore (early_fate own) all counts counts.others refl refl refl refl
+    (more_by (Some whys.TooEarly) (early_fate own) all counts counts.others refl refl
     (subst (λ (s : Reading). IsNoted (early_fate (record d { said = s })) all counts) said so) so.others)
 
 pub early_refused_counts : (d : Recorded) (refusal : DecodeRefusal) (all : List Fate) (counts : Counts) → d.said ≡ Err refusal
@@ -231,7 +196,7 @@ early_refused_counts d refusal all counts said so =
     let own : Recorded = record d { said = Err refusal } in
     subst (λ (s : Reading). IsCounts (early_fate (record d { said = s }) ∷ all)
     (with_unreported (kind_of_refused refusal) (why_refused (kind_of_refused refusal)) counts)) (sym said)
-    (more_by (Some (why_refused (kind_of_refused refusal))) became.HeardBefore (early_fate own) all counts counts.others refl refl refl refl
+    (more_by (Some (why_refused (kind_of_refused refusal))) (early_fate own) all counts counts.others refl refl
     (subst (λ (s : Reading). IsNoted (early_fate (record d { said = s })) all counts) said so) so.others)
 
 -- ---- of a report that was written
@@ -251,8 +216,6 @@ written_counts fate all counts quality m unmeasured so better =
           let none = ap {B = ℕ} (λ (o : Option Measured). cond (is_some o) 1 0) unmeasured in
           let more = sum_by-cons (λ f. cond (is_some f.measured) 1 0) now all in
           omega (arith, before, none, more, so.reports);
-      slave_anew = so.slave_anew ∙ ap at_most (same_head fate now all (λ f. f.slave_anew) refl);
-      master_anew = so.master_anew ∙ ap at_most (same_head fate now all (λ f. f.master_anew) refl);
       unreported = λ kind why. so.unreported kind why ∙ ap at_most (same_head fate now all (is_so kind why) refl);
       places = so.places;
       quality = better;
@@ -283,8 +246,6 @@ written_quality fate all line time m before after unmeasured of_line of_time so 
 pub no_counts : (counts : Counts) → AreNone counts → IsCounts [] counts
 no_counts counts none = record {
   reports = none.reports;
-  slave_anew = none.slave_anew;
-  master_anew = none.master_anew;
   unreported = λ kind why. ap (λ (there : List ℕ). get_or there (place_of kind why) 0) none.unreported
       ∙ get_or-replicate 140 (place_of kind why) 0 0 (place_few kind why);
   places = ap length none.unreported ∙ length-replicate {A = ℕ} 140 0;

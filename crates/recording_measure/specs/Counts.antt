@@ -237,13 +237,14 @@ noted_of fate = record {
 
 -- ---- who else is there
 -- what it tells of whom it is, if it tells that
-abbrev pub meeting_said : (line time : ℕ) → Option NoReport → Reading → Option Meeting
-meeting_said line time why (Ok m) = meeting_at line time m.body m.header why
-meeting_said line time why (Err refusal) = None
+abbrev pub meeting_said : (line time : ℕ) → Option NoReport → (begins : Bool) → Reading → Option Meeting
+meeting_said line time why begins (Ok m) = meeting_at line time m.body m.header why begins
+meeting_said line time why begins (Err refusal) = None
 
 -- what a datagram tells of whom it is, for who else is there
 abbrev pub meeting_of : Fate → Option Meeting
-meeting_of fate = meeting_said fate.datagram.line fate.datagram.time fate.why fate.datagram.said
+meeting_of fate =
+    meeting_said fate.datagram.line fate.datagram.time fate.why (fate.slave_anew || fate.master_anew) fate.datagram.said
 
 -- ---- how many there are
 -- so many, as far as is counted
@@ -257,8 +258,6 @@ is_so kind why fate = option_map_or (λ own. place_of fate.kind own == place_of 
 -- how many of these there are of each, what they are worth, and who else is there by them
 pub record IsCounts (all : List Fate) (counts : Counts) : Type 0 where
   pub reports : counts.reports ≡ at_most (count_by (λ fate. is_some fate.measured) all)
-  pub slave_anew : counts.slave_anew ≡ at_most (count_by (λ fate. fate.slave_anew) all)
-  pub master_anew : counts.master_anew ≡ at_most (count_by (λ fate. fate.master_anew) all)
   pub unreported : (kind : Kind) (why : NoReport) → count_at counts kind why ≡ at_most (count_by (is_so kind why) all)
   pub places : length counts.unreported ≡ 140
   pub quality : IsQuality (map noted_of all) counts.quality

@@ -1,5 +1,5 @@
 -- Of whom a message is, by what became of it.
-use Rattle.std.specs.Prelude.{ℕ, Option, Some, None, option_map}
+use Rattle.std.specs.Prelude.{ℕ, Bool, Option, Some, None, option_map}
 use Rattle.event_codec.specs.declared.message.Body.{Body}
 use Rattle.event_codec.specs.declared.message.Body.TheVariants as bodies
 use Rattle.event_codec.specs.declared.message.Header.{Header}
@@ -47,7 +47,13 @@ abbrev pub met_by : MessageKind → Option NoReport → Header → Option Met
 met_by kind None header = Some (First kind header.sequence)
 met_by kind (Some why) header = met_as kind why header
 
--- what a message tells, with its line and time
-abbrev pub meeting_at : (line time : ℕ) → Body → Header → Option NoReport → Option Meeting
-meeting_at line time body header why =
-    option_map (λ met. record { line = line; time = time; met = met }) (met_by (message_kind body) why header)
+-- what a message tells, with its line and time, and with which its sender begins anew or doesn't
+abbrev pub meeting_at : (line time : ℕ) → Body → Header → Option NoReport → (begins : Bool) → Option Meeting
+meeting_at line time body header why begins = option_map (λ met. record {
+  line = line;
+  time = time;
+  met = met;
+  header = header;
+  why = why;
+  begins = begins;
+}) (met_by (message_kind body) why header)

@@ -53,17 +53,26 @@ fn met_by(kind: MessageKind, why: Option<NoReport>, header: &Header) -> Option<M
     }
 }
 
-/// What a message of this line and time tells, that gave no report for a reason, or gave one.
+/// What a message of this line and time tells, that gave no report for a reason, or gave one, and with which its sender begins anew or
+/// doesn't.
 pub(crate) fn meeting_at(
     line: u64,
     time: ScaledTime,
     message: &Message<'_>,
     why: Option<NoReport>,
+    begins: bool,
 ) -> Option<Meeting>
-    ensures { result ≡ meeting_at line time message.now.body message.now.header why }
+    ensures { result ≡ meeting_at line time message.now.body message.now.header why begins }
 {
     let met = met_by(message_kind(&message.body), why, &message.header)?;
-    Some(Meeting { line, time, met })
+    Some(Meeting {
+        line,
+        time,
+        met,
+        header: message.header,
+        why,
+        begins,
+    })
 }
 
 /// Takes what a message tells, if it tells anything.

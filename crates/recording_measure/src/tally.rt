@@ -11,7 +11,7 @@ ghost use Rattle.recording_summary.specs.Quality.{IsQuality};
 ghost use Rattle.datagram_source.specs.Said.{reading_of};
 ghost use Rattle.recording_measure.specs.Meetings.{meeting_at};
 ghost use Rattle.recording_measure.specs.Counts.{Fate, early_fate, noted_of, IsCounts};
-ghost use Rattle.recording_measure.specs.Inner.Counting.{why_by, with_why, with_anew};
+ghost use Rattle.recording_measure.specs.Inner.Counting.{why_by, with_why, is_anew};
 ghost use Rattle.recording_measure.specs.Inner.Hearing.{recorded_of, made_of};
 
 use crate::listener::Became;
@@ -108,15 +108,11 @@ fn count_why(counts: &mut Counts, kind: Kind, why: Option<NoReport>)
     }
 }
 
-/// Counts who began anew by what became of a message.
-fn count_anew(counts: &mut Counts, became: &Became)
-    ensures { counts.new ≡ with_anew became.now counts.old }
+/// Whether one began anew with a message of which this became.
+fn is_anew(became: &Became) -> bool
+    ensures { result ≡ is_anew became.now }
 {
-    match became {
-        Became::Anew => count_one(&mut counts.slave_anew),
-        Became::HeardAnew(_) => count_one(&mut counts.master_anew),
-        _ => {}
-    }
+    matches!(became, Became::Anew | Became::HeardAnew(_))
 }
 
 /// What is counted of datagrams.
@@ -182,17 +178,16 @@ impl Tally {
         became: &Became,
     )
         ensures counted { self.new.counts ≡ record (with_why (kind_of message.now.body) (why_by domain message.now.header became.now)
-            (with_anew became.now self.old.counts)) { others = self.new.counts.others } }
+            self.old.counts) { others = self.new.counts.others } }
         ensures others { (earlier : List Meeting) → AreOthers earlier self.old.counts.others → AreOthers
-            (cons_option (meeting_at line time message.now.body message.now.header (why_by domain message.now.header became.now)) earlier)
-            self.new.counts.others }
+            (cons_option (meeting_at line time message.now.body message.now.header (why_by domain message.now.header became.now)
+            (is_anew became.now)) earlier) self.new.counts.others }
     {
         let why = why_by(became, &message.header, domain);
-        count_anew(&mut self.counts, became);
         count_why(&mut self.counts, kind_of(&message.body), why);
         take_some(
             &mut self.counts.others,
-            meeting_at(line, time, message, why),
+            meeting_at(line, time, message, why, is_anew(became)),
         );
     }
 

@@ -10,6 +10,7 @@ use Rattle.recording_summary.specs.declared.others.MessageKind.{MessageKind}
 use Rattle.recording_summary.specs.declared.others.MessageKind.TheVariants.{Sync, FollowUp, DelayReq, DelayResp}
 use Rattle.recording_summary.specs.declared.others.Others.{Others}
 use Rattle.recording_summary.specs.declared.others.Repeats.{Repeats}
+use Rattle.recording_summary.specs.Flows.{AreFlows}
 use Rattle.recording_summary.specs.Others.{other_domain, is_of_domain, kept_of, nobody, AreDomains, IsTurn, AreRepeats, AreOthers}
 use Rattle.statistics.specs.Wide.{at_most}
 use Rattle.statistics.proofs.Counts.{count_none, count_more}
@@ -47,8 +48,8 @@ no_firsts r sync follow request response DelayReq = request
 no_firsts r sync follow request response DelayResp = response
 
 pub no_others : (o : Others) → o.masters ≡ nobody → o.slaves ≡ nobody → o.domains ≡ replicate 256 0 → IsTurn [] o.turn
-    → AreRepeats [] o.repeats → AreOthers [] o
-no_others o masters slaves domains turn repeats = record {
+    → AreRepeats [] o.repeats → AreFlows [] o.flows → AreOthers [] o
+no_others o masters slaves domains turn repeats flows = record {
   masters = masters;
   slaves = slaves;
   domains = record {
@@ -57,4 +58,5 @@ no_others o masters slaves domains turn repeats = record {
   };
   turn = turn;
   repeats = repeats;
+  flows = flows;
 }

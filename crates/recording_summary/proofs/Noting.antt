@@ -13,9 +13,13 @@ pub unreported : (n : Noted) (earlier : List Noted) (s : Statistics) → AreStat
 unreported n earlier s so = record {
   offsets = so.offsets;
   trend = so.trend;
+  spikes = so.spikes;
   paths = so.paths;
+  path_trend = so.path_trend;
   sync_corrections = so.sync_corrections;
   delay_corrections = so.delay_corrections;
+  ages = so.ages;
+  stale = so.stale;
   requests_at_once = so.requests_at_once ∙ ap at_most (sym (count_none _ (record n { reported = None }) earlier refl));
   syncs_at_once = so.syncs_at_once ∙ ap at_most (sym (count_none _ (record n { reported = None }) earlier refl));
   last = so.last;
@@ -26,9 +30,13 @@ pub still_unreported : (n : Noted) (earlier : List Noted) (s : Statistics)
 still_unreported n earlier s so = record {
   offsets = so.offsets;
   trend = so.trend;
+  spikes = so.spikes;
   paths = so.paths;
+  path_trend = so.path_trend;
   sync_corrections = so.sync_corrections;
   delay_corrections = so.delay_corrections;
+  ages = so.ages;
+  stale = so.stale;
   requests_at_once = so.requests_at_once ∙ ap at_most (count_none _ (record n { reported = None }) earlier refl);
   syncs_at_once = so.syncs_at_once ∙ ap at_most (count_none _ (record n { reported = None }) earlier refl);
   last = so.last;

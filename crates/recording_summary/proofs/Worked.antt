@@ -1,5 +1,6 @@
 -- Worked cases: who else is there by a few messages.
-use Rattle.std.proofs.Common.{◌≡◌, ℕ, ◌*◌, [], ◌∷◌, replicate, Some, None, refl}
+use Rattle.std.proofs.Common.{◌≡◌, ℕ, ◌*◌, pos, false, [], ◌∷◌, replicate, Some, None, refl}
+use Rattle.event_codec.specs.declared.message.Header.{Header}
 use Rattle.event_codec.specs.declared.port.PortIdentity.{PortIdentity}
 use Rattle.recording_summary.specs.declared.others.Meeting.{Meeting}
 use Rattle.recording_summary.specs.declared.others.MessageKind.TheVariants.{Sync, FollowUp}
@@ -11,8 +12,24 @@ use Rattle.recording_summary.specs.Others.{other_master, senders, newcomer, leas
 abbrev other : ℕ → PortIdentity
 other port = record { clock = 2 ∷ 0 ∷ 0 ∷ 255 ∷ 254 ∷ 17 ∷ 34 ∷ 153 ∷ []; port = port }
 
+-- a header of which nothing is asked here
+abbrev any_header : Header
+any_header = record {
+  major_sdo = 0;
+  minor_version = 1;
+  domain = 0;
+  minor_sdo = 0;
+  flags = 0 ∷ 0 ∷ [];
+  correction = record { 0 = pos 0 };
+  specific = 0 ∷ 0 ∷ 0 ∷ 0 ∷ [];
+  source = other 1;
+  sequence = record { 0 = 0 };
+  control = 0;
+  log = pos 0;
+}
+
 abbrev at : (line : ℕ) → Met → Meeting
-at line met = record { line = line; time = line * 100; met = met }
+at line met = record { line = line; time = line * 100; met = met; header = any_header; why = None; begins = false }
 
 -- two messages of the first, and one of the second
 two_masters : senders other_master (at 3 (Master FollowUp (other 1)) ∷ at 2 (Master Sync (other 2)) ∷ at 1 (Master Sync (other 1)) ∷ [])

@@ -48,8 +48,6 @@ count_at counts kind why = slice_index counts.unreported (place_of kind why)
 -- no datagram came
 pub record AreNone (counts : Counts) : Type 0 where
   pub reports : counts.reports ≡ 0
-  pub slave_anew : counts.slave_anew ≡ 0
-  pub master_anew : counts.master_anew ≡ 0
   pub unreported : counts.unreported ≡ replicate 140 0
   pub quality : IsQuality [] counts.quality
   pub others : AreOthers [] counts.others

@@ -18,6 +18,8 @@ use Rattle.recording_summary.specs.declared.others.Repeats.{Repeats}
 use Rattle.recording_summary.specs.declared.others.Sender.{Sender}
 use Rattle.recording_summary.specs.declared.others.Senders.{Senders}
 use Rattle.recording_summary.specs.declared.others.Turn.{Turn}
+use Rattle.recording_summary.specs.Flows.{AreFlows}
+use Rattle.recording_summary.specs.Messages.{is_sync, first_by}
 use Rattle.statistics.specs.Wide.{at_most}
 
 -- ---- of whom a message is
@@ -93,12 +95,6 @@ pub record AreDomains (all : List Meeting) (domains : List ℕ) : Type 0 where
 
 -- ---- until when the master sends
 -- a Sync of the master that is watched, whether its number came before or not
-abbrev pub is_sync : MessageKind → Bool
-is_sync Sync = true
-is_sync FollowUp = false
-is_sync DelayReq = false
-is_sync DelayResp = false
-
 abbrev pub is_master_sync : Met → Bool
 is_master_sync (First kind number) = is_sync kind
 is_master_sync (Repeat kind number) = is_sync kind
@@ -134,26 +130,7 @@ pub record IsTurn (all : List Meeting) (t : Turn) : Type 0 where
   pub newcomer : t.newcomer ≡ newcomer all
 
 -- ---- what came twice
--- both are of one kind
-abbrev pub is_same_kind : MessageKind → MessageKind → Bool
-is_same_kind Sync other = is_sync other
-is_same_kind FollowUp FollowUp = true
-is_same_kind FollowUp other = false
-is_same_kind DelayReq DelayReq = true
-is_same_kind DelayReq other = false
-is_same_kind DelayResp DelayResp = true
-is_same_kind DelayResp other = false
-
--- the number and the time of a message of this kind that is the first of its number
-abbrev pub first_by : Met → MessageKind → (time : ℕ) → Option Numbered
-first_by (First own number) kind time =
-    if is_same_kind kind own then Some (record { number = number; time = time }) else None
-first_by (Repeat own number) kind time = None
-first_by (Master own port) kind time = None
-first_by (Slave port) kind time = None
-first_by (Domain domain) kind time = None
-
--- the last such message of a kind
+-- the last message of a kind that is the first of its number
 abbrev pub last_first : List Meeting → MessageKind → Option Numbered
 last_first [] kind = None
 last_first (m ∷ earlier) kind = option_or (first_by m.met kind m.time) (last_first earlier kind)
@@ -212,3 +189,4 @@ pub record AreOthers (all : List Meeting) (o : Others) : Type 0 where
   pub domains : AreDomains all o.domains
   pub turn : IsTurn all o.turn
   pub repeats : AreRepeats all o.repeats
+  pub flows : AreFlows all o.flows

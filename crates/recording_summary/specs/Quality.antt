@@ -1,11 +1,12 @@
 -- What the numbers of a recording are worth, by what is noted of its datagrams. Lists have the newest in front.
-use Rattle.std.specs.Prelude.{◌≡◌, ℕ, ◌+◌, ◌%◌, ◌==◌, nat_lt, pos, ◌+ℤ◌, Bool, true, false, not, if◌then◌else◌}
+use Rattle.std.specs.Prelude.{◌≡◌, ℕ, ◌+◌, ◌%◌, ◌==◌, nat_lt, pos, ◌+ℤ◌, int_lt, Bool, true, false, not, if◌then◌else◌}
 use Rattle.std.specs.Prelude.{List, [], ◌∷◌, count_by, filter_map, is_some, Option, Some, None, option_map, option_and_then}
 use Rattle.std.specs.Option.{option_map_or, option_or}
 use Rattle.std.specs.Ordering.{int_eq}
 use Rattle.event_codec.specs.declared.refusal.DecodeRefusal.{DecodeRefusal}
 use Rattle.event_codec.specs.declared.refusal.DecodeRefusal.TheVariants.{Short, Version, OtherType, LengthField, Truncated}
 use Rattle.event_codec.specs.declared.refusal.DecodeRefusal.TheVariants.{Nanoseconds}
+use Rattle.slave_port.specs.Exchange.{age}
 use Rattle.recording_lines.specs.declared.measurement.Half.{Half}
 use Rattle.recording_lines.specs.declared.measurement.Half.TheVariants.{Sync, Response}
 use Rattle.recording_summary.specs.declared.quality.Quality.{Quality}
@@ -13,7 +14,10 @@ use Rattle.recording_summary.specs.declared.quality.Statistics.{Statistics}
 use Rattle.recording_summary.specs.declared.quality.Times.{Times}
 use Rattle.statistics.specs.declared.series.Point.{Point}
 use Rattle.recording_summary.specs.Noted.{Noted, Reported}
-use Rattle.statistics.specs.Series.{IsSeries, IsSpread}
+use Rattle.statistics.specs.Cases.{AreCases}
+use Rattle.statistics.specs.Series.{IsSpread}
+use Rattle.statistics.specs.Spike.{AreSpikes}
+use Rattle.statistics.specs.Step.{IsStep}
 use Rattle.statistics.specs.Trend.{IsTrend}
 use Rattle.statistics.specs.Wide.{at_most}
 
@@ -52,6 +56,18 @@ delay_correction_by Response n r = option_map
 abbrev pub delay_correction_of : Noted → Option Point
 delay_correction_of n = option_and_then (λ r. delay_correction_by r.by n r) n.reported
 
+-- how old the delay of an offset was: the time between t2 and t3 of the report that a Sync completed
+abbrev pub age_by : Half → Noted → Reported → Option Point
+age_by Sync n r = option_map (λ x. record { line = n.line; time = n.time; value = pos (age x) }) r.exchange
+age_by Response n r = None
+
+abbrev pub age_of : Noted → Option Point
+age_of n = option_and_then (λ r. age_by r.by n r) n.reported
+
+-- more than 10 s
+abbrev pub if_stale : Option Point → Option Point
+if_stale age = option_and_then (λ p. if int_lt (pos 655360000000000) p.value then Some p else None) age
+
 -- a Sync that arrived when it left, corrected: t2 less the corrected t1 is 0, so the offset is the path delay below 0
 abbrev pub is_sync_at_once : Half → Reported → Bool
 is_sync_at_once Sync r = int_eq (r.report.offset2 +ℤ r.report.path2) (pos 0)
@@ -73,11 +89,15 @@ last_reported (n ∷ earlier) = if is_some n.reported then Some n.time else last
 
 -- this is told of the reports of these datagrams
 pub record AreStatistics (all : List Noted) (s : Statistics) : Type 0 where
-  pub offsets : IsSeries (filter_map offset_of all) s.offsets
+  pub offsets : IsStep (filter_map offset_of all) s.offsets
   pub trend : IsTrend (filter_map offset_of all) s.trend
-  pub paths : IsSeries (filter_map path_of all) s.paths
+  pub spikes : AreSpikes (filter_map offset_of all) s.spikes
+  pub paths : IsStep (filter_map path_of all) s.paths
+  pub path_trend : IsTrend (filter_map path_of all) s.path_trend
   pub sync_corrections : IsSpread (filter_map sync_correction_of all) s.sync_corrections
   pub delay_corrections : IsSpread (filter_map delay_correction_of all) s.delay_corrections
+  pub ages : IsSpread (filter_map age_of all) s.ages
+  pub stale : AreCases (filter_map (λ n. if_stale (age_of n)) all) s.stale
   pub requests_at_once : s.requests_at_once ≡ count_reported is_request_at_once all
   pub syncs_at_once : s.syncs_at_once ≡ count_reported is_sync_at_once all
   pub last : s.last ≡ last_reported all
@@ -112,11 +132,11 @@ pub record AreTimes (all : List Noted) (t : Times) : Type 0 where
   pub last : t.last ≡ last_time all
 
 -- ---- datagrams
--- one has fewer octets than its messageLength says
+-- one has fewer octets than a header has, or than its messageLength says
 abbrev pub is_cut : Option DecodeRefusal → Bool
 is_cut None = false
 is_cut (Some Truncated) = true
-is_cut (Some Short) = false
+is_cut (Some Short) = true
 is_cut (Some Version) = false
 is_cut (Some (OtherType number)) = false
 is_cut (Some LengthField) = false

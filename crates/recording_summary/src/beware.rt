@@ -5,8 +5,11 @@ use crate::counts::Counts;
 use crate::kind::Kind;
 use crate::no_report::NoReport;
 use crate::quality::{Statistics, Times};
+use crate::told::Told;
 use ptp_units::{Nanoseconds, ScaledTime};
-use statistics::{Point, Series, Signed, Spread, Thousandths, deviation, mean, slope};
+use statistics::{
+    Point, Series, Signed, Spread, Step, Thousandths, Trend, deviation, mean, shift_of, slope,
+};
 use std::fmt;
 use std::fmt::{Display, Formatter};
 use std::io::Write;
@@ -22,6 +25,9 @@ const SILENCE: u128 = 100;
 
 /// From how many offsets on it is told that they run away.
 const OFFSETS: u64 = 16;
+
+/// From how many thousandths of a nanosecond on a step is told: a microsecond.
+const STEP: u128 = 1_000_000;
 
 /// From how many thousand-millionths on it is told that offsets run away.
 const SLOPE: u128 = 1000;
@@ -93,6 +99,14 @@ fn tell_series<E: Write>(name: &str, series: &Series, unit: &'static str, errors
     );
 }
 
+/// Whether there are corrections, and all are 0.
+fn is_zero(spread: &Spread) -> bool {
+    match (spread.least, spread.greatest) {
+        (Some(least), Some(greatest)) => least.value == 0 && greatest.value == 0,
+        _ => false,
+    }
+}
+
 /// Tells of corrections, where there are any.
 fn tell_spread<E: Write>(name: &str, spread: &Spread, unit: &'static str, errors: &mut E) {
     let (Some(least), Some(greatest)) = (spread.least, spread.greatest) else {
@@ -132,9 +146,33 @@ fn doubt_paths<E: Write>(paths: &Series, is_of_slave: bool, unit: &'static str, 
     }
 }
 
+/// Tells where one step in values explains most of how they vary, and whether it does. What can't be written is lost.
+fn tell_step<E: Write>(
+    name: &str,
+    why: &str,
+    step: &Step,
+    trend: &Trend,
+    unit: &'static str,
+    errors: &mut E,
+) -> bool {
+    let (Some(change), Some(shift)) = (step.greatest, shift_of(step, trend)) else {
+        return false;
+    };
+    let is_told = step.all.count >= OFFSETS && shift.explains_most && shift.by.size >= STEP;
+    if is_told {
+        let _ = writeln!(
+            errors,
+            "ptpx: beware: the {name} steps by {} ns (rounded) at {unit} {}: {why}",
+            Thousandths(shift.by),
+            change.to.line
+        );
+    }
+    is_told
+}
+
 /// Tells what speaks against offsets. What can't be written is lost.
-fn doubt_offsets<E: Write>(statistics: &Statistics, errors: &mut E) {
-    let offsets = &statistics.offsets;
+fn doubt_offsets<E: Write>(statistics: &Statistics, unit: &'static str, errors: &mut E) {
+    let offsets = &statistics.offsets.all;
     if let (Some(least), Some(greatest)) = (offsets.least, offsets.greatest) {
         let seconds = whole_seconds(least.value);
         let others = whole_seconds(greatest.value);
@@ -153,6 +191,16 @@ fn doubt_offsets<E: Write>(statistics: &Statistics, errors: &mut E) {
             );
         }
     }
+    if tell_step(
+        "offset",
+        "a clock was set there, or the way changed",
+        &statistics.offsets,
+        &statistics.trend,
+        unit,
+        errors,
+    ) {
+        return;
+    }
     if offsets.count >= OFFSETS
         && let Some(slope) = slope(offsets, &statistics.trend)
         && slope.explains_half
@@ -169,7 +217,7 @@ fn doubt_offsets<E: Write>(statistics: &Statistics, errors: &mut E) {
 
 /// Tells where all reports look as those at a master's own port, and whether they do. What can't be written is lost.
 fn doubt_port<E: Write>(statistics: &Statistics, errors: &mut E) -> bool {
-    let Statistics { offsets, paths, .. } = statistics;
+    let (offsets, paths) = (&statistics.offsets.all, &statistics.paths.all);
     let requests = paths.count > 1 && statistics.requests_at_once == paths.count;
     let syncs = offsets.count > 1 && statistics.syncs_at_once == offsets.count;
     if requests || syncs {
@@ -199,28 +247,29 @@ fn silence(times: &Times, last: Option<ScaledTime>, count: u64) -> Option<u128> 
     }
 }
 
-/// Tells what speaks against times. What can't be written is lost.
-fn doubt_times<E: Write>(times: &Times, unit: &'static str, errors: &mut E) {
-    if times.falls > 0 {
-        let _ = writeln!(
-            errors,
-            "ptpx: beware: times that are before that of the {unit} before: {}; a clock was set, or the {unit}s aren't in order",
-            times.falls
-        );
-    }
-}
-
 impl Counts {
     /// Tells what speaks against the numbers, in lines. What can't be written is lost.
     pub(crate) fn tell_doubts<E: Write>(&self, unit: &'static str, errors: &mut E) {
         let quality = &self.quality;
         let is_of_slave = !doubt_port(&quality.statistics, errors);
-        doubt_paths(&quality.statistics.paths, is_of_slave, unit, errors);
-        doubt_offsets(&quality.statistics, errors);
+        doubt_paths(&quality.statistics.paths.all, is_of_slave, unit, errors);
+        doubt_offsets(&quality.statistics, unit, errors);
+        tell_step(
+            "path delay",
+            "the way changed, or a clock was set there",
+            &quality.statistics.paths,
+            &quality.statistics.path_trend,
+            unit,
+            errors,
+        );
         self.doubt_end(unit, errors);
         self.doubt_datagrams(errors);
-        if self.reports > 0 {
-            doubt_times(&quality.times, unit, errors);
+        for beware in self.bewares().iter().flatten() {
+            let told = Told {
+                beware: *beware,
+                unit,
+            };
+            let _ = writeln!(errors, "ptpx: beware: {told}");
         }
     }
 
@@ -236,7 +285,7 @@ impl Counts {
         let unreported = reasons.iter().fold(0_u64, |sum, why| {
             sum.saturating_add(self.at(Kind::Sync, *why))
         });
-        unreported.max(self.quality.statistics.offsets.count)
+        unreported.max(self.quality.statistics.offsets.all.count)
     }
 
     /// Tells where the Syncs of the master, or else the reports, end long before the recording does. What can't be written is lost.
@@ -264,37 +313,25 @@ impl Counts {
                 sum.saturating_add(self.at(*kind, NoReport::Before))
             });
         doubt_repeats(repeats, &self.others.repeats, errors);
-        if self.quality.cut > 0 {
-            let _ = writeln!(
-                errors,
-                "ptpx: beware: datagrams that are cut short (205): {}; a snap length does that, so record whole packets",
-                self.quality.cut
-            );
-        }
         doubt_others(&self.others, errors);
     }
 
-    /// Tells what all times are, where that is worth telling, and the statistics of the reports, in lines. What can't be written is
-    /// lost.
+    /// Tells the statistics of the reports, in lines. What can't be written is lost.
     pub(crate) fn tell_statistics<E: Write>(&self, unit: &'static str, errors: &mut E) {
-        let Times { finer, last, .. } = self.quality.times;
-        if last.is_some() && finer == 0 {
-            let _ = writeln!(errors, "ptpx: all times are of whole microseconds");
-        }
         let statistics = &self.quality.statistics;
-        tell_series("offsets at a Sync", &statistics.offsets, unit, errors);
-        tell_series("path delays at a response", &statistics.paths, unit, errors);
-        tell_spread(
-            "corrections at a Sync",
-            &statistics.sync_corrections,
-            unit,
-            errors,
-        );
-        tell_spread(
-            "corrections at a response",
-            &statistics.delay_corrections,
-            unit,
-            errors,
-        );
+        let (offsets, paths) = (&statistics.offsets.all, &statistics.paths.all);
+        tell_series("offsets at a Sync", offsets, unit, errors);
+        tell_series("path delays at a response", paths, unit, errors);
+        let spreads = [
+            ("corrections at a Sync", &statistics.sync_corrections),
+            ("corrections at a response", &statistics.delay_corrections),
+        ];
+        if spreads.iter().all(|(_, spread)| is_zero(spread)) {
+            let _ = writeln!(errors, "ptpx: all corrections are 0 ns");
+            return;
+        }
+        for (name, spread) in spreads {
+            tell_spread(name, spread, unit, errors);
+        }
     }
 }

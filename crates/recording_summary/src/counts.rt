@@ -38,10 +38,6 @@ impl Display for Counted {
 pub struct Counts {
     /// How many reports were written.
     pub reports: u64,
-    /// How often the slave began anew.
-    pub slave_anew: u64,
-    /// How often the master began its numbers anew.
-    pub master_anew: u64,
     /// How many datagrams of each kind gave no report, for each reason: for a kind those of all reasons in order, and so kind by
     /// kind.
     pub unreported: [u64; PLACES],
@@ -66,8 +62,6 @@ impl Counts {
     {
         Counts {
             reports: 0,
-            slave_anew: 0,
-            master_anew: 0,
             unreported: [0; PLACES],
             quality: Quality::new(),
             others: Others::new(),
@@ -102,19 +96,7 @@ impl Counts {
                 self.tell_count(kind, why, errors);
             }
         }
-        let _ = match self.slave_anew {
-            0 => Ok(()),
-            1 => writeln!(errors, "ptpx: the slave began anew once"),
-            count => writeln!(errors, "ptpx: the slave began anew {count} times"),
-        };
-        let _ = match self.master_anew {
-            0 => Ok(()),
-            1 => writeln!(errors, "ptpx: the master began its numbers anew once"),
-            count => writeln!(
-                errors,
-                "ptpx: the master began its numbers anew {count} times"
-            ),
-        };
+        self.tell_flows(unit, errors);
         self.tell_statistics(unit, errors);
     }
 

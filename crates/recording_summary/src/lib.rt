@@ -4,16 +4,22 @@
 
 mod beware;
 mod beware_others;
+mod bewares;
 mod callers;
 mod counts;
+mod flow_text;
+mod flows;
 mod kind;
 mod no_report;
 mod others;
 mod quality;
+mod told;
 mod whom;
 
+pub use bewares::{Beware, Lost};
 pub use callers::Callers;
 pub use counts::Counts;
+pub use flows::Flows;
 pub use kind::Kind;
 pub use no_report::NoReport;
 pub use others::{

@@ -8,7 +8,9 @@ ghost use Rattle.recording_summary.specs.Others.{AreRepeats, is_for, with_more, 
 ghost use Rattle.recording_summary.specs.Others.{other_domain, AreDomains, AreOthers};
 ghost use Rattle.recording_summary.specs.Inner.Others.{with_kept};
 
-use event_codec::PortIdentity;
+use crate::flows::Flows;
+use crate::no_report::NoReport;
+use event_codec::{Header, PortIdentity};
 use ptp_units::{ScaledTime, Seq};
 
 /// How many senders are listed by themselves.
@@ -54,6 +56,12 @@ pub struct Meeting {
     pub time: ScaledTime,
     /// Of whom it is.
     pub met: Met,
+    /// Its header.
+    pub header: Header,
+    /// Why it gave no report, if it gave none.
+    pub why: Option<NoReport>,
+    /// Whether its sender begins its numbers anew with it.
+    pub begins: bool,
 }
 
 /// A port, and how many messages it sent. The count stays at 2^64 - 1.
@@ -133,6 +141,8 @@ pub struct Others {
     pub turn: Turn,
     /// What came twice.
     pub repeats: Repeats,
+    /// What came, and what is missing.
+    pub flows: Flows,
 }
 
 /// Whether this is a Sync of the master that is watched.
@@ -149,7 +159,12 @@ fn is_master_sync(met: Met) -> bool
 fn newcomer_of(meeting: &Meeting) -> Option<Newcomer>
     ensures { result ≡ newcomer_of meeting.now }
 {
-    let Meeting { line, time, met } = *meeting;
+    let Meeting {
+        line,
+        time,
+        met,
+        ..
+    } = *meeting;
     match met {
         Met::Master(MessageKind::Sync, port) => Some(Newcomer { port, line, time }),
         _ => None,
@@ -373,11 +388,12 @@ impl Others {
                 least: None,
                 greatest: None,
             },
+            flows: Flows::new(),
         }
     }
 
-    /// Takes a message of the recording: who else it says is there, until when the master sends, and what
-    /// came twice.
+    /// Takes a message of the recording: who else it says is there, until when the master sends, what
+    /// came twice, and what is missing.
     pub fn take(&mut self, meeting: &Meeting)
         ensures { (earlier : List Meeting) → AreOthers earlier self.old → AreOthers (meeting.now ∷ earlier) self.new }
     {
@@ -386,5 +402,6 @@ impl Others {
         count_domain(&mut self.domains, other_domain(meeting));
         self.turn.take(meeting);
         self.repeats.take(meeting);
+        self.flows.take(meeting);
     }
 }

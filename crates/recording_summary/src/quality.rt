@@ -1,16 +1,20 @@
 ghost use Rattle.std.specs.Prelude.{◌≡◌, pos, ◌+ℤ◌, List, [], ◌∷◌, Option, Some, None, option_map};
 ghost use Rattle.std.specs.Ordering.{int_eq};
 ghost use Rattle.recording_summary.specs.Noted.{Noted};
-ghost use Rattle.recording_summary.specs.Quality.{is_finer, is_cut, is_fall, AreStatistics, AreTimes, IsQuality};
+ghost use Rattle.slave_port.specs.Exchange.{age};
+ghost use Rattle.recording_summary.specs.Quality.{is_finer, is_cut, is_fall, if_stale, AreStatistics, AreTimes, IsQuality};
 
 use event_codec::DecodeRefusal;
 use ptp_units::ScaledTime;
 use recording_lines::Half;
 use slave_port::{LastExchange, Report};
-use statistics::{Point, Series, Spread, Trend, count_if};
+use statistics::{Cases, Point, Spikes, Spread, Step, Trend, count_if};
 
 /// A microsecond, in units of 2^-16 ns.
 const MICROSECOND: u128 = 65_536_000;
+
+/// From which age on the delay of an offset is too old, in units of 2^-16 ns: 10 s.
+const STALE: i128 = 655_360_000_000_000;
 
 /// What is told of the reports of a recording. Offsets and path delays are in 2^-17 ns, as reports have them, and times in
 /// 2^-16 ns. Each count stays
@@ -18,15 +22,23 @@ const MICROSECOND: u128 = 65_536_000;
 #[derive(Clone, Copy, Debug, PartialEq, Eq)]
 pub struct Statistics {
     /// The offsets of the reports that a Sync completed, at the time of the line that did.
-    pub offsets: Series,
+    pub offsets: Step,
     /// What a line through these offsets is drawn by.
     pub trend: Trend,
+    /// Which of these offsets lie apart from both of their neighbours.
+    pub spikes: Spikes,
     /// The path delays of the reports that a Delay_Resp completed.
-    pub paths: Series,
+    pub paths: Step,
+    /// What a line through these path delays is drawn by.
+    pub path_trend: Trend,
     /// What Sync and Follow_Up were corrected by together, of the reports that a Sync completed, in 2^-16 ns.
     pub sync_corrections: Spread,
     /// What the Delay_Resp was corrected by, of the reports that it completed, in 2^-16 ns.
     pub delay_corrections: Spread,
+    /// How old the delay was of each offset, in 2^-16 ns: the time between t2 and t3 of the report that a Sync completed.
+    pub ages: Spread,
+    /// The offsets whose delay was older than 10 s, with its age.
+    pub stale: Cases,
     /// How many reports that a Delay_Resp completed have offset and path delay equal: the corrected arrival of the request is when it
     /// left.
     pub requests_at_once: u64,
@@ -56,7 +68,7 @@ pub struct Quality {
     pub statistics: Statistics,
     /// What is told of its times.
     pub times: Times,
-    /// How many datagrams are cut short: they have fewer octets than messageLength (205). It stays at 2^64 - 1.
+    /// How many datagrams are cut short: they have fewer octets than a header (201), or than messageLength (205). It stays at 2^64 - 1.
     pub cut: u64,
 }
 
@@ -71,7 +83,10 @@ fn is_finer(time: ScaledTime) -> bool
 fn is_cut(refusal: Option<DecodeRefusal>) -> bool
     ensures { result ≡ is_cut refusal }
 {
-    matches!(refusal, Some(DecodeRefusal::Truncated))
+    matches!(
+        refusal,
+        Some(DecodeRefusal::Short | DecodeRefusal::Truncated)
+    )
 }
 
 /// Whether a time is before another one.
@@ -104,10 +119,12 @@ fn path_at(line: u64, time: ScaledTime, report: &Report) -> Point
 }
 
 /// What Sync and Follow_Up of an exchange were corrected by, whose report a line of this time completed.
-fn sync_correction_at(line: u64, time: ScaledTime, exchange: Option<LastExchange>) -> Option<Point>
-    ensures { result ≡ option_map (λ x. record { line = line; time = time; value = x.sync_correction +ℤ x.follow_correction }) exchange }
+fn sync_correction_at(line: u64, time: ScaledTime, exchange: &Option<LastExchange>) -> Option<Point>
+    ensures { result ≡ option_map (λ x. record { line = line; time = time; value = x.sync_correction +ℤ x.follow_correction }) exchange.now }
 {
-    let exchange = exchange?;
+    let Some(exchange) = exchange else {
+        return None;
+    };
     Some(Point {
         line,
         time: time.value(),
@@ -125,6 +142,28 @@ fn delay_correction_at(line: u64, time: ScaledTime, exchange: Option<LastExchang
         time: time.value(),
         value: i128::from(exchange.response_correction),
     })
+}
+
+/// How old the delay of an exchange is, whose report a line of this time completed.
+fn age_at(line: u64, time: ScaledTime, exchange: &Option<LastExchange>) -> Option<Point>
+    ensures { result ≡ option_map (λ x. record { line = line; time = time; value = pos (age x) }) exchange.now }
+{
+    let Some(exchange) = exchange else {
+        return None;
+    };
+    Some(Point {
+        line,
+        time: time.value(),
+        value: exchange.age() as i128,
+    })
+}
+
+/// The same, where it is more than 10 s.
+fn stale_at(line: u64, time: ScaledTime, exchange: &Option<LastExchange>) -> Option<Point>
+    ensures { result ≡ if_stale (option_map (λ x. record { line = line; time = time; value = pos (age x) }) exchange.now) }
+{
+    let age = age_at(line, time, exchange)?;
+    if age.value > STALE { Some(age) } else { None }
 }
 
 /// Whether the Sync of a report arrived, corrected, when it left.
@@ -150,11 +189,15 @@ impl Statistics {
         ensures { AreStatistics [] result }
     {
         Statistics {
-            offsets: Series::new(),
+            offsets: Step::new(),
             trend: Trend::new(),
-            paths: Series::new(),
+            spikes: Spikes::new(),
+            paths: Step::new(),
+            path_trend: Trend::new(),
             sync_corrections: Spread::new(),
             delay_corrections: Spread::new(),
+            ages: Spread::new(),
+            stale: Cases::new(),
             requests_at_once: 0,
             syncs_at_once: 0,
             last: None,
@@ -185,12 +228,17 @@ impl Statistics {
                 let offset = offset_at(line, time, report);
                 self.offsets.take(offset);
                 self.trend.take(offset);
+                self.spikes.take(offset);
                 self.sync_corrections
-                    .take_some(sync_correction_at(line, time, exchange));
+                    .take_some(sync_correction_at(line, time, &exchange));
+                self.ages.take_some(age_at(line, time, &exchange));
+                self.stale.take_some(stale_at(line, time, &exchange));
                 self.syncs_at_once = count_if(self.syncs_at_once, is_sync_at_once(report));
             }
             Half::Response => {
-                self.paths.take(path_at(line, time, report));
+                let path = path_at(line, time, report);
+                self.paths.take(path);
+                self.path_trend.take(path);
                 self.delay_corrections
                     .take_some(delay_correction_at(line, time, exchange));
                 self.requests_at_once = count_if(self.requests_at_once, is_request_at_once(report));

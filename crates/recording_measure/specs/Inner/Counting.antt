@@ -1,5 +1,5 @@
 -- What is counted by one datagram more.
-use Rattle.std.specs.Prelude.{ℕ, ◌==◌, Bool, true, false, List, [], if◌then◌else◌}
+use Rattle.std.specs.Prelude.{ℕ, ◌==◌, ◌||◌, Bool, true, false, List, [], if◌then◌else◌}
 use Rattle.std.specs.Prelude.{Option, Some, None}
 use Rattle.event_codec.specs.declared.message.Header.{Header}
 use Rattle.recording_measure.specs.declared.listener.Became.{Became}
@@ -23,12 +23,6 @@ abbrev pub with_why : Kind → Option NoReport → Counts → Counts
 with_why kind None counts = counts
 with_why kind (Some why) counts = with_unreported kind why counts
 
--- the slave or the master began anew
-abbrev pub with_anew : Became → Counts → Counts
-with_anew Anew counts = record counts { slave_anew = with_one counts.slave_anew }
-with_anew (HeardAnew reply) counts = record counts { master_anew = with_one counts.master_anew }
-with_anew _ counts = counts
-
 -- why a message gave no report of which this became in this domain
 abbrev pub why_by : (domain : ℕ) → Header → Became → Option NoReport
 why_by domain header (Heard reply) = why_answered reply.heard
@@ -47,3 +41,7 @@ is_slave_anew _ = false
 abbrev pub is_master_anew : Became → Bool
 is_master_anew (HeardAnew reply) = true
 is_master_anew _ = false
+
+-- whether one of them did
+abbrev pub is_anew : Became → Bool
+is_anew became = is_slave_anew became || is_master_anew became

@@ -10,7 +10,7 @@ use Rattle.recording_summary.specs.declared.others.Others.{Others}
 use Rattle.recording_summary.specs.Others.{AreOthers}
 use Rattle.std.specs.Prelude.{filter_map}
 use Rattle.std.specs.List.{cons_option}
-use Rattle.recording_measure.specs.Inner.Counting.{with_why, with_anew, why_by}
+use Rattle.recording_measure.specs.Inner.Counting.{with_why, why_by, is_anew}
 use Rattle.datagram_source.specs.Said.{reading_of}
 use Rattle.recording_measure.specs.Inner.Hearing.{recorded_of}
 use Rattle.recording_measure.proofs.Counting.{IsNoted, heard_counts, refused_counts, noted_counts}
@@ -35,12 +35,12 @@ returns-in_err-report_in-clause-counted c = λ watched earlier all listens so.
     let counts : Counts = c.note.new.self.counts in
     let others : Others = c.count_heard.new.self.counts.others in
     let is = c.count_heard.ensures.counted
-    ∙ ap (λ (n : ℕ). record (with_why (kind_of m.body) (why_by n m.header became) (with_anew became counts)) { others = others }) domain in
+    ∙ ap (λ (n : ℕ). record (with_why (kind_of m.body) (why_by n m.header became) counts) { others = others }) domain in
     let noted : IsNoted (fate_in watched d l) all counts = noted_counts (fate_in watched d l) all c.args.self.now.tally.counts counts so
     c.note.ensures.others (c.note.ensures.quality (fate_in watched d l) all refl refl so.quality) in
     subst (IsCounts (fate_in watched d l ∷ all)) (sym is)
     (heard_counts watched d m l became all counts others (ap reading_of c.in-Ok.is) (c.hear-became.ensures.became watched l listens) noted
-    (subst (λ (n : ℕ). AreOthers (cons_option (meeting_at d.line d.time m.body m.header (why_by n m.header became)) (filter_map meeting_of all))
+    (subst (λ (n : ℕ). AreOthers (cons_option (meeting_at d.line d.time m.body m.header (why_by n m.header became) (is_anew became)) (filter_map meeting_of all))
     others) domain (c.count_heard.ensures.others (filter_map meeting_of all) noted.others)))
 
 pub returns-clause-counted : goal.returns-clause-counted
@@ -53,10 +53,10 @@ returns-clause-counted c = λ watched earlier all listens so.
     let counts : Counts = c.note.new.self.counts in
     let others : Others = c.count_heard.new.self.counts.others in
     let is = c.count_heard.ensures.counted
-    ∙ ap (λ (n : ℕ). record (with_why (kind_of m.body) (why_by n m.header became) (with_anew became counts)) { others = others }) domain in
+    ∙ ap (λ (n : ℕ). record (with_why (kind_of m.body) (why_by n m.header became) counts) { others = others }) domain in
     let noted : IsNoted (fate_in watched d l) all counts = noted_counts (fate_in watched d l) all c.args.self.now.tally.counts counts so
     c.note.ensures.others (c.note.ensures.quality (fate_in watched d l) all refl refl so.quality) in
     subst (IsCounts (fate_in watched d l ∷ all)) (sym is)
     (heard_counts watched d m l became all counts others (ap reading_of c.in-Ok.is) (c.hear-became.ensures.became watched l listens) noted
-    (subst (λ (n : ℕ). AreOthers (cons_option (meeting_at d.line d.time m.body m.header (why_by n m.header became)) (filter_map meeting_of all))
+    (subst (λ (n : ℕ). AreOthers (cons_option (meeting_at d.line d.time m.body m.header (why_by n m.header became) (is_anew became)) (filter_map meeting_of all))
     others) domain (c.count_heard.ensures.others (filter_map meeting_of all) noted.others)))

@@ -16,4 +16,5 @@ returns c = λ earlier so.
       domains = c.count_domain.ensures earlier c.args.meeting.now c.other_domain.ensures so.domains;
       turn = c.take.ensures earlier so.turn;
       repeats = c.take-2.ensures earlier so.repeats;
+      flows = c.take-3.ensures earlier so.flows;
     }
