@@ -11,7 +11,7 @@ enum Side {
 }
 
 /// How many columns there are.
-const COLUMNS_COUNT: usize = 13;
+const COLUMNS_COUNT: usize = 15;
 
 /// The head of each column, and where its cells stand: numbers at the right.
 const COLUMNS: [(&str, Side); COLUMNS_COUNT] = [
@@ -21,6 +21,8 @@ const COLUMNS: [(&str, Side); COLUMNS_COUNT] = [
     ("requesting", Side::Left),
     ("message", Side::Left),
     ("count", Side::Right),
+    ("lost", Side::Right),
+    ("interval", Side::Right),
     ("one-step", Side::Right),
     ("two-step", Side::Right),
     ("version", Side::Left),

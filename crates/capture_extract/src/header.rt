@@ -1,24 +1,15 @@
 //! What is read of a datagram: its header, and behind that who is answered.
-ghost use Rattle.std.specs.Prelude.{◌+◌, ◌≤◌, ◌<◌, length};
+
+ghost use Rattle.std.specs.Prelude.{◌≡◌, length};
 
 use crate::message_type::MessageType;
-use crate::port::Port;
-use ptp_units::Interval;
-
-/// The octets of the header that every message begins with (IEEE 1588-2019, 13.3).
-const HEADER_LENGTH: usize = 34;
+use event_codec::{DecodeRefusal, Header, PortIdentity, decode_header};
 
 /// The octet at which a requestingPortIdentity stands, behind the header and a timestamp.
 const REQUESTING_PLACE: usize = 44;
 
 /// The octets of a portIdentity.
 const IDENTITY_LENGTH: usize = 10;
-
-/// versionPTP of the messages that are listed.
-const VERSION: u8 = 2;
-
-/// twoStepFlag in the first octet of flagField.
-const TWO_STEP: u8 = 0x02;
 
 /// Why a datagram isn't listed.
 #[derive(Clone, Copy, Debug, PartialEq, Eq)]
@@ -31,70 +22,48 @@ pub(crate) enum Unlisted {
 
 /// The fields of a message that are listed.
 #[derive(Clone, Copy, Debug)]
-pub(crate) struct Header {
+pub(crate) struct Listed {
     /// messageType.
     pub(crate) message: MessageType,
-    /// minorVersionPTP, below 16.
-    pub(crate) minor_version: u8,
-    /// domainNumber.
-    pub(crate) domain: u8,
-    /// twoStepFlag, whether it has a meaning in this type or not.
-    pub(crate) two_step: bool,
-    /// correctionField, in units of 2^-16 ns.
-    pub(crate) correction: Interval,
-    /// sourcePortIdentity.
-    pub(crate) source: Port,
+    /// The fields that all messages have.
+    pub(crate) header: Header,
     /// requestingPortIdentity, in the types that have one.
-    pub(crate) requesting: Option<Port>,
-    ghost nibble: { minor_version < 16 },
+    pub(crate) requesting: Option<PortIdentity>,
 }
 
-/// The octets from a place on, so many.
-fn array_at<const N: usize>(octets: &[u8], place: usize) -> [u8; N]
-    requires { place + N ≤ length octets.now }
+/// The portIdentity that these octets are.
+fn identity_of(octets: &[u8]) -> PortIdentity
+    requires { length octets.now ≡ 10 }
 {
-    let mut array = [0; N];
-    array.copy_from_slice(&octets[place..place + N]);
-    array
-}
-
-/// The portIdentity at a place.
-fn port_at(octets: &[u8], place: usize) -> Port
-    requires { place + 10 ≤ length octets.now }
-{
-    Port {
-        clock: array_at(octets, place),
-        number: u16::from_be_bytes(array_at(octets, place + 8)),
+    let mut clock = [0; 8];
+    clock.copy_from_slice(&octets[..8]);
+    PortIdentity {
+        clock,
+        port: u16::from_be_bytes([octets[8], octets[9]]),
     }
 }
 
 /// The requestingPortIdentity of a message of this type, if it has one.
-fn requesting_in(message: MessageType, octets: &[u8]) -> Result<Option<Port>, Unlisted> {
+fn requesting_in(message: MessageType, octets: &[u8]) -> Result<Option<PortIdentity>, Unlisted> {
     if !message.has_requesting() {
         return Ok(None);
     }
-    if octets.len() < REQUESTING_PLACE + IDENTITY_LENGTH {
-        return Err(Unlisted::TooShort);
+    match octets.get(REQUESTING_PLACE..REQUESTING_PLACE + IDENTITY_LENGTH) {
+        Some(identity) => Ok(Some(identity_of(identity))),
+        None => Err(Unlisted::TooShort),
     }
-    Ok(Some(port_at(octets, REQUESTING_PLACE)))
 }
 
 /// Reads what is listed of a datagram.
-pub(crate) fn read_header(octets: &[u8]) -> Result<Header, Unlisted> {
-    if octets.get(1).is_some_and(|version| version % 16 != VERSION) {
-        return Err(Unlisted::OtherVersion);
-    }
-    if octets.len() < HEADER_LENGTH {
-        return Err(Unlisted::TooShort);
-    }
-    let message = MessageType::from_number(octets[0] % 16);
-    Ok(Header {
+pub(crate) fn read_listed(octets: &[u8]) -> Result<Listed, Unlisted> {
+    let (number, header) = decode_header(octets).map_err(|refusal| match refusal {
+        DecodeRefusal::Version => Unlisted::OtherVersion,
+        _ => Unlisted::TooShort,
+    })?;
+    let message = MessageType::from_number(number);
+    Ok(Listed {
         message,
-        minor_version: octets[1] / 16,
-        domain: octets[4],
-        two_step: octets[6] & TWO_STEP != 0,
-        correction: Interval(i64::from_be_bytes(array_at(octets, 8))),
-        source: port_at(octets, 20),
+        header,
         requesting: requesting_in(message, octets)?,
     })
 }

@@ -10,7 +10,6 @@ pub mod laws;
 mod line;
 mod listing;
 mod message_type;
-mod port;
 mod row;
 mod table;
 mod text;

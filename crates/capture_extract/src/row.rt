@@ -1,9 +1,10 @@
 //! A row of the table: messages of one kind.
 
-use crate::header::Header;
+use crate::header::Listed;
 use crate::message_type::MessageType;
-use crate::port::Port;
-use ptp_units::{Interval, Nanoseconds, Timestamp};
+use event_codec::PortIdentity;
+use ptp_units::{Interval, Nanoseconds, ScaledTime, Seq, Timestamp};
+use statistics::{Flow, Sent};
 use std::fmt;
 use std::fmt::{Display, Formatter};
 
@@ -18,11 +19,11 @@ pub(crate) struct RowKey {
     /// domainNumber.
     pub(crate) domain: u8,
     /// sourcePortIdentity.
-    pub(crate) source: Port,
+    pub(crate) source: PortIdentity,
     /// messageType.
     pub(crate) message: MessageType,
     /// requestingPortIdentity, in the types that have one.
-    pub(crate) requesting: Option<Port>,
+    pub(crate) requesting: Option<PortIdentity>,
 }
 
 /// Which minor versions were met.
@@ -67,6 +68,12 @@ impl Display for Time {
     }
 }
 
+/// How many numbers a message may be ahead of the one before, or behind it, in one life of its port.
+const REACH: u16 = 256;
+
+/// twoStepFlag in the first octet of flagField (IEEE 1588-2019, 13.3.2.8).
+const TWO_STEP: u8 = 0x02;
+
 /// The messages of a row. Counts stay at 2^64 - 1.
 #[derive(Clone, Copy, Debug)]
 pub(crate) struct Row {
@@ -79,11 +86,36 @@ pub(crate) struct Row {
     pub(crate) last: Timestamp,
     pub(crate) least: Interval,
     pub(crate) greatest: Interval,
+    /// What their numbers and times tell, but for copies.
+    pub(crate) flow: Flow,
+}
+
+/// Whether a number is too far from another one to be of its port's same life.
+fn is_far(number: Seq, newest: Seq) -> bool {
+    let ahead = number.0.wrapping_sub(newest.0);
+    let behind = newest.0.wrapping_sub(number.0);
+    ahead > REACH && behind > REACH
+}
+
+/// Whether a number is that of the newest message, as a copy has it.
+fn is_newest(flow: &Flow, number: Seq) -> bool {
+    match &flow.newest {
+        Some(newest) => newest.number == number,
+        None => false,
+    }
+}
+
+/// Whether a port begins anew with a number.
+fn begins(flow: &Flow, number: Seq) -> bool {
+    match &flow.newest {
+        Some(newest) => is_far(number, newest.number),
+        None => false,
+    }
 }
 
 impl Row {
     /// Before the first message, which is this one.
-    pub(crate) fn new(time: Timestamp, header: &Header) -> Row {
+    pub(crate) fn new(time: Timestamp, listed: &Listed) -> Row {
         Row {
             count: 0,
             one_step: 0,
@@ -91,23 +123,41 @@ impl Row {
             versions: Versions { met: [false; 16] },
             first: time,
             last: time,
-            least: header.correction,
-            greatest: header.correction,
+            least: listed.header.correction,
+            greatest: listed.header.correction,
+            flow: Flow::new(),
         }
     }
 
-    /// Counts a message of a packet of this time. A correctionField that is too big is above all others.
-    pub(crate) fn count(&mut self, time: Timestamp, header: &Header) {
+    /// Counts a message of the packet of this number and time. A correctionField that is too big is above all others.
+    pub(crate) fn count(&mut self, packet: u64, time: ScaledTime, listed: &Listed) {
+        let header = &listed.header;
         self.count = self.count.saturating_add(1);
-        let steps = if header.two_step {
+        let steps = if header.flags[0] & TWO_STEP != 0 {
             &mut self.two_step
         } else {
             &mut self.one_step
         };
         *steps = steps.saturating_add(1);
-        self.versions.met[usize::from(header.minor_version)] = true;
-        self.last = time;
+        self.versions.met[usize::from(header.minor_version.value())] = true;
+        let (last, _) = time.split();
+        self.last = last;
         self.least = Interval(self.least.0.min(header.correction.0));
         self.greatest = Interval(self.greatest.0.max(header.correction.0));
+        self.pass(packet, time, header.sequence);
+    }
+
+    /// Takes the number of a message, but for that of a copy.
+    fn pass(&mut self, line: u64, time: ScaledTime, number: Seq) {
+        if is_newest(&self.flow, number) {
+            return;
+        }
+        let begins = begins(&self.flow, number);
+        self.flow.take(&Sent {
+            line,
+            number,
+            time,
+            begins,
+        });
     }
 }

@@ -1,11 +1,11 @@
 //! The rows of messages, and what isn't in a row.
 
-use crate::header::{Header, Unlisted, read_header};
+use crate::header::{Listed, Unlisted, read_listed};
 use crate::interfaces::Interfaces;
 use crate::row::{Row, RowKey};
 use capture_file::Interface;
 use datagram_source::{Datagram, Place};
-use ptp_units::Timestamp;
+use ptp_units::ScaledTime;
 use std::alloc::{AllocError, Global};
 use std::collections::BTreeMap;
 
@@ -42,11 +42,8 @@ impl Table {
 
     /// Takes a datagram.
     pub(crate) fn take(&mut self, datagram: &Datagram<'_>) -> Result<(), AllocError> {
-        match read_header(datagram.octets) {
-            Ok(header) => {
-                let (time, _) = datagram.time.split();
-                return self.count(&datagram.place, time, &header);
-            }
+        match read_listed(datagram.octets) {
+            Ok(listed) => return self.count(datagram, &listed),
             Err(Unlisted::OtherVersion) => {
                 self.other_version = self.other_version.saturating_add(1);
             }
@@ -67,13 +64,8 @@ impl Table {
     }
 
     /// Counts a message in its row.
-    fn count(
-        &mut self,
-        place: &Place<'_>,
-        time: Timestamp,
-        header: &Header,
-    ) -> Result<(), AllocError> {
-        let interface = match place {
+    fn count(&mut self, datagram: &Datagram<'_>, listed: &Listed) -> Result<(), AllocError> {
+        let interface = match &datagram.place {
             Place::Interface(interface) => {
                 let Some(index) = self.interface(interface)? else {
                     self.further = self.further.saturating_add(1);
@@ -85,31 +77,33 @@ impl Table {
         };
         let key = RowKey {
             interface,
-            domain: header.domain,
-            source: header.source,
-            message: header.message,
-            requesting: header.requesting,
+            domain: listed.header.domain,
+            source: listed.header.source,
+            message: listed.message,
+            requesting: listed.requesting,
         };
-        self.count_at(key, time, header)
+        self.count_at(key, datagram.number, datagram.time, listed)
     }
 
     /// Counts a message in the row of a key, which is made where there is room.
     fn count_at(
         &mut self,
         key: RowKey,
-        time: Timestamp,
-        header: &Header,
+        packet: u64,
+        time: ScaledTime,
+        listed: &Listed,
     ) -> Result<(), AllocError> {
         if let Some(row) = self.rows.get_mut(&key) {
-            row.count(time, header);
+            row.count(packet, time, listed);
             return Ok(());
         }
         if self.rows.len() >= ROWS_MOST {
             self.further = self.further.saturating_add(1);
             return Ok(());
         }
-        let mut row = Row::new(time, header);
-        row.count(time, header);
+        let (first, _) = time.split();
+        let mut row = Row::new(first, listed);
+        row.count(packet, time, listed);
         self.rows.insert(key, row)?;
         Ok(())
     }

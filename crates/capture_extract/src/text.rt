@@ -3,9 +3,11 @@
 use crate::cells::Cells;
 use crate::interfaces::{Argument, Label};
 use crate::message_type::MessageType;
-use crate::port::Port;
 use crate::row::{Correction, Row, RowKey, Time};
 use crate::table::{ROWS_MOST, Table};
+use datagram_text::Identity;
+use event_codec::PortIdentity;
+use statistics::{Milliseconds, mean};
 use std::alloc::{AllocError, Global};
 use std::fmt;
 use std::fmt::{Display, Formatter, Write};
@@ -51,8 +53,8 @@ struct Call<'a> {
     /// The interface, where it has to be named.
     interface: Option<&'a Label>,
     domain: u8,
-    master: Port,
-    slave: Port,
+    master: PortIdentity,
+    slave: PortIdentity,
 }
 
 impl Display for Call<'_> {
@@ -64,7 +66,9 @@ impl Display for Call<'_> {
         write!(
             f,
             " --domain {} --master {} --slave {}",
-            self.domain, self.master, self.slave
+            self.domain,
+            Identity(&self.master),
+            Identity(&self.slave)
         )
     }
 }
@@ -79,10 +83,12 @@ fn push_row(
     let has_steps = key.message.has_steps();
     cells.push(&OrDash(interface))?;
     cells.push(&key.domain)?;
-    cells.push(&key.source)?;
-    cells.push(&OrDash(key.requesting))?;
+    cells.push(&Identity(&key.source))?;
+    cells.push(&OrDash(key.requesting.as_ref().map(Identity)))?;
     cells.push(&key.message)?;
     cells.push(&row.count)?;
+    cells.push(&row.flow.missing())?;
+    cells.push(&OrDash(mean(&row.flow.intervals).map(Milliseconds::of_thousandths)))?;
     cells.push(&OrDash(has_steps.then_some(row.one_step)))?;
     cells.push(&OrDash(has_steps.then_some(row.two_step)))?;
     cells.push(&row.versions)?;
