@@ -15,7 +15,7 @@ WATCHED = re.compile('ptpx: (domain|master|slave) ([0-9a-f]+(?:/[0-9]+)?)(?:, (.
 TAPS = re.compile('ptpx: from ([A-Za-z0-9_.-]+) to ([A-Za-z0-9_.-]+)')
 NOT_FOLLOWED = re.compile('ptpx: (nothing was followed|nothing was met at|PTP was met at a third tap)')
 COUNT = re.compile('ptpx: (no|[0-9]+) (report|Sync|Delay_Req)s?(?: crossed from .*)?')
-WARNING = re.compile('ptpx: (beware:|fault |PTP was met at a third tap|all times are of whole microseconds|the (slave|master) began )')
+WARNING = re.compile('ptpx: (beware:|fault |PTP was met at a third tap)')
 LOST = re.compile('ptpx: (?:[0-9]+ (?:Sync|Delay_Req)s? (?:was|were) met at|nothing is told of|in [0-9]+ messages? fields) .*')
 
 

@@ -110,19 +110,20 @@ def long(first, begin, rate, two_step, requests, follow_first):
 
 
 def measured(lines):
-    """What `ptpx measure` reports of these lines, for this master and slave, and how often it says that the master began anew."""
+    """What `ptpx measure` reports of these lines, for this master and slave, how often it says that the master began anew, and at which line first."""
     arguments = ['--master', texts.port(MASTER), '--slave', texts.port(SLAVE), '--domain', '0']
     ended = ask(''.join(reading.line(time, octets) for _, time, octets in lines).encode(), 'measure', *arguments)
     if ended.status:
         fail(f'measure ends with status {ended.status}: {ended.errors!r}')
-    anew = re.search(rb'the master began its numbers anew (once|\d+)', ended.errors)
-    return [json.loads(line) for line in ended.output.splitlines()], int(anew[1].replace(b'once', b'1')) if anew else 0
+    anew = re.search(rb'beware: the master began its numbers anew (once|[0-9]+ times), (?:first )?at line ([0-9]+), at ', ended.errors)
+    often, place = (int(anew[1].split()[0].replace(b'once', b'1')), int(anew[2])) if anew else (0, None)
+    return [json.loads(line) for line in ended.output.splitlines()], often, place
 
 
 def wrong(made, nothing_lost):
     """What is wrong with the reports of a recording, in words, and how many reports there are."""
     lines = made.lines()
-    reports, anew = measured(lines)
+    reports, anew, anew_line = measured(lines)
     life = lambda line: int(line > len(made.said[0]))
     syncs = [place for place, (kind, _, _) in enumerate(lines, 1) if kind == 'sync' and life(place)]
     faults = []
@@ -144,6 +145,8 @@ def wrong(made, nothing_lost):
             faults.append(f'{len(reports)} reports, and not {owed}')
         if anew != apart:
             faults.append(f'the master began anew {anew} times')
+        elif anew and anew_line != syncs[0]:
+            faults.append(f'the master began anew at line {anew_line}, and not {syncs[0]}')
         if not any(report['tags'][0] == syncs[apart and made.follow_first] for report in reports):
             faults.append('the second life is not heard from its beginning on')
     return faults, len(reports)

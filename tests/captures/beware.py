@@ -5,6 +5,7 @@ of a good capture they are those of the reports that went out. A good capture ha
 Further captures, good ones, may be named as arguments; with -v it says what it found."""
 import json
 import pathlib
+import random
 import re
 import sys
 import typing
@@ -139,6 +140,76 @@ def other_domains(packets):
     return together(packets, [with_octet(it, 4, domain)._replace(time=it.time + 900 + domain) for it in of_kinds(packets, SYNC, FOLLOW_UP) for domain in (7, 3)])
 
 
+def without(packets, kind_lost, each):
+    """One in so many messages of a kind is lost."""
+    places = [at for at, it in enumerate(packets) if kind(it) == kind_lost]
+    lost = set(places[each // 2::each])
+    return [it for at, it in enumerate(packets) if at not in lost]
+
+
+def until(packets, seconds, *kinds):
+    """Messages of these kinds stop after so many seconds."""
+    end = packets[0].time + seconds * 10**9
+    return [it for it in packets if it.time < end or kind(it) not in kinds]
+
+
+def shuffled(packets):
+    mixed = list(packets)
+    random.Random(1588).shuffle(mixed)
+    return mixed
+
+
+def corrected(packet, units):
+    """The same, with a correction in 2^-16 ns."""
+    octets = message(packet)
+    return with_message(packet, octets[:8] + units.to_bytes(8, 'big', signed=True) + octets[16:])
+
+
+def later_stamp(packet, by):
+    """The same, with a timestamp that is so many nanoseconds later."""
+    octets = message(packet)
+    return with_message(packet, octets[:34] + stamp(said_by(packet).stamp // 2**16 + by) + octets[44:])
+
+
+def renumbered(packets, kinds, by):
+    """Messages of these kinds have other numbers."""
+    return [with_message(it, message(it)[:30] + ((said_by(it).sequence + by) % 2**16).to_bytes(2, 'big') + message(it)[32:]) if kind(it) in kinds else it
+            for it in packets]
+
+
+def still(packets):
+    """Each Sync and each Delay_Req takes 20 us, and the slave's clock is right."""
+    left = {said_by(it).sequence: said_by(it).stamp // 2**16 for it in packets if kind(it) == FOLLOW_UP}
+    asked = {said_by(it).sequence: it.time for it in packets if kind(it) == REQUEST}
+    bent = [it._replace(time=left[said_by(it).sequence] + 20_000) if kind(it) == SYNC else it for it in packets]
+    return together([later_stamp(it, asked[said_by(it).sequence] + 20_000 - said_by(it).stamp // 2**16) if kind(it) == RESPONSE else it for it in bent], [])
+
+
+def longer_back(packets, by):
+    """From the middle on Delay_Reqs take so many nanoseconds longer."""
+    return half_way(packets, lambda rest: [later_stamp(it, by) if kind(it) == RESPONSE else it for it in rest])
+
+
+# Words that stand in several.
+FALLS = r"times that are before that of the packet before: %d; a clock was set, or the packets aren't in order, and what is told of missing messages may come of that: reordercap sorts a capture$"
+CUT = r'datagrams that are cut short \(201, 205\): %d;'
+UNFOLLOWED = r"%d of %d two-step Syncs have no Follow_Up and give no offset: lost, or general messages \(port 320\) weren't recorded$"
+UNANSWERED = r"%d of %d Delay_Reqs have no Delay_Resp: lost, or the master doesn't answer them$"
+MISSING = r'%d of %d %s are missing, by their numbers: lost on the way or in recording$'
+OLD = (r'offsets that rest on a path delay older than 10 s: %d, the first at packet %d; the oldest was %s s old at packet %d: Delay_Reqs or their answers '
+       r"stopped, and path_ns isn't measured anew$")
+SLOWED = r'1 of 51 path delays are below 0, the least -%s ns at packet 182:'
+REPEATED = r'messages with a number that came before: 1;'
+MASTER_ANEW = r'the master began its numbers anew %s at packet %d, at %s: it was started anew, or another one took its identity$'
+SLAVE_ANEW = r'the slave began anew %s at packet %d, at %s: it was started anew, or many of its Delay_Reqs are missing$'
+COARSE = r'all times are of whole microseconds: no offset is better than 1 us;'
+
+def late_once(packets):
+    """One Sync in the middle is stamped 0.1 s late."""
+    late = of_kinds(packets, SYNC)[29]
+    return [it._replace(time=it.time + 10**8) if it is late else it for it in packets]
+
+
 # What setups do, and what is to be said of it.
 BENT = {
     'in UTC': (lambda it: shifted(it, -37 * 10**9), [r'all offsets are next to -37 s: .*editcap -t 37 ']),
@@ -148,26 +219,69 @@ BENT = {
     # each packet is there twice, as a mirror of both directions writes it
     'mirrored': (lambda it: [copy for one in it for copy in (one, *shifted([one], 4500))],
                  [r'messages with a number that came before: 218, from 4500 to 4500 ns after the first;']),
-    'with a snap length': (lambda it: [one._replace(snap=90) for one in it], [r'datagrams that are cut short \(205\): 51;']),
+    'with a snap length': (lambda it: [one._replace(snap=90) for one in it], [UNANSWERED % (51, 51), CUT % 51]),
     'at the master': (at_master, [r'all 51 requests arrive at the time at which they leave']),
     'with requests that are stamped late': (lambda it: [one._replace(time=one.time + 10**6) if kind(one) == REQUEST else one for one in it],
-                            [r'51 of 51 path delays are below 0, the least -', r'times that are before that of the packet before: 51;']),
-    'in steps of 0.1 ms': (lambda it: coarse(it, 10**5), [r'45 of 51 path delays are 0 exactly']),
+                            [r'51 of 51 path delays are below 0, the least -', FALLS % 51]),
+    'in steps of 0.1 ms': (lambda it: coarse(it, 10**5), [r'45 of 51 path delays are 0 exactly', COARSE]),
     # the slave turns to it
     'with another master': (lambda it: half_way(it, lambda rest: of_another(rest, (SYNC, FOLLOW_UP, RESPONSE), 0x99)),
                             [r'the Syncs of the master end \d+\.\d s before the recording does, and those of 020000fffe112299/1 begin at '
                              r'packet \d+; --master 020000fffe112299/1 measures by them',
-                             r'messages of other masters of the domain: \d+ of 020000fffe112299/1; --master picks one']),
+                             r'messages of other masters of the domain: \d+ of 020000fffe112299/1; --master picks one', UNANSWERED % (27, 51)]),
     'with ten other masters': (many_masters, [r'messages of other masters of the domain: 2 of 020000fffe112290/1, 1 of 020000fffe112291/1, .*, '
                                               r'1 of 020000fffe112297/1, 2 of further ones; --master picks one']),
     'with another slave': (lambda it: together(it, shifted(of_another(of_kinds(it, REQUEST), (REQUEST,), 0x77), 1000)),
                            [r'Delay_Reqs of other slaves of the domain: 51 of 020000fffeaabb77/1; --slave picks one']),
     'with other domains': (other_domains, [r'messages of other domains: 116 of domain 3, 116 of domain 7; --domain picks one']),
     # the slave goes on asking
-    'without a master in the end': (lambda it: half_way(it, lambda rest: of_kinds(rest, REQUEST)), [r'the Syncs of the master end \d+\.\d s before the recording does: it went away']),
-    'without a slave in the end': (lambda it: half_way(it, lambda rest: of_kinds(rest, SYNC, None)), [r'no report is of the last \d+\.\d s: the slave went away']),
+    'without a master in the end': (lambda it: half_way(it, lambda rest: of_kinds(rest, REQUEST)),
+                                    [r'the Syncs of the master end \d+\.\d s before the recording does: it went away', UNANSWERED % (27, 51)]),
+    'without a slave in the end': (lambda it: half_way(it, lambda rest: of_kinds(rest, SYNC, FOLLOW_UP, None)), [OLD % (21, 220, r'30\.672', 302)]),
+    'without reports in the end': (lambda it: half_way(it, lambda rest: of_kinds(rest, SYNC, None)),
+                                   [r'no report is of the last \d+\.\d s: the slave went away', UNFOLLOWED % (31, 58)]),
+    # answers or requests stop, and Syncs go on
+    'without Delay_Reqs after 20 s': (lambda it: until(it, 20, REQUEST, RESPONSE), [OLD % (31, 161, r'40\.999', 284)]),
+    'without Delay_Resps after 20 s': (lambda it: until(it, 20, RESPONSE), [OLD % (31, 170, r'40\.999', 320), UNANSWERED % (36, 51)]),
+    'with one in 10 Follow_Ups lost': (lambda it: without(it, FOLLOW_UP, 10), [UNFOLLOWED % (6, 58)]),
+    'with one in 5 Syncs lost': (lambda it: without(it, SYNC, 5), [MISSING % (11, 57, 'Syncs')]),
+    'with one in 5 Delay_Reqs lost': (lambda it: without(it, REQUEST, 5), [MISSING % (10, 51, 'Delay_Reqs')]),
+    'with half of the Delay_Resps lost': (lambda it: without(it, RESPONSE, 2), [UNANSWERED % (25, 51)]),
+    'with one Sync and one Delay_Resp lost': (lambda it: without(without(it, SYNC, 58), RESPONSE, 51), []),
+    'without Follow_Ups': (lambda it: without(it, FOLLOW_UP, 1), [UNFOLLOWED % (58, 58)]),
+    'with Delay_Reqs that have a correction': (lambda it: [corrected(one, 5000 * 2**16) if kind(one) == REQUEST else one for one in it],
+                                               [r'Delay_Reqs that have a correction where they were recorded: 51, the first at packet 22; a transparent clock '
+                                                r'stands between the slave and this place, and both results are off by half of the time in it, unless the slave itself corrects an asymmetry: record in front of it$']),
+    'with a snap length of 60': (lambda it: [one._replace(snap=60) for one in it], [CUT % 335]),
+    # no report is left of either
+    'in reverse': (lambda it: it[::-1], [FALLS % 334, UNFOLLOWED % (55, 56), UNANSWERED % (51, 51),
+                                         MASTER_ANEW % ('56 times, first', 8, r'1795329198\.843530988'), SLAVE_ANEW % ('50 times, first', 12, r'1795329198\.452161276')]),
+    'shuffled': (shuffled, [r'the Syncs of the master end 25\.0 s before the recording does: it went away', FALLS % 162, MISSING % (514, 572, 'Syncs'), UNFOLLOWED % (57, 58),
+                            MISSING % (476, 527, 'Delay_Reqs'), UNANSWERED % (50, 51),
+                            MASTER_ANEW % ('31 times, first', 16, r'1795329163\.837999592'), SLAVE_ANEW % ('24 times, first', 10, r'1795329146\.246519843')]),
+    # one Delay_Resp takes a Sync from before the step
+    'stepped by 1 ms': (lambda it: half_way(it, lambda rest: shifted(rest, 10**6)),
+                        [SLOWED % 482238, r'the offset steps by 1001501\.792 ns \(rounded\) at packet 185: a clock was set there, or the way changed$']),
+    'stepped by 37 s': (lambda it: half_way(it, lambda rest: shifted(rest, 37 * 10**9)),
+                        [SLOWED % 18499981721, r'the offset steps by 37000001544\.570 ns \(rounded\) at packet 185: ', REPEATED]),
+    # a step is told where it is the greatest change from one to the next: of 5 us it isn't here, where path delays vary as much, and is where they don't
+    'with a way back that is 5 us longer in the end': (lambda it: longer_back(it, 5000), []),
+    'with a way back that is 50 us longer in the end': (lambda it: longer_back(it, 50_000),
+                                                        [r'the offset steps by -23498\.208 ns \(rounded\) at packet 185: a clock was set there, or the way changed$',
+                                                         r'the path delay steps by 27283\.569 ns \(rounded\) at packet 182: the way changed, or a clock was set there$']),
+    'with one Sync that is stamped 0.1 s late': (late_once, [FALLS % 1, r'the offset at packet \d+ lies \d+ ns from both of its neighbours, more than a '
+                                                             r'hundred times as far as offsets change else: its Sync was held up, or stamped late$']),
+    'still': (still, []),
+    'still, with a way back that is 5 us longer in the end': (lambda it: longer_back(still(it), 5000),
+                                                              [r'the offset steps by -2500\.000 ns \(rounded\) at packet 185: a clock was set there, or the way changed$',
+                                                               r'the path delay steps by 2500\.000 ns \(rounded\) at packet 182: the way changed, or a clock was set there$']),
+    'with a master that begins anew': (lambda it: half_way(it, lambda rest: renumbered(rest, (SYNC, FOLLOW_UP), 30_000)),
+                                       [REPEATED, MASTER_ANEW % ('once,', 184, r'1795329170\.838843349')]),
+    'with a slave that begins anew': (lambda it: half_way(it, lambda rest: renumbered(rest, (REQUEST, RESPONSE), 30_000)),
+                                      [SLAVE_ANEW % ('once,', 181, r'1795329170\.236745319')]),
+    'of whole microseconds': (lambda it: [one._replace(time=one.time // 1000 * 1000) for one in it], [COARSE]),
     'set back': (lambda it: half_way(it, lambda rest: shifted(rest, -2 * 10**9)),
-                 [r'the offset runs away by -', r'messages with a number that came before: 1;', r'times that are before that of the packet before: 1;']),
+                 [r'the offset steps by -1999998455\.430 ns \(rounded\) at packet 185: ', REPEATED, FALLS % 1]),
 }
 
 

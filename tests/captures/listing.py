@@ -12,7 +12,8 @@ NAMES = {0: 'Sync', 1: 'Delay_Req', 2: 'Pdelay_Req', 3: 'Pdelay_Resp', 8: 'Follo
          12: 'Signaling', 13: 'Management'}
 WITH_STEPS, WITH_REQUESTING, DELAY_RESP = {0, 3}, {3, 9, 10}, 9
 
-HEAD = ['interface', 'domain', 'source', 'requesting', 'message', 'count', 'one-step', 'two-step', 'version', 'first', 'last', 'correction ns', 'up to ns']
+HEAD = ['interface', 'domain', 'source', 'requesting', 'message', 'count', 'lost', 'interval',
+        'one-step', 'two-step', 'version', 'first', 'last', 'correction ns', 'up to ns']
 AT_RIGHT = [HEAD.index(head) for head in HEAD if head not in ('interface', 'source', 'requesting', 'message', 'version')]
 
 NONE = 'there is no message of PTP version 2\n'
@@ -51,14 +52,38 @@ def nanoseconds(units):
     return 'too big' if units == 2**63 - 1 else texts.decimals(Fraction(units, 2**16))
 
 
+def passed(messages):
+    """Of messages with their times how many are lost by their numbers, but for copies of the newest, and how long it is from one to the next, in the
+    mean, in milliseconds with three decimals. A number that isn't within 256 of the newest one begins a life."""
+    newest, skipped, late, intervals = None, 0, 0, []
+    for time, octets in messages:
+        number = int.from_bytes(octets[30:32], 'big')
+        ahead = None if newest is None else (number - newest[0]) % 2**16
+        if ahead == 0:
+            continue
+        if ahead is not None and ahead <= 256:
+            skipped += ahead - 1
+            intervals += [time - newest[1]] if ahead == 1 else []
+        elif ahead is not None and ahead >= 2**16 - 256:
+            late += 1
+            continue
+        newest = number, time
+    if not intervals:
+        return max(skipped - late, 0), '-'
+    microseconds = int(Fraction(abs(sum(intervals)) * 1000, len(intervals)) + Fraction(1, 2)) // 10**6
+    sign = '-' if sum(intervals) < 0 and microseconds else ''
+    return max(skipped - late, 0), f'{sign}{microseconds // 1000}.{microseconds % 1000:03} ms'
+
+
 def cells(key, messages):
     """A row of these messages, each of a time and a datagram."""
     steps = [octets[6] >> 1 & 1 for _, octets in messages]
     corrections = [int.from_bytes(octets[8:16], 'big', signed=True) for _, octets in messages]
     versions = sorted({octets[1] >> 4 for _, octets in messages})
     has_steps = key.kind in WITH_STEPS
+    lost, interval = passed(messages)
     return [called(key.interface), str(key.domain), port(key.source), port(key.requesting), NAMES.get(key.kind, f'type {key.kind}'), str(len(messages)),
-            str(steps.count(0)) if has_steps else '-', str(steps.count(1)) if has_steps else '-', ','.join(f'2.{it}' for it in versions),
+            str(lost), interval, str(steps.count(0)) if has_steps else '-', str(steps.count(1)) if has_steps else '-', ','.join(f'2.{it}' for it in versions),
             seconds(messages[0][0]), seconds(messages[-1][0]), nanoseconds(min(corrections)), nanoseconds(max(corrections))]
 
 
@@ -80,9 +105,11 @@ class Listing:
 
     def take(self, interface, time, octets):
         kind = octets[0] & 15 if octets else None
-        if len(octets) > 1 and octets[1] & 15 != 2:
+        if len(octets) < 34:
+            self.too_short += 1
+        elif octets[1] & 15 != 2:
             self.other_version += 1
-        elif len(octets) < (54 if kind in WITH_REQUESTING else 34) or len(octets) < 34:
+        elif len(octets) < (54 if kind in WITH_REQUESTING else 34):
             self.too_short += 1
         else:
             self.count(Key(interface, octets[4], octets[20:30], kind, octets[44:54] if kind in WITH_REQUESTING else b''), time, octets)

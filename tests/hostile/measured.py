@@ -300,8 +300,8 @@ class Measurer:
         self.life, self.responses = Life(), collections.deque(maxlen=KNOWN)
         self.syncs = 0
         self.counts, self.reports = collections.Counter(), []
-        # What became of each message, in order.
-        self.became = []
+        # What became of each message, in order; and whether the master begins its numbers anew with the one that is being heard.
+        self.became, self.begins = [], False
 
     def hear(self, read):
         """What is written for a line."""
@@ -311,7 +311,9 @@ class Measurer:
             return ''
         answer = self.request(read) if said.kind == 'Delay_Req' else self.answer(read)
         is_report = isinstance(answer, tuple)
-        self.became.append(worth.Became(read.place, read.units, said.kind, said.domain, said.source, said.sequence, 'report' if is_report else str(answer)))
+        begins, self.begins = self.begins or answer == 'anew', False
+        self.became.append(worth.Became(read.place, read.units, said.kind, said.domain, said.source, said.sequence, said.correction, said.log,
+                                        'report' if is_report else str(answer), begins))
         if is_report:
             self.counts['reports'] += 1
             return self.report(read, *answer)
@@ -353,6 +355,7 @@ class Measurer:
     def begin_anew(self):
         """The master began its numbers anew."""
         self.counts['master anew'] += 1
+        self.begins = True
         self.life = Life()
         self.responses.clear()
         self.port.follow_anew()
@@ -375,8 +378,9 @@ class Measurer:
 
     def report(self, read, offset2, path2, tags):
         by = 'response' if read.said.kind == 'Delay_Resp' else 'sync'
-        correction = self.port.answered.correction if by == 'response' else self.port.synced.correction
-        self.reports.append(worth.Report(read.place, read.units, by, offset2, path2, correction))
+        synced, answered = self.port.synced, self.port.answered
+        correction = answered.correction if by == 'response' else synced.correction
+        self.reports.append(worth.Report(read.place, read.units, by, offset2, path2, correction, abs(synced.came - answered.left)))
         if self.csv:
             columns = ''.join(f',{it}' for it in self.exchange().values()) if self.full else ''
             return f'{read.time},{nanoseconds(offset2)},{nanoseconds(path2)},{by},{read.place}{columns}\n'
@@ -453,14 +457,11 @@ def summary(counts, reads, written, became, unit='line'):
     """What is told at the end: of reads the times, in order, and what was said; of reports what they are of; of messages what became of them."""
     for sentence in worth.beware(unit, counts, reads, written, became):
         yield f'beware: {sentence}'
-    reports, master_anew = counts.pop('reports', 0), counts.pop('master anew', 0)
+    reports = counts.pop('reports', 0)
+    counts.pop('master anew', 0)
     yield f'{reports or "no"} report{"s" if reports > 1 else ""}'
     yield from datagrams(counts)
-    for what, times_anew in (('slave began', counts['Delay_Req anew']), ('master began its numbers', master_anew)):
-        if times_anew:
-            yield f'the {what} anew ' + ('once' if times_anew == 1 else f'{times_anew} times')
-    if reads and all(units % (1000 * 2**16) == 0 for units, _ in reads):
-        yield 'all times are of whole microseconds'
+    yield from worth.flows(unit, written, became)
     yield from worth.statistics(unit, written)
 
 

@@ -1,5 +1,5 @@
 """Makes recordings for `measure` out of bits: exchanges that are whole, lost in part, repeated and reordered, requests
-that jump and begin anew, Syncs that aren't newer, and lines at the edges of what is a line."""
+that jump and begin anew, Syncs that aren't newer, steps and slopes, and lines at the edges of what is a line."""
 import random
 
 import inputs
@@ -181,6 +181,19 @@ def meet(rng, tape):
         put(rng.choice(sequences))
 
 
+def steady(rng, tape):
+    """About as many exchanges as are wanted for a step or a slope; from one on Syncs or requests take longer, or shorter, or each takes longer than the one
+    before."""
+    begin, later, growing = rng.randrange(1, 24), rng.choice([0, 900, 1999, 2000, 2001, -2000, 10**6, 37 * 10**9]), rng.choice([0, 0, 1, 50_000])
+    longer, jitter = rng.choice([(1, 0), (0, 1), (1, -1)]), rng.choice([0, 3, 700])
+    for count in range(rng.choice([14, 15, 16, 17, 18, 32])):
+        to, back = (700 + way * later * (count >= begin) + rng.randint(0, jitter) for way in longer)
+        tape.message(0, tape.next_sync(), stamp=tape.stamp(to + growing * count))
+        tape.delay_req(tape.next_request())
+        tape.message(9, tape.request, stamp=tape.stamp(-back), requesting=tape.slave)
+        tape.time += 10**8
+
+
 def fill(rng, tape):
     """As many Syncs, Follow_Ups or requests as tables hold, one less or one more, before the first is completed."""
     first, count = tape.sync, rng.choice([255, 256, 256, 257, 257])
@@ -267,7 +280,7 @@ def late(rng, tape):
     tape.delay_resp(tape.request)
 
 
-PIECES = [exchange] * 8 + [jump, jump, begin_anew, leap, meet, meet, fill, fill, stranger, stranger, change_master]
+PIECES = [exchange] * 8 + [jump, jump, begin_anew, leap, meet, meet, steady, steady, fill, fill, stranger, stranger, change_master]
 
 
 def time_text(rng, nanoseconds):
