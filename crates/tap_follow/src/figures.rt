@@ -1,24 +1,18 @@
 //! What crossings come to, for people.
 
-use statistics::{RECENT_MOST, Thousandths, slope};
+use statistics::{Growth, RECENT_MOST, Thousandths};
 use std::fmt;
 use std::fmt::{Display, Formatter};
 use std::io::Write;
 use tap_crossing::Kind;
-use tap_sums::{Changed, Figures, Quantity, Spread, Statistics, Sums};
+use tap_sums::{Changed, Figures, Quantity, Spread, Statistics, Sums, Ways};
 
 /// Halves of 2^-16 ns of a nanosecond.
 const NANOSECOND: u128 = 131_072;
 
-/// From how many Syncs on it is told how much their rests grow with their corrections.
-const SYNCS: u64 = 16;
-
-/// From how many thousand-millionths on it is told.
-const RATE: u128 = 1000;
-
 /// A number of halves of 2^-16 ns, which shows as nanoseconds, rounded to a thousandth.
 #[derive(Clone, Copy)]
-struct Rounded(i128);
+pub(crate) struct Rounded(pub(crate) i128);
 
 impl Display for Rounded {
     fn fmt<W: fmt::Write>(&self, f: &mut Formatter<W>) -> fmt::Result {
@@ -35,7 +29,7 @@ impl Display for Rounded {
 }
 
 /// A number of units of 2^-16 ns, which shows so.
-fn of_units(units: i128) -> Rounded {
+pub(crate) fn of_units(units: i128) -> Rounded {
     Rounded(units.saturating_mul(2))
 }
 
@@ -109,19 +103,8 @@ fn tell_statistics<E: Write>(
     }
 }
 
-/// Tells how much the rests of Syncs grow with their corrections, by least squares, where that is much. What can't be written
-/// is lost.
-fn tell_rate<E: Write>(figures: &Figures, errors: &mut E) {
-    let rests = &figures.rests;
-    if rests.count < SYNCS {
-        return;
-    }
-    let Some(growth) = slope(rests, &figures.trend) else {
-        return;
-    };
-    if growth.rate.size < RATE {
-        return;
-    }
+/// Tells how much the rests of Syncs grow with their corrections, by least squares. What can't be written is lost.
+fn tell_rate<E: Write>(growth: &Growth, errors: &mut E) {
     let meaning = if !growth.explains_half {
         "less than half of how it varies: stamps or the load of a clock are a likelier reason than its rate"
     } else if growth.rate.is_negative {
@@ -180,24 +163,36 @@ pub(crate) fn tell_figures<E: Write>(
     tell_statistics(&sums.statistics(Kind::Sync), figures, from, to, errors);
     tell_statistics(&sums.statistics(Kind::DelayReq), figures, to, from, errors);
     if let Some(figures) = figures {
-        tell_rate(figures, errors);
-    }
-    tell_asymmetry(sums, to, errors);
-    if let Some(figures) = figures {
+        let ways = Ways::new(sums, figures);
+        if let Some(rate) = ways.told_rate() {
+            tell_rate(&rate, errors);
+        }
+        if let Some(asymmetry) = ways.told_asymmetry() {
+            tell_asymmetry(asymmetry, to, errors);
+        }
+        tell_mean(sums, errors);
         tell_changed(&figures.changed, errors);
     }
 }
 
-/// Tells the asymmetry and what it means, where there is one. What can't be written is lost.
-fn tell_asymmetry<E: Write>(sums: &Sums, to: &str, errors: &mut E) {
-    let Some(asymmetry) = sums.both_ways().asymmetry else {
-        return;
-    };
+/// Tells the asymmetry and what it means. What can't be written is lost.
+fn tell_asymmetry<E: Write>(asymmetry: i128, to: &str, errors: &mut E) {
+    let size = Rounded(asymmetry.saturating_abs());
+    let which = if asymmetry < 0 { "low" } else { "high" };
     let _ = writeln!(
         errors,
-        "ptpx: asymmetry {} ns: where both taps read one clock, offsets of a slave behind them are by half of it, {} ns, too great, \
-         and one that is steered by them is late by as much; where the clock of {to} is ahead by d, 2d is in it",
-        of_units(asymmetry),
-        Rounded(asymmetry)
+        "ptpx: asymmetry {} ns. If both taps share a clock, a slave behind {to} reads offsets {size} ns too {which}",
+        of_units(asymmetry)
     );
+}
+
+/// Tells the mean rest of both directions, where there is one. What can't be written is lost.
+fn tell_mean<E: Write>(sums: &Sums, errors: &mut E) {
+    if let Some(mean) = sums.both_ways().mean_rest {
+        let _ = writeln!(
+            errors,
+            "ptpx: mean rest of both directions, in which the difference of the taps' clocks cancels: {} ns",
+            of_units(mean)
+        );
+    }
 }

@@ -2,6 +2,7 @@
 //! the first that tell between which taps, and whose they are.
 #![tactic(auto)]
 
+mod beware;
 mod fault;
 mod figures;
 mod followed;

@@ -10,6 +10,7 @@ ghost use Rattle.tap_follow.specs.Told.{IsSummaryOf, kept_in};
 ghost use Rattle.tap_follow.specs.Fault.{is_write};
 ghost use Rattle.tap_follow.specs.Summed.{WritesSums};
 
+use crate::beware::tell_bewares;
 use crate::fault::FollowFault;
 use crate::figures::tell_figures;
 use crate::followed::Followed;
@@ -136,7 +137,7 @@ impl Summary {
         }
     }
 
-    /// Tells what the crossings come to, which messages were lost, and of which records nothing is told.
+    /// Tells what the crossings come to, which messages were lost, of which records nothing is told, and what speaks against all that.
     fn tell_followed<E: Write>(&self, followed: &Followed, errors: &mut E) {
         let mut told = self.told;
         told.tell(&self.follower, errors);
@@ -149,6 +150,17 @@ impl Summary {
         tell_lost(self, Kind::DelayReq, to, from, errors);
         for kind in [Kind::Sync, Kind::DelayReq] {
             tell_untold(&self.untold(kind), kind, from, errors);
+        }
+        if let Some(figures) = self.follower.figures() {
+            tell_bewares(&self.sums(), figures, self.unit(), from, to, errors);
+        }
+    }
+
+    /// What lines or packets are called.
+    fn unit(&self) -> &'static str {
+        match &self.packets {
+            Some(_) => "packet",
+            None => "line",
         }
     }
 

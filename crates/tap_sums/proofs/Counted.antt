@@ -7,10 +7,10 @@ use Rattle.tap_crossing.specs.declared.sighting.Kind.TheVariants as kinds
 use Rattle.tap_sums.specs.Sums.{of_kind}
 use Rattle.tap_sums.specs.declared.figures.Figures.{Figures}
 use Rattle.tap_sums.specs.Changed.{AreChanged, changes_in}
-use Rattle.tap_sums.specs.Figures.{AreFigures, AreRecent, point_of}
+use Rattle.tap_sums.specs.Figures.{AreFigures, AreKept, point_of}
 
 pub sync_more : (x : Crossing) (earlier : List Crossing) (new : Figures) → x.kind ≡ kinds.Sync
-    → AreRecent (x ∷ of_kind kinds.Sync earlier) new.syncs → AreRecent (of_kind kinds.DelayReq earlier) new.requests
+    → AreKept (x ∷ of_kind kinds.Sync earlier) new.syncs → AreKept (of_kind kinds.DelayReq earlier) new.requests
     → IsSeries (point_of x ∷ map point_of (of_kind kinds.Sync earlier)) new.rests
     → IsTrend (point_of x ∷ map point_of (of_kind kinds.Sync earlier)) new.trend
     → AreChanged (changes_in (x ∷ earlier)) new.changed → AreFigures (x ∷ earlier) new
@@ -18,15 +18,15 @@ sync_more x earlier new is syncs requests rests trend changed =
     let own : of_kind kinds.Sync (x ∷ earlier) ≡ x ∷ of_kind kinds.Sync earlier = rw is refl in
     let others : of_kind kinds.DelayReq (x ∷ earlier) ≡ of_kind kinds.DelayReq earlier = rw is refl in
     record {
-      syncs = subst (λ those. AreRecent those new.syncs) (sym own) syncs;
-      requests = subst (λ those. AreRecent those new.requests) (sym others) requests;
+      syncs = subst (λ those. AreKept those new.syncs) (sym own) syncs;
+      requests = subst (λ those. AreKept those new.requests) (sym others) requests;
       rests = subst (λ (those : List Crossing). IsSeries (map point_of those) new.rests) (sym own) rests;
       trend = subst (λ (those : List Crossing). IsTrend (map point_of those) new.trend) (sym own) trend;
       changed = changed;
     }
 
 pub request_more : (x : Crossing) (earlier : List Crossing) (new : Figures) → x.kind ≡ kinds.DelayReq
-    → AreRecent (of_kind kinds.Sync earlier) new.syncs → AreRecent (x ∷ of_kind kinds.DelayReq earlier) new.requests
+    → AreKept (of_kind kinds.Sync earlier) new.syncs → AreKept (x ∷ of_kind kinds.DelayReq earlier) new.requests
     → IsSeries (map point_of (of_kind kinds.Sync earlier)) new.rests
     → IsTrend (map point_of (of_kind kinds.Sync earlier)) new.trend
     → AreChanged (changes_in (x ∷ earlier)) new.changed → AreFigures (x ∷ earlier) new
@@ -34,8 +34,8 @@ request_more x earlier new is syncs requests rests trend changed =
     let own : of_kind kinds.DelayReq (x ∷ earlier) ≡ x ∷ of_kind kinds.DelayReq earlier = rw is refl in
     let others : of_kind kinds.Sync (x ∷ earlier) ≡ of_kind kinds.Sync earlier = rw is refl in
     record {
-      syncs = subst (λ those. AreRecent those new.syncs) (sym others) syncs;
-      requests = subst (λ those. AreRecent those new.requests) (sym own) requests;
+      syncs = subst (λ those. AreKept those new.syncs) (sym others) syncs;
+      requests = subst (λ those. AreKept those new.requests) (sym own) requests;
       rests = subst (λ (those : List Crossing). IsSeries (map point_of those) new.rests) (sym others) rests;
       trend = subst (λ (those : List Crossing). IsTrend (map point_of those) new.trend) (sym others) trend;
       changed = changed;

@@ -6,6 +6,8 @@ pub mod KindHeld
 pub mod Shown
 pub mod Held
 pub mod Changed
+pub mod Course
 pub mod Figures
 pub mod Untold
+pub mod Beware
 pub mod Inner

@@ -1,5 +1,6 @@
 -- What can be shown as nanoseconds.
 use Rattle.std.specs.Prelude.{◌^◌, ◌<◌, ℤ, pos, negsuc, ◌<ℤ◌, IfSome}
+use Rattle.tap_sums.specs.declared.beware.Ways.{Ways}
 use Rattle.tap_sums.specs.declared.spread.BothWays.{BothWays}
 use Rattle.tap_sums.specs.declared.spread.Spread.{Spread}
 use Rattle.tap_sums.specs.declared.spread.Statistics.{Statistics}
@@ -23,3 +24,8 @@ pub record AreToldShown (s : Statistics) : Type 0 where
 pub record AreBothShown (b : BothWays) : Type 0 where
   pub asymmetry : IfSome b.asymmetry IsShown
   pub mean_rest : IfSome b.mean_rest IsShown
+
+pub record AreWaysShown (w : Ways) : Type 0 where
+  pub syncs : AreToldShown w.syncs.statistics
+  pub requests : AreToldShown w.requests.statistics
+  pub both : AreBothShown w.both

@@ -2,22 +2,25 @@ ghost use Rattle.std.specs.Prelude.{◌≡◌, List, [], ◌∷◌, OnOk, MatchR
 ghost use Rattle.tap_crossing.specs.Crossing.{IsWithin};
 ghost use Rattle.tap_crossing.specs.declared.crossing.Crossing.{Crossing};
 ghost use Rattle.tap_sums.specs.Sums.{of_kind, value_of};
-ghost use Rattle.tap_sums.specs.Figures.{AreFigures, AreRecent, point_of};
+ghost use Rattle.tap_sums.specs.Course.{IsCourse};
+ghost use Rattle.tap_sums.specs.Figures.{AreFigures, AreKept, point_of};
 ghost use Rattle.statistics.specs.Median.{IsMedian, IsRecent, last};
 
 use crate::changed::Changed;
+use crate::course::Course;
 use crate::spread::Quantity;
 use crate::total::RAISED;
 use statistics::{Middle, Point, Recent, Series, Trend};
 use std::alloc::{AllocError, Global};
 use tap_crossing::{Crossing, Kind};
 
-/// The last crossings of a kind.
+/// The last crossings of a kind, and the course of all.
 #[derive(Drop)]
 pub(crate) struct KindFigures {
     pub(crate) taken: Recent,
     pub(crate) corrected: Recent,
     pub(crate) rest: Recent,
+    pub(crate) course: Course,
 }
 
 /// What people are told of crossings beside their sums.
@@ -49,20 +52,23 @@ fn point_of(crossing: &Crossing) -> Point
 impl KindFigures {
     /// There is no crossing.
     fn new(alloc: Global) -> KindFigures
-        ensures { AreRecent [] result }
+        ensures { AreKept [] result }
     {
         KindFigures {
             taken: Recent::new(alloc),
             corrected: Recent::new(alloc),
             rest: Recent::new(alloc),
+            course: Course::new(),
         }
     }
 
     /// Takes one more crossing.
     fn take(&mut self, crossing: &Crossing) -> Result<(), AllocError>
-        ensures { (earlier : List Crossing) → AreRecent earlier self.old
-            → OnOk result (AreRecent (crossing.now ∷ earlier) self.new) }
+        requires { IsWithin crossing.now }
+        ensures { (earlier : List Crossing) → AreKept earlier self.old
+            → OnOk result (AreKept (crossing.now ∷ earlier) self.new) }
     {
+        self.course.take(crossing);
         self.taken.take(crossing.taken)?;
         self.corrected.take(crossing.corrected)?;
         self.rest.take(crossing.rest)?;
@@ -71,7 +77,7 @@ impl KindFigures {
 
     /// The last values of what each has.
     fn recent(&self, quantity: Quantity) -> &Recent
-        ensures { (all : List Crossing) → AreRecent all self.now → IsRecent (map (value_of quantity) all) result.now }
+        ensures { (all : List Crossing) → AreKept all self.now → IsRecent (map (value_of quantity) all) result.now }
     {
         match quantity {
             Quantity::Taken => &self.taken,
@@ -118,7 +124,7 @@ impl Figures {
 
     /// The last crossings of a kind.
     fn of_kind(&self, kind: Kind) -> &KindFigures
-        ensures { (all : List Crossing) → AreFigures all self.now → AreRecent (of_kind kind all) result.now }
+        ensures { (all : List Crossing) → AreFigures all self.now → AreKept (of_kind kind all) result.now }
     {
         match kind {
             Kind::Sync => &self.syncs,
@@ -133,5 +139,12 @@ impl Figures {
             → MatchResult result (IsMedian (last (map (value_of quantity) (of_kind kind all)))) (λ _. ⊤) }
     {
         self.of_kind(kind).recent(quantity).median(self.alloc)
+    }
+
+    /// How the rests of a kind go over time, and which of its crossings are as none should be.
+    pub fn course(&self, kind: Kind) -> Course
+        ensures { (all : List Crossing) → AreFigures all self.now → IsCourse (of_kind kind all) result }
+    {
+        self.of_kind(kind).course
     }
 }

@@ -14,10 +14,11 @@ returns c = λ earlier at.
     let corrected : SFits w128 x.corrected = search rules in
     let rest : SFits w128 x.rest = search rules in
     record {
-      taken = had (value_of Taken) x earlier _ c.take.new.self (to_z-of_z w128 x.taken taken)
+      course = c.take.ensures earlier at.course;
+      taken = had (value_of Taken) x earlier _ c.take-2.new.self (to_z-of_z w128 x.taken taken)
           (c.in_ok-take.ensures (map (value_of Taken) earlier) at.taken);
-      corrected = had (value_of Corrected) x earlier _ c.take-2.new.self (to_z-of_z w128 x.corrected corrected)
+      corrected = had (value_of Corrected) x earlier _ c.take-3.new.self (to_z-of_z w128 x.corrected corrected)
           (c.in_ok-take-2.ensures (map (value_of Corrected) earlier) at.corrected);
-      rest = had (value_of Rest) x earlier _ c.take-3.new.self (to_z-of_z w128 x.rest rest)
+      rest = had (value_of Rest) x earlier _ c.take-4.new.self (to_z-of_z w128 x.rest rest)
           (c.in_ok-take-3.ensures (map (value_of Rest) earlier) at.rest);
     }

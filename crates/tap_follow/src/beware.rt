@@ -1,0 +1,180 @@
+//! The words of what speaks against the numbers.
+
+use crate::figures::{Rounded, of_units};
+use statistics::{Cases, Point, Thousandths};
+use std::fmt;
+use std::fmt::{Display, Formatter};
+use std::io::Write;
+use tap_crossing::Kind;
+use tap_sums::{Below, Beware, Figures, Sums, Ways};
+
+/// A beware in words, by what lines or packets and the taps are called.
+#[derive(Clone, Copy)]
+struct Told<'a> {
+    beware: Beware,
+    unit: &'static str,
+    from: &'a str,
+    to: &'a str,
+}
+
+/// The first of some cases, by its line or packet.
+#[derive(Clone, Copy)]
+struct First {
+    cases: Cases,
+    unit: &'static str,
+}
+
+impl Display for First {
+    fn fmt<W: fmt::Write>(&self, f: &mut Formatter<W>) -> fmt::Result {
+        match self.cases.first {
+            Some(Point { line, .. }) => write!(f, "the first at {} {line}", self.unit),
+            None => f.write_str("none of them known"),
+        }
+    }
+}
+
+/// What messages of a kind are called.
+fn name_of(kind: Kind) -> &'static str {
+    match kind {
+        Kind::Sync => "Syncs",
+        Kind::DelayReq => "Delay_Reqs",
+    }
+}
+
+/// What follows of crossings that took less than 0.
+fn why_taken(is_of_both: bool) -> &'static str {
+    if is_of_both {
+        "most of both kinds did, so the taps are the wrong way round"
+    } else {
+        "the clock of a tap is off, or the taps are the wrong way round: set both by one clock, or exchange --from and --to"
+    }
+}
+
+/// What follows of rests that are less than 0.
+fn why_rest(is_of_both: bool) -> &'static str {
+    if is_of_both {
+        "so it is both ways, which no difference of the taps' clocks explains: a clock between the taps tells its residences too \
+         long, or a tap stamps what leaves earlier, or what arrives later, than that clock does, as stamps by software do"
+    } else {
+        "the clock of a tap is off, or corrections are too big: set both taps by one clock"
+    }
+}
+
+impl Told<'_> {
+    /// Tells crossings that took less than 0.
+    fn tell_taken<W: fmt::Write>(&self, below: &Below, f: &mut Formatter<W>) -> fmt::Result {
+        let Below {
+            kind,
+            cases,
+            of,
+            is_of_both,
+        } = *below;
+        let (unit, why) = (self.unit, why_taken(is_of_both));
+        write!(
+            f,
+            "{} of {of} {} took less than 0 ns, {}: {why}",
+            cases.count,
+            name_of(kind),
+            First { cases, unit }
+        )?;
+        if is_of_both {
+            write!(f, ": --from {} --to {} exchanges them", self.to, self.from)?;
+        }
+        Ok(())
+    }
+
+    /// Tells crossings of which less than 0 rests.
+    fn tell_rest<W: fmt::Write>(&self, below: &Below, f: &mut Formatter<W>) -> fmt::Result {
+        let Below {
+            kind,
+            cases,
+            of,
+            is_of_both,
+        } = *below;
+        let (unit, why) = (self.unit, why_rest(is_of_both));
+        write!(
+            f,
+            "of {} of {of} {} less than 0 ns rests, {}: {why}",
+            cases.count,
+            name_of(kind),
+            First { cases, unit }
+        )
+    }
+
+    /// Tells an asymmetry that is too great to be one.
+    fn tell_clocks<W: fmt::Write>(&self, asymmetry: i128, f: &mut Formatter<W>) -> fmt::Result {
+        let size = asymmetry.saturating_abs();
+        let (above, ahead) = if asymmetry < 0 {
+            ("below", "behind")
+        } else {
+            ("above", "ahead")
+        };
+        write!(
+            f,
+            "rests of Syncs are {} ns {above} those of Delay_Reqs, in the mean, too much for an asymmetry: the taps' clocks differ, and that \
+             of {} is {} ns {ahead}, unless one way is so much longer: set both by one clock",
+            of_units(size),
+            self.to,
+            Rounded(size)
+        )
+    }
+}
+
+impl Display for Told<'_> {
+    fn fmt<W: fmt::Write>(&self, f: &mut Formatter<W>) -> fmt::Result {
+        let unit = self.unit;
+        match self.beware {
+            Beware::TakenBelow(below) => self.tell_taken(&below, f),
+            Beware::RestBelow(below) => self.tell_rest(&below, f),
+            Beware::Step { kind, by, line } => write!(
+                f,
+                "the rest of {} steps by {} ns (rounded) at {unit} {line}: the clock of a tap was set there, or the way changed, so no \
+                 asymmetry and no rate is told: follow what is before it and what is behind it apart",
+                name_of(kind),
+                Thousandths(by)
+            ),
+            Beware::Drift { kind, rate } => write!(
+                f,
+                "the rest of {} drifts by {} ppm of time (rounded), as clocks of taps do, so no asymmetry and no rate of a clock between \
+                 them is told: have both taps stamp by one clock",
+                name_of(kind),
+                Thousandths(rate)
+            ),
+            Beware::Uncorrected { kind, cases } => write!(
+                f,
+                "none of {} {} was corrected, though each took time, {}: no transparent clock is between the taps, but perhaps a plain \
+                 bridge, or it doesn't correct these",
+                cases.count,
+                name_of(kind),
+                First { cases, unit }
+            ),
+            Beware::SteepRate(rate) => write!(
+                f,
+                "the rest of Syncs grows by {} ppm of corrected, by least squares (rounded), and no clock is off by more than 100: \
+                 stamps are, or corrections, and --csv shows which",
+                Thousandths(rate)
+            ),
+            Beware::ClocksDiffer(asymmetry) => self.tell_clocks(asymmetry, f),
+        }
+    }
+}
+
+/// Tells what speaks against the numbers of crossings, in lines. What can't be written is lost.
+pub(crate) fn tell_bewares<E: Write>(
+    sums: &Sums,
+    figures: &Figures,
+    unit: &'static str,
+    from: &str,
+    to: &str,
+    errors: &mut E,
+) {
+    for beware in Ways::new(sums, figures).bewares().iter().flatten() {
+        let told = Told {
+            beware: *beware,
+            unit,
+            from,
+            to,
+        };
+        let _ = writeln!(errors, "ptpx: beware: {told}");
+    }
+}
