@@ -105,14 +105,14 @@ class Crossings:
         rest, *others = over_time_parts([rests, *(it.graph() for it in self.ways)])
         tables = ''.join(it.table() for it in self.ways)
         statistics = f'<h2>Statistics</h2>{tables}{lost_part(said)}<p class="soft">{TOLD}</p>'
-        return [rest, self.asymmetry_part(), *others, statistics, distributions_part(self.series)]
+        return [rest, self.asymmetry_part(said), *others, statistics, distributions_part(self.series)]
 
-    def asymmetry_part(self):
+    def asymmetry_part(self, said):
         without = [it.one for it in self.ways if not len(it.rest)]
         if without:
-            return asymmetry_part(self.taps, without, None, None)
+            return asymmetry_part(self.taps, said, without, None, None)
         syncs, requests = (it.mean for it in self.series)
-        return asymmetry_part(self.taps, without, as_told(syncs - requests), as_told((syncs + requests) / 2))
+        return asymmetry_part(self.taps, said, without, as_told(syncs - requests), as_told((syncs + requests) / 2))
 
 
 def lost_part(said):
@@ -120,15 +120,17 @@ def lost_part(said):
     return f'<p id="lost">{escape("; ".join(said.lost))}.</p>' if said.lost else ''
 
 
-def asymmetry_part(taps, without, asymmetry, mean_rest):
-    """How unequal the two ways are, and what that means, in the words of follow; or of which kind nothing crossed."""
+def asymmetry_part(taps, said, without, asymmetry, mean_rest):
+    """How unequal the two ways are, and what that means, in the words of follow, unless it said none; or of which kind nothing crossed."""
     title = '<h2>Asymmetry</h2>'
     if without:
         return f'{title}<p id="meaning">No {without[0]} crossed, so the asymmetry isn\'t known.</p>'
     rows = [('asymmetry', f'{rounded_length(asymmetry)} ns', 'mean rest of Syncs less that of Delay_Reqs'),
             ('mean rest', f'{rounded_length(mean_rest)} ns', 'half of the sum of both, in which the clocks of the taps don\'t stand')]
     second = 'the second tap' if taps is None else taps[1]
-    meaning = (f'asymmetry {rounded_length(asymmetry)} ns: where both taps read one clock, offsets of a slave behind them are by half of it, '
-               f'{rounded_length(asymmetry / 2)} ns, too great, and one that is steered by them is late by as much; where the clock of {second} is '
-               f'ahead by d, 2d is in it')
-    return f'{title}{told_table(rows)}<p id="meaning">{meaning[0].upper()}{meaning[1:]}.</p>'
+    half = rounded_length(abs(asymmetry) / 2)
+    meaning = (f'Asymmetry {rounded_length(asymmetry)} ns. If both taps share a clock, a slave behind {second} reads offsets {half} ns too '
+               f'{"low" if rounded_length(asymmetry).startswith("-") else "high"}.')
+    if said.doubts_asymmetry:
+        meaning = 'What there is to beware of speaks against this asymmetry.'
+    return f'{title}{told_table(rows)}<p id="meaning">{meaning}</p>'

@@ -52,6 +52,7 @@ class Said:
         self.counts = [(it[2], 0 if it[1] == 'no' else int(it[1])) for it in map(COUNT.fullmatch, self.lines) if it]
         self.watched = [it.groups('') for it in map(WATCHED.fullmatch, self.lines) if it]
         self.taps = next((it.groups() for it in map(TAPS.fullmatch, self.lines) if it), None)
+        self.doubts_asymmetry = bool(self.lines) and not any(it.startswith('ptpx: asymmetry ') for it in self.lines)
         self.is_of_follow = self.taps is not None or any(map(NOT_FOLLOWED.match, self.lines))
 
     def content(self):

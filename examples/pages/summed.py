@@ -103,4 +103,4 @@ class Sums:
     def parts(self, said):
         without = [it.one for it in self.ways if not it.count]
         tables = ''.join(it.table() for it in self.ways)
-        return [asymmetry_part(self.taps, without, *self.both), f'<h2>Statistics</h2>{tables}{lost_part(said)}<p class="soft">{TOLD}</p>']
+        return [asymmetry_part(self.taps, said, without, *self.both), f'<h2>Statistics</h2>{tables}{lost_part(said)}<p class="soft">{TOLD}</p>']

@@ -6,6 +6,7 @@ import re
 import statistics
 import typing
 
+import bewares
 import reading
 import shown
 from texts import NAMED, counted, decimals, port, seconds, thousandths
@@ -325,10 +326,10 @@ def rate(crossings):
     return rise / run * 10**6, 2 * rise**2 >= run * sum((it - other) ** 2 for it in rest)
 
 
-def rate_lines(crossings):
-    """What is said of that, from 1 ppm on."""
-    ppm, explains_half = rate(crossings) or (0, False)
-    if abs(ppm) < 1:
+def rate_lines(ways):
+    """What is said of that, from 1 ppm on, where nothing speaks against it."""
+    ppm, explains_half = ways.told_rate() or (0, False)
+    if not ppm:
         return []
     wrong = 'long' if ppm < 0 else 'short'
     meaning = (f'half of how it varies, or more: by so much a clock between the taps tells its residences too {wrong}, where its rate is the reason' if explains_half
@@ -348,14 +349,19 @@ def figure(name, *values):
 
 def asymmetric(asymmetry, half, end):
     """What is said of an asymmetry, in rounded texts, where Syncs end at this tap."""
-    return (f'asymmetry {asymmetry} ns: where both taps read one clock, offsets of a slave behind them are by half of it, {half} ns, too great, and one that is '
-            f'steered by them is late by as much; where the clock of {end} is ahead by d, 2d is in it')
+    which = 'low' if asymmetry.startswith('-') else 'high'
+    return f'asymmetry {asymmetry} ns. If both taps share a clock, a slave behind {end} reads offsets {half.removeprefix("-")} ns too {which}'
 
 
-def figures(crossings, start, end):
+def both_ways(mean):
+    """What is said of the mean rest of both directions, a rounded text."""
+    return f"mean rest of both directions, in which the difference of the taps' clocks cancels: {mean} ns"
+
+
+def figures(crossings, ways, start, end):
     """What standard error tells of crossings, line by line. Means and the asymmetry are those of the sums, to 2^-16 ns, and medians those of the last
     4,096 of a kind."""
-    lines, exact = [], []
+    lines = []
     for kind, word, first, second in (('sync', 'Sync', start, end), ('delay_req', 'Delay_Req', end, start)):
         those = [it for it in crossings if it['kind'] == kind]
         lines.append(crossed(len(those), word, first, second, f', medians of the last {RECENT}' * (len(those) > RECENT)))
@@ -364,12 +370,14 @@ def figures(crossings, start, end):
             mean = fractions.Fraction(round(sum(units) / len(units)))
             median = statistics.median(units[-RECENT:])
             lines.append(figure(name, *(thousandths(it / UNITS) for it in (min(units), median, mean, max(units)))))
-        if those:
-            exact.append(fractions.Fraction(sum(it['rest'] for it in those), len(those)))
-    lines += rate_lines(crossings)
-    if len(exact) == 2:
-        asymmetry = fractions.Fraction(round(exact[0] - exact[1]), UNITS)
+    lines += rate_lines(ways)
+    asymmetry = ways.told_asymmetry()
+    if asymmetry is not None:
+        asymmetry = fractions.Fraction(asymmetry, UNITS)
         lines.append(asymmetric(thousandths(asymmetry), thousandths(asymmetry / 2), end))
+    mean = ways.told_mean_rest()
+    if mean is not None:
+        lines.append(both_ways(thousandths(fractions.Fraction(mean, UNITS))))
     return lines
 
 
@@ -392,8 +400,8 @@ def untold_lines(follower, kind, word):
     return [f'nothing is told of {counted(count, word)} {which}' for count, which in counts if count]
 
 
-def said(watch, follower):
-    """What standard error says, without the name of the program in front."""
+def said(watch, follower, unit):
+    """What standard error says, without the name of the program in front, where packets or lines are the unit."""
     names = [it.decode() for it in watch.taps if it is not None]
     if follower is None:
         if len(names) == 2:
@@ -402,13 +410,15 @@ def said(watch, follower):
     start, end = follower.start.decode(), follower.end.decode()
     slave = f'slave {port(follower.slave)}' if follower.slave else f'no Delay_Req at {end} tells the slave'
     lines = [f'from {start} to {end}', f'domain {watch.domain}', f'master {port(watch.master)}', slave]
-    lines += figures(follower.crossings, start, end) + changed_lines(follower.crossings)
+    ways = bewares.Ways(follower.crossings, rate(follower.crossings), start, end, unit)
+    lines += figures(follower.crossings, ways, start, end) + changed_lines(follower.crossings)
     for kind, word, other, first, second in (('sync', 'Sync', 'Follow_Up', start, end), ('delay_req', 'Delay_Req', 'Delay_Resp', end, start)):
         records = follower.records[kind]
         for count, here, there in ((records.lost('first', 'second'), first, second), (records.lost('second', 'first'), second, first)):
             lines += were(count, word, *[f'met at {here} and not at {there}'] * 2)
         lines += were(records.unfinished(), word, f'met at both taps, and a {other} of it is missing', f'met at both taps, and a {other} of each is missing')
-    return lines + untold_lines(follower, 'sync', 'Sync') + untold_lines(follower, 'delay_req', 'Delay_Req')
+    lines += untold_lines(follower, 'sync', 'Sync') + untold_lines(follower, 'delay_req', 'Delay_Req')
+    return lines + [f'beware: {it}' for it in ways.bewares()]
 
 
 def not_met(wanted, taps):
@@ -455,7 +465,7 @@ def follow(octets, wanted=Wanted()):
     if third is None and fault is None and follower is None:
         follower = begin(True)
     crossings = follower.crossings if follower else []
-    told = said(watch, follower), 0 if follower is None else 4 if follower.slave else 3
+    told = said(watch, follower, 'packet' if octets[:4] in reading.MAGICS else 'line'), 0 if follower is None else 4 if follower.slave else 3
     if third is not None:
         return Followed(2, crossings, *told, ('third', (809, third.line)), third.tap)
     lacking = [] if fault else not_met(wanted, list(dict.fromkeys(message.tap for message in met)))

@@ -41,64 +41,48 @@ fn name_of(kind: Kind) -> &'static str {
     }
 }
 
-/// What follows of crossings that took less than 0.
-fn why_taken(is_of_both: bool) -> &'static str {
-    if is_of_both {
-        "most of both kinds did, so the taps are the wrong way round"
-    } else {
-        "the clock of a tap is off, or the taps are the wrong way round: set both by one clock, or exchange --from and --to"
-    }
-}
-
-/// What follows of rests that are less than 0.
-fn why_rest(is_of_both: bool) -> &'static str {
-    if is_of_both {
-        "so it is both ways, which no difference of the taps' clocks explains: a clock between the taps tells its residences too \
-         long, or a tap stamps what leaves earlier, or what arrives later, than that clock does, as stamps by software do"
-    } else {
-        "the clock of a tap is off, or corrections are too big: set both taps by one clock"
-    }
-}
-
 impl Told<'_> {
     /// Tells crossings that took less than 0.
     fn tell_taken<W: fmt::Write>(&self, below: &Below, f: &mut Formatter<W>) -> fmt::Result {
-        let Below {
-            kind,
-            cases,
-            of,
-            is_of_both,
-        } = *below;
-        let (unit, why) = (self.unit, why_taken(is_of_both));
+        let (cases, unit) = (below.cases, self.unit);
+        let (name, first) = (name_of(below.kind), First { cases, unit });
         write!(
             f,
-            "{} of {of} {} took less than 0 ns, {}: {why}",
-            cases.count,
-            name_of(kind),
-            First { cases, unit }
+            "{} of {} {name} took less than 0 ns, {first}: ",
+            cases.count, below.of
         )?;
-        if is_of_both {
-            write!(f, ": --from {} --to {} exchanges them", self.to, self.from)?;
+        match (below.kind, below.is_of_both) {
+            (_, false) => f.write_str(
+                "the clock of a tap is off, or the taps are the wrong way round: set both by one clock, or exchange --from and --to",
+            ),
+            (Kind::Sync, true) => write!(
+                f,
+                "as did most Delay_Reqs, so the taps are the wrong way round: --from {} --to {} exchanges them",
+                self.to, self.from
+            ),
+            (Kind::DelayReq, true) => f.write_str("as did most Syncs"),
         }
-        Ok(())
     }
 
     /// Tells crossings of which less than 0 rests.
     fn tell_rest<W: fmt::Write>(&self, below: &Below, f: &mut Formatter<W>) -> fmt::Result {
-        let Below {
-            kind,
-            cases,
-            of,
-            is_of_both,
-        } = *below;
-        let (unit, why) = (self.unit, why_rest(is_of_both));
+        let (cases, unit) = (below.cases, self.unit);
+        let (name, first) = (name_of(below.kind), First { cases, unit });
         write!(
             f,
-            "of {} of {of} {} less than 0 ns rests, {}: {why}",
-            cases.count,
-            name_of(kind),
-            First { cases, unit }
-        )
+            "{} of {} rests of {name} are below 0 ns, {first}: ",
+            cases.count, below.of
+        )?;
+        f.write_str(match (below.kind, below.is_of_both) {
+            (_, false) => {
+                "the clock of a tap is off, or corrections are too big: set both taps by one clock"
+            }
+            (Kind::Sync, true) => {
+                "as those of Delay_Reqs are, so it isn't the taps' clocks: corrections are too big, or a tap stamps what leaves earlier, \
+                 or what arrives later, than the clock between does, as software may; have hardware stamp"
+            }
+            (Kind::DelayReq, true) => "as those of Syncs are",
+        })
     }
 
     /// Tells an asymmetry that is too great to be one.

@@ -170,7 +170,9 @@ pub(crate) fn tell_figures<E: Write>(
         if let Some(asymmetry) = ways.told_asymmetry() {
             tell_asymmetry(asymmetry, to, errors);
         }
-        tell_mean(sums, errors);
+        if let Some(mean) = ways.told_mean_rest() {
+            tell_mean(mean, errors);
+        }
         tell_changed(&figures.changed, errors);
     }
 }
@@ -186,13 +188,11 @@ fn tell_asymmetry<E: Write>(asymmetry: i128, to: &str, errors: &mut E) {
     );
 }
 
-/// Tells the mean rest of both directions, where there is one. What can't be written is lost.
-fn tell_mean<E: Write>(sums: &Sums, errors: &mut E) {
-    if let Some(mean) = sums.both_ways().mean_rest {
-        let _ = writeln!(
-            errors,
-            "ptpx: mean rest of both directions, in which the difference of the taps' clocks cancels: {} ns",
-            of_units(mean)
-        );
-    }
+/// Tells the mean rest of both directions. What can't be written is lost.
+fn tell_mean<E: Write>(mean: i128, errors: &mut E) {
+    let _ = writeln!(
+        errors,
+        "ptpx: mean rest of both directions, in which the difference of the taps' clocks cancels: {} ns",
+        of_units(mean)
+    );
 }

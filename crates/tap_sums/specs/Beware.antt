@@ -121,11 +121,11 @@ abbrev pub is_beyond_ways : (asymmetry : ℤ) → (syncs requests : Option Sprea
 is_beyond_ways asymmetry (Some syncs) (Some requests) = is_beyond_half asymmetry (syncs.mean +ℤ requests.mean)
 is_beyond_ways asymmetry _ requests = false
 
--- it is greater than 100 us or than that
+-- it is greater than 100 us, or than 100 ns and that
 abbrev pub is_too_great : Ways → (asymmetry : ℤ) → Bool
 is_too_great w asymmetry =
     nat_lt 6553600000 (unsigned_abs asymmetry)
-    || is_beyond_ways asymmetry w.syncs.statistics.taken w.requests.statistics.taken
+    || (nat_lt 6553600 (unsigned_abs asymmetry) && is_beyond_ways asymmetry w.syncs.statistics.taken w.requests.statistics.taken)
 
 -- most of both kinds took less than 0
 abbrev pub are_exchanged : Ways → Bool

@@ -33,8 +33,11 @@ const RATE: u128 = 1000;
 /// Up to how many thousand-millionths a clock is fast or slow: 100 ppm.
 const CLOCK_RATE: u128 = 100_000;
 
-/// Up to how many units of 2^-16 ns an asymmetry is taken as one: 100 us.
+/// Up to how many units of 2^-16 ns an asymmetry is taken as one, however long both ways are: 100 us.
 const ASYMMETRY: u128 = 6_553_600_000;
+
+/// Up to how many units of 2^-16 ns it is taken as one, however short they are: 100 ns.
+const SMALL_ASYMMETRY: u128 = 6_553_600;
 
 /// What the crossings of a kind come to.
 #[derive(Clone, Copy)]
@@ -93,8 +96,8 @@ pub enum Beware {
     /// The rests of Syncs grow by more of their corrections than a clock is fast or slow, which is 100 ppm, and that explains half of how
     /// they vary, or more: by how many thousand-millionths.
     SteepRate(Signed),
-    /// The mean rest of Syncs differs from that of Delay_Reqs by more than 100 us, or by more than the mean of what both took: the
-    /// asymmetry, in units of 2^-16 ns.
+    /// The mean rest of Syncs differs from that of Delay_Reqs by more than 100 us, or by more than 100 ns and the mean of what
+    /// both took: the asymmetry, in units of 2^-16 ns.
     ClocksDiffer(i128),
 }
 
@@ -331,7 +334,8 @@ impl Ways {
             &self.syncs.statistics.taken,
             &self.requests.statistics.taken,
         );
-        asymmetry.unsigned_abs() > ASYMMETRY || is_beyond_ways(asymmetry, syncs, requests)
+        let size = asymmetry.unsigned_abs();
+        size > ASYMMETRY || (size > SMALL_ASYMMETRY && is_beyond_ways(asymmetry, syncs, requests))
     }
 
     /// Whether both kinds look as if the taps were exchanged.
