@@ -42,7 +42,7 @@ KNOWN = {
         "# `tap_sums`",
         "What happened to messages between two taps, as text and in sums: crossings as lines of JSON and as rows of a table; their sums, exact, and as lines of JSON; "
         "and what people are told beside these: medians of the last ones of each kind, what a line through the rests of Syncs is drawn by, which fields changed "
-        "between the taps, and of which records nothing is told\\.",
+        "between the taps, and of which records nothing is told; and what speaks against all that\\.",
         "Crossings are to be as `Taps::meet` tells them\\. Sums are exact, and none overflows: of each kind the first 2\\^63 - 1 count\\. Means, asymmetry and mean",
         "\\| call \\| says \\| clauses \\|",
         "\\| `tap_sums::push_json` \\| .*",

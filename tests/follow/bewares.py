@@ -68,7 +68,7 @@ class Way:
     def uncorrected(self, unit):
         if self.are_enough and all(it['corrected'] == 0 < it['taken'] for it in self.those):
             yield (f'none of {self.count} {self.name} was corrected, though each took time, the first at {unit} {place(self.those[0])}: no transparent clock is '
-                   "between the taps, but perhaps a plain bridge, or it doesn't correct these")
+                   "between the taps, but perhaps a plain bridge, or it doesn't correct these, so that all that they took rests")
 
 
 class Ways:

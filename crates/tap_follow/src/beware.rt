@@ -127,7 +127,7 @@ impl Display for Told<'_> {
             Beware::Uncorrected { kind, cases } => write!(
                 f,
                 "none of {} {} was corrected, though each took time, {}: no transparent clock is between the taps, but perhaps a plain \
-                 bridge, or it doesn't correct these",
+                 bridge, or it doesn't correct these, so that all that they took rests",
                 cases.count,
                 name_of(kind),
                 First { cases, unit }

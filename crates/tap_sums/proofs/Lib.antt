@@ -4,3 +4,4 @@ mod Counted
 mod Kept
 mod WorkedLines
 mod WorkedFigures
+mod WorkedBewares
