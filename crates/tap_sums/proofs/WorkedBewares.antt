@@ -1,5 +1,5 @@
 -- Worked cases: what speaks against the numbers of crossings, and where each begins.
-use Rattle.std.proofs.Common.{◌≡◌, ℕ, ℤ, pos, negsuc, true, false, [], ◌∷◌, Option, Some, None, refl}
+use Rattle.std.proofs.Common.{◌≡◌, ℕ, ℤ, pos, negsuc, true, false, [], ◌∷◌, Some, None, refl}
 use Rattle.statistics.specs.declared.cases.Cases.{Cases}
 use Rattle.statistics.specs.declared.rounded.Growth.{Growth}
 use Rattle.statistics.specs.declared.rounded.Shift.{Shift}
@@ -108,10 +108,10 @@ bridge = refl
 
 -- ---- what moves
 -- a step of 100 ns behind 4 crossings
-change : Change
+abbrev change : Change
 change = record { from = at 9; to = at 11; before = series 4 }
 
-shift : Shift
+abbrev shift : Shift
 shift = record { by = size 100000; explains_most = true }
 
 abbrev stepping : Ways
