@@ -197,10 +197,10 @@ UNFOLLOWED = r"%d of %d two-step Syncs have no Follow_Up and give no offset: los
 UNANSWERED = r"%d of %d Delay_Reqs have no Delay_Resp: lost, or the master doesn't answer them$"
 MISSING = r'%d of %d %s are missing, by their numbers: lost on the way or in recording$'
 OLD = (r'offsets that rest on a path delay older than 10 s: %d, the first at packet %d; the oldest was %s s old at packet %d: Delay_Reqs or their answers '
-       r"stopped, and path_ns isn't measured anew$")
+       r"stopped, and the path delay isn't measured anew$")
 SLOWED = r'1 of 51 path delays are below 0, the least -%s ns at packet 182:'
 REPEATED = r'messages with a number that came before: 1;'
-MASTER_ANEW = r'the master began its numbers anew %s at packet %d, at %s: it was started anew, or another one took its identity$'
+MASTER_ANEW = r'the master began its numbers anew %s at packet %d, at %s: it was started anew, or another one took its identity, or many of its Syncs are missing$'
 SLAVE_ANEW = r'the slave began anew %s at packet %d, at %s: it was started anew, or many of its Delay_Reqs are missing$'
 COARSE = r'all times are of whole microseconds: no offset is better than 1 us;'
 
@@ -269,8 +269,8 @@ BENT = {
     'with a way back that is 50 us longer in the end': (lambda it: longer_back(it, 50_000),
                                                         [r'the offset steps by -23498\.208 ns \(rounded\) at packet 185: a clock was set there, or the way changed$',
                                                          r'the path delay steps by 27283\.569 ns \(rounded\) at packet 182: the way changed, or a clock was set there$']),
-    'with one Sync that is stamped 0.1 s late': (late_once, [FALLS % 1, r'the offset at packet \d+ lies \d+ ns from both of its neighbours, more than a '
-                                                             r'hundred times as far as offsets change else: its Sync was held up, or stamped late$']),
+    'with one Sync that is stamped 0.1 s late': (late_once, [FALLS % 1, r'the offset at packet \d+ lies at least \d+ ns from both of its neighbours, more than a '
+                                                             r'hundred times as far as offsets change else: one of its messages was held up, or has a wrong time$']),
     'still': (still, []),
     'still, with a way back that is 5 us longer in the end': (lambda it: longer_back(still(it), 5000),
                                                               [r'the offset steps by -2500\.000 ns \(rounded\) at packet 185: a clock was set there, or the way changed$',

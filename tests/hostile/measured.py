@@ -313,7 +313,7 @@ class Measurer:
         is_report = isinstance(answer, tuple)
         begins, self.begins = self.begins or answer == 'anew', False
         self.became.append(worth.Became(read.place, read.units, said.kind, said.domain, said.source, said.sequence, said.correction, said.log,
-                                        'report' if is_report else str(answer), begins))
+                                        'report' if is_report else str(answer), begins, said.two_step))
         if is_report:
             self.counts['reports'] += 1
             return self.report(read, *answer)

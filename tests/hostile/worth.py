@@ -43,6 +43,8 @@ class Became(typing.NamedTuple):
     log: int
     answer: str
     begins: bool
+    # Whether its twoStepFlag is set.
+    is_two_step: bool
 
 
 class Shift(typing.NamedTuple):
@@ -234,12 +236,14 @@ class Flow:
 
 
 def numbers_of(became):
-    """Of Syncs that waited, and of Delay_Reqs, how many there are and how many of them are without the message that answers them."""
-    waited = [it.answer == WAITED for it in firsts(became, SYNC)]
+    """Of two-step Syncs, and of Delay_Reqs, how many there are, and of Syncs that waited and of Delay_Reqs how many are without the message that answers
+    them."""
+    syncs = firsts(became, SYNC)
+    two_step, waited = [it.is_two_step for it in syncs], [it.answer == WAITED for it in syncs]
     followed = [it.answer != WAITED for it in firsts(became, FOLLOW_UP)]
     answered = [it.answer != UNASKED for it in firsts(became, RESPONSE)]
     requests = len(firsts(became, REQUEST))
-    return sum(waited), max(sum(waited) - sum(followed), 0), requests, max(requests - sum(answered), 0)
+    return sum(two_step), max(sum(waited) - sum(followed), 0), requests, max(requests - sum(answered), 0)
 
 
 def milliseconds(nanoseconds):
@@ -278,9 +282,9 @@ def passing(names, unit, flow, logs):
 def flows(unit, reports, became):
     """What came of the master and the slave, what is missing, how long it is from one message to the next, and how old a path delay was."""
     syncs, requests = Flow(SYNC, became), Flow(REQUEST, became)
-    waited, unfollowed, _, unanswered = numbers_of(became)
+    two_step, unfollowed, _, unanswered = numbers_of(became)
     if syncs.all:
-        yield (f'Syncs: {len(syncs.all)}, {syncs.missing} missing; of these two-step: {waited}, Follow_Ups: {len(firsts(became, FOLLOW_UP))}, '
+        yield (f'Syncs: {len(syncs.all)}, {syncs.missing} missing; of these two-step: {two_step}, Follow_Ups: {len(firsts(became, FOLLOW_UP))}, '
                f'{unfollowed} missing')
     yield from passing('Syncs', unit, syncs, [it.log for it in syncs.all])
     responses = firsts(became, RESPONSE)
@@ -302,16 +306,16 @@ def old_delays(unit, syncs, requests):
         oldest = max(aged, key=lambda it: it.age)
         if oldest.age // 8 >= requests.interval():
             yield (f'offsets that rest on a path delay older than 10 s: {len(old)}, the first at {unit} {old[0].place}; the oldest was '
-                   f"{told_seconds(oldest.age)} old at {unit} {oldest.place}: Delay_Reqs or their answers stopped, and path_ns isn't measured anew")
+                   f"{told_seconds(oldest.age)} old at {unit} {oldest.place}: Delay_Reqs or their answers stopped, and the path delay isn't measured anew")
 
 
 def losses(became):
     """What is told of messages of which more than one, and more than one in a hundred, are missing."""
     syncs, requests = Flow(SYNC, became), Flow(REQUEST, became)
-    waited, unfollowed, asked, unanswered = numbers_of(became)
+    two_step, unfollowed, asked, unanswered = numbers_of(became)
     for missing, of, what in (
             (syncs.missing, syncs.missing + len(syncs.all), 'Syncs are missing, by their numbers: lost on the way or in recording'),
-            (unfollowed, waited, "two-step Syncs have no Follow_Up and give no offset: lost, or general messages (port 320) weren't recorded"),
+            (unfollowed, two_step, "two-step Syncs have no Follow_Up and give no offset: lost, or general messages (port 320) weren't recorded"),
             (requests.missing, requests.missing + len(requests.all), 'Delay_Reqs are missing, by their numbers: lost on the way or in recording'),
             (unanswered, asked, "Delay_Reqs have no Delay_Resp: lost, or the master doesn't answer them")):
         if missing > 1 and 100 * missing > of:
@@ -337,8 +341,8 @@ def apart(unit, syncs):
     size, place, both = max(spikes)
     changes = sum(abs(one - other) for one, other in zip(values, values[1:]))
     if size >= 1000 * NANOSECOND2 and size // 100 > (changes - both) // (len(values) - 3):
-        yield (f'the offset at {unit} {syncs[-place].place} lies {size // NANOSECOND2} ns from both of its neighbours, more than a hundred times as far as '
-               'offsets change else: its Sync was held up, or stamped late')
+        yield (f'the offset at {unit} {syncs[-place].place} lies at least {size // NANOSECOND2} ns from both of its neighbours, more than a hundred times as far as '
+               'offsets change else: one of its messages was held up, or has a wrong time')
 
 
 def beware(unit, counts, reads, reports, became):
@@ -387,11 +391,13 @@ def beware(unit, counts, reads, reports, became):
         yield (f'Delay_Reqs that have a correction where they were recorded: {len(corrected)}, the first at {unit} {corrected[0].place}; a transparent '
                'clock stands between the slave and this place, and both results are off by half of the time in it, unless the slave itself corrects an '
                'asymmetry: record in front of it')
-    yield from beginning(unit, became, SYNC, 'the master began its numbers anew', 'it was started anew, or another one took its identity')
+    yield from beginning(unit, became, SYNC, 'the master began its numbers anew', 'it was started anew, or another one took its identity, or many of its '
+                         'Syncs are missing')
     yield from beginning(unit, became, REQUEST, 'the slave began anew', 'it was started anew, or many of its Delay_Reqs are missing')
     yield from apart(unit, syncs)
     cut = sum(said in ('refused 201', 'refused 205') for _, said in reads)
     if cut:
         yield f'datagrams that are cut short (201, 205): {cut}; a snap length does that, so record whole packets'
     if times and all(units % (1000 * NANOSECOND) == 0 for units in times):
-        yield 'all times are of whole microseconds: no offset is better than 1 us; tcpdump -j or dumpcap with nanoseconds is'
+        yield ('all times are of whole microseconds: no offset is better than 1 us; record with tcpdump --time-stamp-precision nano, or '
+               'dumpcap')

@@ -22,6 +22,7 @@ unreported n earlier s so = record {
   stale = so.stale;
   requests_at_once = so.requests_at_once ∙ ap at_most (sym (count_none _ (record n { reported = None }) earlier refl));
   syncs_at_once = so.syncs_at_once ∙ ap at_most (sym (count_none _ (record n { reported = None }) earlier refl));
+  farthest = so.farthest;
   last = so.last;
 }
 
@@ -39,6 +40,7 @@ still_unreported n earlier s so = record {
   stale = so.stale;
   requests_at_once = so.requests_at_once ∙ ap at_most (count_none _ (record n { reported = None }) earlier refl);
   syncs_at_once = so.syncs_at_once ∙ ap at_most (count_none _ (record n { reported = None }) earlier refl);
+  farthest = so.farthest;
   last = so.last;
 }
 

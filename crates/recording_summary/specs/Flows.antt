@@ -10,6 +10,7 @@ use Rattle.recording_summary.specs.declared.others.Meeting.{Meeting}
 use Rattle.recording_summary.specs.declared.others.MessageKind.{MessageKind}
 use Rattle.recording_summary.specs.declared.others.MessageKind.TheVariants.{Sync, FollowUp, DelayReq, DelayResp}
 use Rattle.recording_summary.specs.Messages.{first_by}
+use Rattle.slave_port.specs.Usable.{is_two_step}
 use Rattle.statistics.specs.declared.flow.Sent.{Sent}
 use Rattle.statistics.specs.declared.series.Point.{Point}
 use Rattle.statistics.specs.Cases.{AreCases}
@@ -35,6 +36,10 @@ is_held _ = false
 abbrev pub is_unasked : Option NoReport → Bool
 is_unasked (Some whys.Unrecorded) = true
 is_unasked _ = false
+
+-- a Sync whose twoStepFlag is set
+abbrev pub is_first_two_step : Meeting → Bool
+is_first_two_step m = is_first Sync m && is_two_step m.header
 
 -- a Sync that waits for its Follow_Up (IEEE 1588-2019, 9.5.9)
 abbrev pub is_waiting : Meeting → Bool
@@ -79,6 +84,7 @@ pub record AreFlows (all : List Meeting) (f : Flows) : Type 0 where
   pub syncs : IsFlow (filter_map (sent_of Sync) all) f.syncs
   pub requests : IsFlow (filter_map (sent_of DelayReq) all) f.requests
   pub follow_ups : f.follow_ups ≡ count_met (is_first FollowUp) all
+  pub two_step : f.two_step ≡ count_met is_first_two_step all
   pub waiting : f.waiting ≡ count_met is_waiting all
   pub followed : f.followed ≡ count_met is_following all
   pub answers : f.answers ≡ count_met is_answer all

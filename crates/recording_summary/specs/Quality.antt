@@ -1,5 +1,5 @@
 -- What the numbers of a recording are worth, by what is noted of its datagrams. Lists have the newest in front.
-use Rattle.std.specs.Prelude.{◌≡◌, ℕ, ◌+◌, ◌%◌, ◌==◌, nat_lt, pos, ◌+ℤ◌, int_lt, Bool, true, false, not, if◌then◌else◌}
+use Rattle.std.specs.Prelude.{◌≡◌, ℕ, ◌+◌, ◌%◌, ◌==◌, nat_lt, max, unsigned_abs, pos, ◌+ℤ◌, int_lt, Bool, true, false, not, if◌then◌else◌}
 use Rattle.std.specs.Prelude.{List, [], ◌∷◌, count_by, filter_map, is_some, Option, Some, None, option_map, option_and_then}
 use Rattle.std.specs.Option.{option_map_or, option_or}
 use Rattle.std.specs.Ordering.{int_eq}
@@ -82,6 +82,12 @@ is_request_at_once Response r = int_eq r.report.offset2 r.report.path2
 abbrev pub count_reported : (Half → Reported → Bool) → List Noted → ℕ
 count_reported is all = at_most (count_by (λ n. option_map_or (λ r. is r.by r) n.reported false) all)
 
+-- the greatest offset of all reports, doubled, without its sign; 0 of none
+abbrev pub farthest : List Noted → ℕ
+farthest [] = 0
+farthest (n ∷ earlier) =
+    option_map_or (λ r. max (farthest earlier) (unsigned_abs r.report.offset2)) n.reported (farthest earlier)
+
 -- the time of the last datagram that completed a report
 abbrev pub last_reported : List Noted → Option ℕ
 last_reported [] = None
@@ -100,6 +106,7 @@ pub record AreStatistics (all : List Noted) (s : Statistics) : Type 0 where
   pub stale : AreCases (filter_map (λ n. if_stale (age_of n)) all) s.stale
   pub requests_at_once : s.requests_at_once ≡ count_reported is_request_at_once all
   pub syncs_at_once : s.syncs_at_once ≡ count_reported is_sync_at_once all
+  pub farthest : s.farthest ≡ farthest all
   pub last : s.last ≡ last_reported all
 
 -- ---- times

@@ -85,7 +85,7 @@ impl Counts {
 
     /// Tells them, in lines, behind what speaks against the numbers. What can't be written is lost.
     pub fn tell<E: Write>(&self, unit: &'static str, errors: &mut E) {
-        self.tell_doubts(unit, errors);
+        self.tell_bewares(unit, errors);
         let _ = match self.reports {
             0 => writeln!(errors, "ptpx: no report"),
             1 => writeln!(errors, "ptpx: 1 report"),

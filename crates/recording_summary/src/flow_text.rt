@@ -1,11 +1,9 @@
 //! What is told of what came, of what is missing, and of the time from one message to the next.
 
 use crate::counts::Counts;
+use crate::time_text::Seconds;
 use statistics::{Milliseconds, Point, Series, Signed, deviation, mean};
 use std::io::Write;
-
-/// Units of 2^-16 ns in a millisecond.
-const MILLISECOND: u128 = 65_536_000_000;
 
 /// Microseconds in a second.
 const SECOND: u128 = 1_000_000;
@@ -75,7 +73,7 @@ impl Counts {
                 "ptpx: Syncs: {}, {} missing; of these two-step: {}, Follow_Ups: {}, {} missing",
                 syncs.count,
                 syncs.missing(),
-                flows.waiting,
+                flows.two_step,
                 flows.follow_ups,
                 flows.unfollowed()
             );
@@ -99,12 +97,10 @@ impl Counts {
             errors,
         );
         if let Some(Point { value, line, .. }) = self.quality.statistics.ages.greatest {
-            let milliseconds = value.unsigned_abs() / MILLISECOND;
             let _ = writeln!(
                 errors,
-                "ptpx: the path delay of an offset is at most {}.{:03} s old, at {unit} {line}",
-                milliseconds / 1000,
-                milliseconds % 1000
+                "ptpx: the path delay of an offset is at most {} old, at {unit} {line}",
+                Seconds(value)
             );
         }
     }

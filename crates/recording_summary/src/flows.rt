@@ -1,7 +1,7 @@
 //! What came of the master and the slave, what is missing, and who began anew.
 
 ghost use Rattle.std.specs.Prelude.{◌≡◌, List, [], ◌∷◌, Option};
-ghost use Rattle.recording_summary.specs.Flows.{AreFlows, log_of, sent_of, is_first, is_waiting, is_following, is_answer};
+ghost use Rattle.recording_summary.specs.Flows.{AreFlows, log_of, sent_of, is_first, is_first_two_step, is_waiting, is_following, is_answer};
 ghost use Rattle.recording_summary.specs.Flows.{correction_of, begun_of, unfollowed, unanswered};
 ghost use Rattle.recording_summary.specs.Messages.{is_same_kind};
 
@@ -18,6 +18,8 @@ pub struct Flows {
     pub requests: Flow,
     /// How many Follow_Ups.
     pub follow_ups: u64,
+    /// How many Syncs are two-step ones.
+    pub two_step: u64,
     /// How many Syncs waited for their Follow_Ups.
     pub waiting: u64,
     /// How many Follow_Ups came of a Sync that waited.
@@ -59,6 +61,13 @@ fn sent_of(kind: MessageKind, meeting: &Meeting) -> Option<Sent>
         }),
         _ => None,
     }
+}
+
+/// Whether it is a Sync whose twoStepFlag is set.
+fn is_first_two_step(meeting: &Meeting) -> bool
+    ensures { result ≡ is_first_two_step meeting.now }
+{
+    is_first(MessageKind::Sync, meeting) && meeting.header.flags[0] / 2 % 2 == 1
 }
 
 /// Whether a Sync waits for its Follow_Up.
@@ -126,6 +135,7 @@ impl Flows {
             syncs: Flow::new(),
             requests: Flow::new(),
             follow_ups: 0,
+            two_step: 0,
             waiting: 0,
             followed: 0,
             answers: 0,
@@ -145,6 +155,7 @@ impl Flows {
         self.requests
             .take_some(sent_of(MessageKind::DelayReq, meeting));
         self.follow_ups = count_if(self.follow_ups, is_first(MessageKind::FollowUp, meeting));
+        self.two_step = count_if(self.two_step, is_first_two_step(meeting));
         self.waiting = count_if(self.waiting, is_waiting(meeting));
         self.followed = count_if(self.followed, is_following(meeting));
         self.answers = count_if(self.answers, is_answer(meeting));

@@ -3,20 +3,25 @@
 #![tactic(auto)]
 
 mod beware;
-mod beware_others;
-mod bewares;
+mod beware_words;
 mod callers;
+mod count_bewares;
 mod counts;
 mod flow_text;
 mod flows;
 mod kind;
+mod message_bewares;
 mod no_report;
 mod others;
+mod others_text;
 mod quality;
-mod told;
+mod report_bewares;
+mod statistics_text;
+mod time_text;
 mod whom;
+mod worth;
 
-pub use bewares::{Beware, Lost};
+pub use beware::{Beware, Jump, Lost, Rounded};
 pub use callers::Callers;
 pub use counts::Counts;
 pub use flows::Flows;

@@ -1,4 +1,4 @@
-ghost use Rattle.std.specs.Prelude.{◌≡◌, pos, ◌+ℤ◌, List, [], ◌∷◌, Option, Some, None, option_map};
+ghost use Rattle.std.specs.Prelude.{◌≡◌, max, unsigned_abs, pos, ◌+ℤ◌, List, [], ◌∷◌, Option, Some, None, option_map};
 ghost use Rattle.std.specs.Ordering.{int_eq};
 ghost use Rattle.recording_summary.specs.Noted.{Noted};
 ghost use Rattle.slave_port.specs.Exchange.{age};
@@ -44,6 +44,8 @@ pub struct Statistics {
     pub requests_at_once: u64,
     /// How many reports that a Sync completed have an offset that is the path delay below 0: the Sync arrived when it left, corrected.
     pub syncs_at_once: u64,
+    /// The greatest offset of all reports, without its sign.
+    pub farthest: u128,
     /// The time of the last line that completed a report.
     pub last: Option<ScaledTime>,
 }
@@ -166,6 +168,13 @@ fn stale_at(line: u64, time: ScaledTime, exchange: &Option<LastExchange>) -> Opt
     if age.value > STALE { Some(age) } else { None }
 }
 
+/// The greatest offset, without its sign, once there is one more report.
+fn farther(farthest: u128, report: &Report) -> u128
+    ensures { result ≡ max farthest (unsigned_abs report.now.offset2) }
+{
+    farthest.max(report.offset2.unsigned_abs())
+}
+
 /// Whether the Sync of a report arrived, corrected, when it left.
 fn is_sync_at_once(report: &Report) -> bool
     ensures { result ≡ int_eq (report.now.offset2 +ℤ report.now.path2) (pos 0) }
@@ -200,6 +209,7 @@ impl Statistics {
             stale: Cases::new(),
             requests_at_once: 0,
             syncs_at_once: 0,
+            farthest: 0,
             last: None,
         }
     }
@@ -223,6 +233,7 @@ impl Statistics {
             } ∷ earlier) self.new }
     {
         self.last = Some(time);
+        self.farthest = farther(self.farthest, report);
         match by {
             Half::Sync => {
                 let offset = offset_at(line, time, report);

@@ -1,5 +1,5 @@
-use Rattle.std.proofs.Common.{◌∙◌, ◌∷◌, Option, Some, None, false, refl, sym, ap, subst}
-use Rattle.std.specs.Prelude.{filter_map}
+use Rattle.std.proofs.Common.{◌∙◌, ℕ, ◌∷◌, Option, Some, None, false, refl, sym, ap, subst}
+use Rattle.std.specs.Prelude.{filter_map, max, unsigned_abs}
 use Rattle.std.specs.Option.{option_map_or}
 use Rattle.std.specs.List.{cons_option}
 use Rattle.recording_lines.specs.declared.measurement.Half.{Half}
@@ -37,6 +37,7 @@ returns-in-Sync c = λ refusal earlier so.
       ages = c.take_some-in-Sync.new.self;
       stale = c.take_some-in-Sync-2.new.self;
       syncs_at_once = c.count_if-self.result;
+      farthest = c.farther-self.result;
       last = Some c.args.time;
     } in
     subst (λ (by : Half). AreStatistics (noted by ∷ earlier) after) (sym c.in-Sync.is) (record {
@@ -61,6 +62,7 @@ returns-in-Sync c = λ refusal earlier so.
       syncs_at_once = c.count_if-self.ensures ∙ count_more
           (λ n. option_map_or (λ r. is_sync_at_once r.by r) n.reported false) (noted Sync) earlier before.syncs_at_once
           c.is_sync_at_once.result c.is_sync_at_once.ensures own.syncs_at_once;
+      farthest = c.farther-self.ensures ∙ ap (λ (far : ℕ). max far (unsigned_abs c.args.report.now.offset2)) own.farthest;
       last = refl;
     })
 
@@ -80,6 +82,7 @@ returns-in-Response c = λ refusal earlier so.
       path_trend = c.take-in-Response-2.new.self;
       delay_corrections = c.take_some-in-Response.new.self;
       requests_at_once = c.count_if-self-in-Response.result;
+      farthest = c.farther-self.result;
       last = Some c.args.time;
     } in
     subst (λ (by : Half). AreStatistics (noted by ∷ earlier) after) (sym c.in-Response.is) (record {
@@ -102,5 +105,6 @@ returns-in-Response c = λ refusal earlier so.
           c.is_request_at_once.result c.is_request_at_once.ensures own.requests_at_once;
       syncs_at_once = own.syncs_at_once ∙ ap at_most (sym (count_none
           (λ n. option_map_or (λ r. is_sync_at_once r.by r) n.reported false) (noted Response) earlier refl));
+      farthest = c.farther-self.ensures ∙ ap (λ (far : ℕ). max far (unsigned_abs c.args.report.now.offset2)) own.farthest;
       last = refl;
     })
