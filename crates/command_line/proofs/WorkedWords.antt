@@ -41,8 +41,10 @@ measured : Names (codes "ptpx" ∷ codes "measure" ∷ codes "--csv" ∷ codes "
       master = None;
       domain = None;
       interface = None;
+      limit = None;
       csv = true;
       full = false;
+      strict = false;
     }))
 unfolding clap_on_literals walk_fault walked hex_on_literals chars faults_in named_in
 measured = (refl, refl)
@@ -125,19 +127,35 @@ values_behind_both : Names (codes "ptpx" ∷ codes "measure" ∷ codes "--master
       master = Some (record { clock = 0 ∷ 170 ∷ 187 ∷ 255 ∷ 254 ∷ 204 ∷ 221 ∷ 238 ∷ []; port = 2 });
       domain = Some 7;
       interface = None;
+      limit = None;
       csv = false;
       full = false;
+      strict = false;
     }))
 unfolding clap_on_literals walk_fault walked hex_on_literals chars faults_in named_in
 values_behind_both = (refl, refl)
 
 mark_behind_option : Names (codes "ptpx" ∷ codes "measure" ∷ codes "--csv" ∷ codes "--" ∷ [])
-    (Measure (record { slave = None; master = None; domain = None; interface = None; csv = true; full = false }))
+    (Measure (record { slave = None; master = None; domain = None; interface = None; limit = None; csv = true; full = false; strict = false }))
 unfolding clap_on_literals walk_fault walked hex_on_literals chars faults_in named_in
 mark_behind_option = (refl, refl)
 
+strictly : Names (codes "ptpx" ∷ codes "measure" ∷ codes "--limit" ∷ codes "12.5" ∷ codes "--strict" ∷ [])
+    (Measure (record {
+      slave = None;
+      master = None;
+      domain = None;
+      interface = None;
+      limit = Some 819200000000000;
+      csv = false;
+      full = false;
+      strict = true;
+    }))
+unfolding clap_on_literals walk_fault walked hex_on_literals chars faults_in named_in
+strictly = (refl, refl)
+
 in_full : Names (codes "ptpx" ∷ codes "measure" ∷ codes "--full" ∷ [])
-    (Measure (record { slave = None; master = None; domain = None; interface = None; csv = false; full = true }))
+    (Measure (record { slave = None; master = None; domain = None; interface = None; limit = None; csv = false; full = true; strict = false }))
 unfolding clap_on_literals walk_fault walked hex_on_literals chars faults_in named_in
 in_full = (refl, refl)
 

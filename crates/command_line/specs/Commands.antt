@@ -28,7 +28,7 @@ subcommands =
     ∷ (
       codes "measure",
       with_value (codes "slave") ∷ with_value (codes "master") ∷ with_value (codes "domain") ∷ with_value (codes "interface")
-          ∷ flag (codes "csv") ∷ flag (codes "full") ∷ [],
+          ∷ with_value (codes "limit") ∷ flag (codes "csv") ∷ flag (codes "full") ∷ flag (codes "strict") ∷ [],
     )
     ∷ (
       codes "follow",
@@ -47,14 +47,17 @@ extract_options_of rows = option_map (λ interface.
 -- the options of `measure`, where each value is one
 abbrev pub measure_options_of : List matches.Row → Option MeasureOptions
 measure_options_of rows = option_and_then (λ slave. option_and_then (λ master. option_and_then (λ domain.
-    option_map (λ interface. record {
+    option_and_then (λ interface. option_map (λ limit. record {
       slave = slave;
       master = master;
       domain = domain;
       interface = interface;
+      limit = limit;
       csv = is_used (codes "csv") rows;
       full = is_used (codes "full") rows;
+      strict = is_used (codes "strict") rows;
     })
+    (said limit_of (codes "limit") rows))
     (said interface_name (codes "interface") rows))
     (said domain_of (codes "domain") rows))
     (said port_identity_of (codes "master") rows))

@@ -28,10 +28,14 @@ pub struct MeasureOptions {
     pub domain: Option<u8>,
     /// The interface of a capture; without it, the first at which slave, master and domain are known.
     pub interface: Option<InterfaceName>,
+    /// The greatest offset, either way, that isn't told by the exit status: so many seconds as it is nanoseconds.
+    pub limit: Option<ScaledTime>,
     /// Whether the output is CSV, in place of JSON.
     pub csv: bool,
     /// Whether each report has also the exchange that it was made of.
     pub full: bool,
+    /// Whether the exit status tells that there is no report, or that anything speaks against the numbers.
+    pub strict: bool,
 }
 
 /// The options of `follow`.

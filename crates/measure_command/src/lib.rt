@@ -1,14 +1,16 @@
 //! What `ptpx measure` runs.
 #![tactic(auto)]
 
-ghost use Rattle.measure_command.specs.Run.{RunsMeasure, form_of, outcome_status};
+ghost use Rattle.measure_command.specs.Run.{RunsMeasure, form_of, outcome_status, is_beyond_limit, are_refused, is_refused, judged};
+ghost use Rattle.recording_summary.specs.declared.beware.Rounded.{Rounded};
 ghost use Rattle.std.specs.Prelude.{◌≡◌};
 
 use capture_report::finish_capture;
 use command_options::MeasureOptions;
 use datagram_source::InputOutcome;
 use fault_report::finish;
-use recording_measure::{Form, WantedPorts, measure};
+use ptp_units::ScaledTime;
+use recording_measure::{Counts, Form, WantedPorts, measure};
 use std::alloc::Global;
 use std::io::{Read, Write};
 use text_lines::{Counted, LineFault, Stopped};
@@ -41,7 +43,42 @@ pub fn run_measure<R: Read, W: Write, E: Write>(
     let status = finish_outcome(errors, outcome);
     tell_lines(&outcome, options.interface.is_some(), errors);
     summary.tell(errors);
-    status
+    judged(status, is_refused(&options, &summary.counts()))
+}
+
+/// Whether an offset is greater than the limit, either way, where there is one.
+fn is_beyond_limit(limit: Option<ScaledTime>, counts: &Counts) -> bool
+    ensures { result ≡ is_beyond_limit limit counts.now }
+{
+    match limit {
+        Some(limit) => counts.is_beyond(limit),
+        None => false,
+    }
+}
+
+/// Whether numbers aren't as they are asked for: one is beyond a limit, or strictly asked they are doubtful.
+fn are_refused(is_strict: bool, is_beyond: bool, is_doubtful: bool) -> bool
+    ensures { result ≡ are_refused is_strict is_beyond is_doubtful }
+{
+    is_beyond || (is_strict && is_doubtful)
+}
+
+/// Whether the numbers aren't as these options ask for them.
+fn is_refused(options: &MeasureOptions, counts: &Counts) -> bool
+    ensures { (rounded : Rounded) × (result ≡ is_refused options.now rounded counts.now) }
+{
+    are_refused(
+        options.strict,
+        is_beyond_limit(options.limit, counts),
+        counts.is_doubtful(),
+    )
+}
+
+/// The exit status: 1 where the numbers are refused, and nothing gives another.
+fn judged(status: u8, is_refused: bool) -> u8
+    ensures { result ≡ judged status is_refused }
+{
+    if status == 0 && is_refused { 1 } else { status }
 }
 
 /// How measurements are asked for.
@@ -79,7 +116,7 @@ fn tell_lines<E: Write>(
     }
 }
 
-/// Answers the exit status of `measure`, and says its fault.
+/// Answers the exit status by what came of the input, and says its fault.
 fn finish_outcome<E: Write>(errors: &mut E, outcome: InputOutcome<LineFault>) -> u8
     ensures { result ≡ outcome_status outcome }
 {

@@ -6,13 +6,15 @@ ghost use Rattle.clap.specs.Walk.{rows_of};
 ghost use Rattle.command_line.specs.Commands.{measure_options_of};
 
 use crate::commands::Help;
-use crate::options::{WrongValue, domain_option, interface_option, is_used, port_option};
+use crate::options::{
+    WrongValue, domain_option, interface_option, is_used, limit_option, port_option,
+};
 use crate::table::{OptionRow, SubcommandRow};
 use clap::ArgMatches;
 use command_options::MeasureOptions;
 
 /// The options of `measure`.
-const OPTIONS: [OptionRow; 6] = [
+const OPTIONS: [OptionRow; 8] = [
     OptionRow {
         name: "slave",
         value: Some("PORT"),
@@ -34,6 +36,11 @@ const OPTIONS: [OptionRow; 6] = [
         about: "The interface of a capture; else the first at which all three are known",
     },
     OptionRow {
+        name: "limit",
+        value: Some("NS"),
+        about: "Answer 1 where an offset is greater than so many nanoseconds, either way",
+    },
+    OptionRow {
         name: "csv",
         value: None,
         about: "Write CSV, in place of JSON",
@@ -42,6 +49,11 @@ const OPTIONS: [OptionRow; 6] = [
         name: "full",
         value: None,
         about: "Write also what each report was made of",
+    },
+    OptionRow {
+        name: "strict",
+        value: None,
+        about: "Answer 1 where anything speaks against the numbers, or there is no report",
     },
 ];
 
@@ -59,13 +71,19 @@ pub(crate) fn measure_options<'a>(
 ) -> Result<MeasureOptions, WrongValue<'a>>
     ensures { result_ok result ≡ measure_options_of (rows_of (found_of matches.now)) }
 {
+    let limit = match limit_option(matches, "limit") {
+        Ok(limit) => limit,
+        Err(wrong) => return Err(wrong),
+    };
     Ok(MeasureOptions {
         slave: port_option(matches, "slave")?,
         master: port_option(matches, "master")?,
         domain: domain_option(matches, "domain")?,
         interface: interface_option(matches, "interface")?,
+        limit,
         csv: is_used(matches, "csv"),
         full: is_used(matches, "full"),
+        strict: is_used(matches, "strict"),
     })
 }
 
@@ -91,7 +109,8 @@ sync_correction (of Sync and Follow_Up), delay_correction and t2_to_t3, the time
 is later, in nanoseconds, and the sequenceIds sync_number and request_number.
 
 A PORT is a portIdentity: 16 hexadecimal digits, '/' and the number, as 'ptpx show' writes it, or as pmc
-of linuxptp does, 00aabb.fffe.ccddee-1. Number and domain may have zeros in front.
+of linuxptp does, 00aabb.fffe.ccddee-1. Number and domain may have zeros in front. NS is nanoseconds, written
+as the time of a line is.
 
 Unless they are asked for, the domain is that of the first Sync, of the master that is asked for if one
 is; the master sent the first Sync of the domain, and the slave its first Delay_Req. Up to 1024 lines or
@@ -129,6 +148,8 @@ from 1 and octets from 0, and what was written before stands. Line 0 is before a
 
 Exit statuses:
   0  each line or packet was read
+  1  each was, and an offset is greater than --limit, either way, or with --strict there is no report, or
+     standard error says 'beware'
   2  the arguments aren't a command
   3  a fault
 

@@ -1,10 +1,11 @@
-use Rattle.std.proofs.Common.{◌≡◌, ◌∙◌, ℕ, Bool, Option, Some, None, ap, refl, sym, codes}
+use Rattle.std.proofs.Common.{◌≡◌, ◌∙◌, ℕ, Bool, List, Option, Some, None, ap, refl, sym, codes}
 use Rattle.std.specs.Prelude.{option_and_then, option_map}
 use Rattle.event_codec.specs.declared.port.PortIdentity.{PortIdentity}
 use Rattle.clap.specs.Matches.{found_of}
-use Rattle.clap.specs.Walk.{rows_of}
+use Rattle.clap.specs.Walk.{Row, rows_of}
 use Rattle.capture_file.specs.declared.name.InterfaceName.{InterfaceName}
 use Rattle.capture_file.specs.Name.{interface_name}
+use Rattle.command_line.specs.Limit.{limit_of}
 use Rattle.command_line.specs.Number.{domain_of}
 use Rattle.command_line.specs.Options.{is_used, said}
 use Rattle.command_line.specs.PortText.{port_identity_of}
@@ -14,36 +15,73 @@ use Rattle.command_line.proofs.commands.measure.measure_options.Goals as goal
 
 -- the options of `measure`, of what each says
 abbrev measure_made : Option (Option PortIdentity) → Option (Option PortIdentity) → Option (Option ℕ)
-    → Option (Option InterfaceName) → (csv full : Bool) → Option MeasureOptions
-measure_made slaves masters domains interfaces csv full =
-    option_and_then (λ slave. option_and_then (λ master. option_and_then (λ domain. option_map (λ interface.
-    record { slave = slave; master = master; domain = domain; interface = interface; csv = csv; full = full }) interfaces) domains) masters) slaves
+    → Option (Option InterfaceName) → Option (Option ℕ) → (csv full strict : Bool) → Option MeasureOptions
+measure_made slaves masters domains interfaces limits csv full strict =
+    option_and_then (λ slave. option_and_then (λ master. option_and_then (λ domain. option_and_then (λ interface. option_map (λ limit. record {
+      slave = slave;
+      master = master;
+      domain = domain;
+      interface = interface;
+      limit = limit;
+      csv = csv;
+      full = full;
+      strict = strict;
+    }) limits) interfaces) domains) masters) slaves
 
-no_master : (slaves : Option (Option PortIdentity)) (domains : Option (Option ℕ)) (interfaces : Option (Option InterfaceName)) (csv full : Bool)
-    → measure_made slaves None domains interfaces csv full ≡ None
-no_master None domains interfaces csv full = refl
-no_master (Some slave) domains interfaces csv full = refl
+-- the same, where what the options say that have no value is of the rows
+abbrev made_of_rows : List Row → Option (Option PortIdentity) → Option (Option PortIdentity) → Option (Option ℕ)
+    → Option (Option InterfaceName) → Option (Option ℕ) → Option MeasureOptions
+made_of_rows rows slaves masters domains interfaces limits = measure_made slaves masters domains interfaces limits
+    (is_used (codes "csv") rows) (is_used (codes "full") rows) (is_used (codes "strict") rows)
 
-no_domain : (slaves masters : Option (Option PortIdentity)) (interfaces : Option (Option InterfaceName)) (csv full : Bool)
-    → measure_made slaves masters None interfaces csv full ≡ None
-no_domain None masters interfaces csv full = refl
-no_domain (Some slave) None interfaces csv full = refl
-no_domain (Some slave) (Some master) interfaces csv full = refl
+module _ (rows : List Row) where
+  no_master : (slaves : Option (Option PortIdentity)) (domains : Option (Option ℕ)) (interfaces : Option (Option InterfaceName))
+      (limits : Option (Option ℕ)) → made_of_rows rows slaves None domains interfaces limits ≡ None
+  no_master None domains interfaces limits = refl
+  no_master (Some slave) domains interfaces limits = refl
 
-no_interface : (slaves masters : Option (Option PortIdentity)) (domains : Option (Option ℕ)) (csv full : Bool)
-    → measure_made slaves masters domains None csv full ≡ None
-no_interface None masters domains csv full = refl
-no_interface (Some slave) None domains csv full = refl
-no_interface (Some slave) (Some master) None csv full = refl
-no_interface (Some slave) (Some master) (Some domain) csv full = refl
+  no_domain : (slaves masters : Option (Option PortIdentity)) (interfaces : Option (Option InterfaceName))
+      (limits : Option (Option ℕ)) → made_of_rows rows slaves masters None interfaces limits ≡ None
+  no_domain None masters interfaces limits = refl
+  no_domain (Some slave) None interfaces limits = refl
+  no_domain (Some slave) (Some master) interfaces limits = refl
+
+  no_interface : (slaves masters : Option (Option PortIdentity)) (domains : Option (Option ℕ)) (limits : Option (Option ℕ))
+      → made_of_rows rows slaves masters domains None limits ≡ None
+  no_interface None masters domains limits = refl
+  no_interface (Some slave) None domains limits = refl
+  no_interface (Some slave) (Some master) None limits = refl
+  no_interface (Some slave) (Some master) (Some domain) limits = refl
+
+  no_limit : (slaves masters : Option (Option PortIdentity)) (domains : Option (Option ℕ)) (interfaces : Option (Option InterfaceName))
+      → made_of_rows rows slaves masters domains interfaces None ≡ None
+  no_limit None masters domains interfaces = refl
+  no_limit (Some slave) None domains interfaces = refl
+  no_limit (Some slave) (Some master) None interfaces = refl
+  no_limit (Some slave) (Some master) (Some domain) None = refl
+  no_limit (Some slave) (Some master) (Some domain) (Some interface) = refl
+
+pub returns-in-Err : goal.returns-in-Err
+returns-in-Err c =
+    let found = found_of c.args.matches.now in
+    let rows = rows_of found in
+    let slaves = said port_identity_of (codes "slave") rows in
+    let masters = said port_identity_of (codes "master") rows in
+    let domains = said domain_of (codes "domain") rows in
+    let interfaces = said interface_name (codes "interface") rows in
+    sym (no_limit rows slaves masters domains interfaces)
+    ∙ ap (made_of_rows rows slaves masters domains interfaces) (value_read limit_of found (codes "limit") None c.in-Err.ensures)
 
 pub returns-in_err-port_option : goal.returns-in_err-port_option
 returns-in_err-port_option c =
     let found = found_of c.args.matches.now in
     let rows = rows_of found in
+    let masters = said port_identity_of (codes "master") rows in
+    let domains = said domain_of (codes "domain") rows in
+    let interfaces = said interface_name (codes "interface") rows in
+    let limits = said limit_of (codes "limit") rows in
     no_answer c.from_residual.result c.from_residual.ensures.0
-    ∙ ap (λ slaves. measure_made slaves (said port_identity_of (codes "master") rows) (said domain_of (codes "domain") rows)
-    (said interface_name (codes "interface") rows) (is_used (codes "csv") rows) (is_used (codes "full") rows))
+    ∙ ap (λ slaves. made_of_rows rows slaves masters domains interfaces limits)
     (value_read port_identity_of found (codes "slave") None c.in_err-port_option.ensures)
 
 pub returns-in_err-port_option-2 : goal.returns-in_err-port_option-2
@@ -53,11 +91,10 @@ returns-in_err-port_option-2 c =
     let slaves = said port_identity_of (codes "slave") rows in
     let domains = said domain_of (codes "domain") rows in
     let interfaces = said interface_name (codes "interface") rows in
-    let csv = is_used (codes "csv") rows in
-    let full = is_used (codes "full") rows in
+    let limits = said limit_of (codes "limit") rows in
     no_answer c.from_residual-in_err-port_option-2.result c.from_residual-in_err-port_option-2.ensures.0
-    ∙ sym (no_master slaves domains interfaces csv full)
-    ∙ ap (λ masters. measure_made slaves masters domains interfaces csv full)
+    ∙ sym (no_master rows slaves domains interfaces limits)
+    ∙ ap (λ masters. made_of_rows rows slaves masters domains interfaces limits)
     (value_read port_identity_of found (codes "master") None c.in_err-port_option-2.ensures)
 
 pub returns-in_err-domain_option : goal.returns-in_err-domain_option
@@ -67,11 +104,10 @@ returns-in_err-domain_option c =
     let slaves = said port_identity_of (codes "slave") rows in
     let masters = said port_identity_of (codes "master") rows in
     let interfaces = said interface_name (codes "interface") rows in
-    let csv = is_used (codes "csv") rows in
-    let full = is_used (codes "full") rows in
+    let limits = said limit_of (codes "limit") rows in
     no_answer c.from_residual-in_err-domain_option.result c.from_residual-in_err-domain_option.ensures.0
-    ∙ sym (no_domain slaves masters interfaces csv full)
-    ∙ ap (λ domains. measure_made slaves masters domains interfaces csv full)
+    ∙ sym (no_domain rows slaves masters interfaces limits)
+    ∙ ap (λ domains. made_of_rows rows slaves masters domains interfaces limits)
     (value_read domain_of found (codes "domain") None c.in_err-domain_option.ensures)
 
 pub returns-in_err-interface_option : goal.returns-in_err-interface_option
@@ -81,11 +117,10 @@ returns-in_err-interface_option c =
     let slaves = said port_identity_of (codes "slave") rows in
     let masters = said port_identity_of (codes "master") rows in
     let domains = said domain_of (codes "domain") rows in
-    let csv = is_used (codes "csv") rows in
-    let full = is_used (codes "full") rows in
+    let limits = said limit_of (codes "limit") rows in
     no_answer c.from_residual-in_err-interface_option.result c.from_residual-in_err-interface_option.ensures.0
-    ∙ sym (no_interface slaves masters domains csv full)
-    ∙ ap (λ interfaces. measure_made slaves masters domains interfaces csv full)
+    ∙ sym (no_interface rows slaves masters domains limits)
+    ∙ ap (λ interfaces. made_of_rows rows slaves masters domains interfaces limits)
     (value_read interface_name found (codes "interface") None c.in_err-interface_option.ensures)
 
 pub returns : goal.returns
@@ -96,19 +131,22 @@ returns c =
     let master = c.in_ok-port_option-2.field-0 in
     let domain = c.in_ok-domain_option.field-0 in
     let interface = c.in_ok-interface_option.field-0 in
+    let limit = c.in-Ok.limit in
     let masters = said port_identity_of (codes "master") rows in
     let domains = said domain_of (codes "domain") rows in
     let interfaces = said interface_name (codes "interface") rows in
-    let csv = is_used (codes "csv") rows in
-    let full = is_used (codes "full") rows in
-    (λ i. measure_made (Some slave) (Some master) (Some domain) (Some interface)
+    let limits = said limit_of (codes "limit") rows in
+    (λ i. measure_made (Some slave) (Some master) (Some domain) (Some interface) (Some limit)
     (is_read found (codes "csv") c.is_used.result c.is_used.ensures i)
-    (is_read found (codes "full") c.is_used-2.result c.is_used-2.ensures i))
-    ∙ ap (λ said. measure_made (Some slave) (Some master) (Some domain) said csv full)
+    (is_read found (codes "full") c.is_used-2.result c.is_used-2.ensures i)
+    (is_read found (codes "strict") c.is_used-3.result c.is_used-3.ensures i))
+    ∙ ap (made_of_rows rows (Some slave) (Some master) (Some domain) (Some interface))
+    (value_read limit_of found (codes "limit") (Some limit) c.in-Ok.ensures)
+    ∙ ap (λ said. made_of_rows rows (Some slave) (Some master) (Some domain) said limits)
     (value_read interface_name found (codes "interface") (Some interface) c.in_ok-interface_option.ensures)
-    ∙ ap (λ said. measure_made (Some slave) (Some master) said interfaces csv full)
+    ∙ ap (λ said. made_of_rows rows (Some slave) (Some master) said interfaces limits)
     (value_read domain_of found (codes "domain") (Some domain) c.in_ok-domain_option.ensures)
-    ∙ ap (λ said. measure_made (Some slave) said domains interfaces csv full)
+    ∙ ap (λ said. made_of_rows rows (Some slave) said domains interfaces limits)
     (value_read port_identity_of found (codes "master") (Some master) c.in_ok-port_option-2.ensures)
-    ∙ ap (λ said. measure_made said masters domains interfaces csv full)
+    ∙ ap (λ said. made_of_rows rows said masters domains interfaces limits)
     (value_read port_identity_of found (codes "slave") (Some slave) c.in_ok-port_option.ensures)
