@@ -103,7 +103,10 @@ pub(crate) fn chosen<'a>(matches: &ArgMatches<'a>) -> Result<Option<Subcommand>,
         Some(("replay", _)) => Subcommand::Replay,
         Some(("check", _)) => Subcommand::Check,
         Some(("extract", options)) => Subcommand::Extract(extract_options(options)?),
-        Some(("measure", options)) => Subcommand::Measure(measure_options(options)?),
+        Some(("measure", options)) => match measure_options(options) {
+            Ok(options) => Subcommand::Measure(options),
+            Err(wrong) => return Err(wrong),
+        },
         Some(("follow", options)) => match follow_options(options) {
             Ok(options) => Subcommand::Follow(options),
             Err(wrong) => return Err(wrong),
