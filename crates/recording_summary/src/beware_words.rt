@@ -116,12 +116,15 @@ fn write_below<W: fmt::Write>(
     f: &mut Formatter<W>,
     below: u64,
     of: u64,
-    least: &At,
+    least: &Point,
+    unit: &'static str,
 ) -> fmt::Result {
+    let point = *least;
     write!(
         f,
-        "{below} of {of} path delays are below 0, the least {least}: no message arrives before it leaves, so the times of the slave's \
-         or of the master's port are wrong, a clock was set or runs away, or a correction is too big"
+        "{below} of {of} path delays are below 0, the least {}: no message arrives before it leaves, so the times of the slave's or of \
+         the master's port are wrong, a clock was set or runs away, or a correction is too big",
+        At { point, unit }
     )
 }
 
@@ -141,15 +144,15 @@ fn write_seconds<W: fmt::Write>(
 fn write_jump<W: fmt::Write>(
     f: &mut Formatter<W>,
     name: &str,
-    jump: Jump,
+    jump: &Jump,
     unit: &str,
     why: &str,
 ) -> fmt::Result {
-    let by = Thousandths(jump.by);
+    let Jump { by, line } = *jump;
     write!(
         f,
-        "the {name} steps by {by} ns (rounded) at {unit} {}: {why}",
-        jump.line
+        "the {name} steps by {} ns (rounded) at {unit} {line}: {why}",
+        Thousandths(by)
     )
 }
 
@@ -162,20 +165,26 @@ fn write_running<W: fmt::Write>(f: &mut Formatter<W>, rate: Signed) -> fmt::Resu
     )
 }
 
-fn write_missing<W: fmt::Write>(f: &mut Formatter<W>, lost: Lost, what: &str) -> fmt::Result {
+fn write_missing<W: fmt::Write>(f: &mut Formatter<W>, lost: &Lost, what: &str) -> fmt::Result {
     write!(f, "{} of {} {what}", lost.missing, lost.of)
 }
 
-fn write_corrected<W: fmt::Write>(f: &mut Formatter<W>, count: u64, first: &First) -> fmt::Result {
+fn write_corrected<W: fmt::Write>(
+    f: &mut Formatter<W>,
+    cases: &Cases,
+    unit: &'static str,
+) -> fmt::Result {
+    let cases = *cases;
     write!(
         f,
-        "Delay_Reqs that have a correction where they were recorded: {count}, {first}; a transparent clock stands between the slave \
-         and this place, and both results are off by half of the time in it, unless the slave itself corrects an asymmetry: record in \
-         front of it"
+        "Delay_Reqs that have a correction where they were recorded: {}, {}; a transparent clock stands between the slave and this \
+         place, and both results are off by half of the time in it, unless the slave itself corrects an asymmetry: record in front of it",
+        cases.count,
+        First { cases, unit }
     )
 }
 
-fn write_apart<W: fmt::Write>(f: &mut Formatter<W>, spike: Spike, unit: &str) -> fmt::Result {
+fn write_apart<W: fmt::Write>(f: &mut Formatter<W>, spike: &Spike, unit: &str) -> fmt::Result {
     write!(
         f,
         "the offset at {unit} {} lies at least {} ns from both of its neighbours, more than a hundred times as far as offsets change \
@@ -192,11 +201,18 @@ fn write_zeros<W: fmt::Write>(f: &mut Formatter<W>, zeros: u64, of: u64) -> fmt:
     )
 }
 
-fn write_end<W: fmt::Write>(f: &mut Formatter<W>, tenths: u128, next: &Next) -> fmt::Result {
+fn write_end<W: fmt::Write>(
+    f: &mut Formatter<W>,
+    tenths: u128,
+    newcomer: &Option<Newcomer>,
+    unit: &'static str,
+) -> fmt::Result {
+    let newcomer = *newcomer;
     write!(
         f,
-        "the Syncs of the master end {} s before the recording does{next}",
-        Tenths(tenths)
+        "the Syncs of the master end {} s before the recording does{}",
+        Tenths(tenths),
+        Next { newcomer, unit }
     )
 }
 
@@ -208,11 +224,17 @@ fn write_silence<W: fmt::Write>(f: &mut Formatter<W>, tenths: u128) -> fmt::Resu
     )
 }
 
-fn write_copies<W: fmt::Write>(f: &mut Formatter<W>, count: u64, lags: &Lags) -> fmt::Result {
+fn write_copies<W: fmt::Write>(
+    f: &mut Formatter<W>,
+    count: u64,
+    least: Option<u128>,
+    greatest: Option<u128>,
+) -> fmt::Result {
     write!(
         f,
-        "messages with a number that came before: {count}{lags}; a mirror of both directions writes each twice, and the first of each \
-         was used"
+        "messages with a number that came before: {count}{}; a mirror of both directions writes each twice, and the first of each was \
+         used",
+        Lags { least, greatest }
     )
 }
 
@@ -226,16 +248,18 @@ fn write_falls<W: fmt::Write>(f: &mut Formatter<W>, falls: u64, unit: &str) -> f
 
 fn write_old<W: fmt::Write>(
     f: &mut Formatter<W>,
-    count: u64,
-    first: &First,
-    oldest: Point,
+    offsets: &Cases,
+    oldest: &Point,
+    unit: &'static str,
 ) -> fmt::Result {
+    let cases = *offsets;
     write!(
         f,
-        "offsets that rest on a path delay older than 10 s: {count}, {first}; the oldest was {} old at {} {}: Delay_Reqs or their \
-         answers stopped, and the path delay isn't measured anew",
+        "offsets that rest on a path delay older than 10 s: {}, {}; the oldest was {} old at {unit} {}: Delay_Reqs or their answers \
+         stopped, and the path delay isn't measured anew",
+        cases.count,
+        First { cases, unit },
         Seconds(oldest.value),
-        first.unit,
         oldest.line
     )
 }
@@ -243,10 +267,16 @@ fn write_old<W: fmt::Write>(
 fn write_anew<W: fmt::Write>(
     f: &mut Formatter<W>,
     what: &str,
-    anew: &Anew,
+    cases: &Cases,
+    unit: &'static str,
     why: &str,
 ) -> fmt::Result {
-    write!(f, "{what} anew {anew}: it was started anew, or {why}")
+    let cases = *cases;
+    write!(
+        f,
+        "{what} anew {}: it was started anew, or {why}",
+        Anew { cases, unit }
+    )
 }
 
 fn write_cut<W: fmt::Write>(f: &mut Formatter<W>, cut: u64) -> fmt::Result {
@@ -279,25 +309,16 @@ fn write_domains<W: fmt::Write>(f: &mut Formatter<W>, domains: Domains<'_>) -> f
 
 impl Display for Told<'_> {
     fn fmt<W: fmt::Write>(&self, f: &mut Formatter<W>) -> fmt::Result {
-        let Told {
-            beware,
-            others,
-            unit,
-        } = *self;
-        match beware {
-            Beware::RequestsAtOnce(count) => write_at_once(f, count, "requests"),
-            Beware::SyncsAtOnce(count) => write_at_once(f, count, "Syncs"),
-            Beware::PathsBelow { below, of, least } => write_below(
-                f,
-                below,
-                of,
-                &At { point: least, unit },
-            ),
-            Beware::PathsZero { zeros, of } => write_zeros(f, zeros, of),
+        let unit = self.unit;
+        match &self.beware {
+            Beware::RequestsAtOnce(count) => write_at_once(f, *count, "requests"),
+            Beware::SyncsAtOnce(count) => write_at_once(f, *count, "Syncs"),
+            Beware::PathsBelow { below, of, least } => write_below(f, *below, *of, least, unit),
+            Beware::PathsZero { zeros, of } => write_zeros(f, *zeros, *of),
             Beware::WholeSeconds {
                 is_negative,
                 seconds,
-            } => write_seconds(f, is_negative, seconds),
+            } => write_seconds(f, *is_negative, *seconds),
             Beware::OffsetSteps(jump) => write_jump(
                 f,
                 "offset",
@@ -305,7 +326,7 @@ impl Display for Told<'_> {
                 unit,
                 "a clock was set there, or the way changed",
             ),
-            Beware::OffsetRunsAway(rate) => write_running(f, rate),
+            Beware::OffsetRunsAway(rate) => write_running(f, *rate),
             Beware::PathSteps(jump) => write_jump(
                 f,
                 "path delay",
@@ -313,26 +334,18 @@ impl Display for Told<'_> {
                 unit,
                 "the way changed, or a clock was set there",
             ),
-            Beware::SyncsEnd { tenths, newcomer } => write_end(f, tenths, &Next { newcomer, unit }),
-            Beware::ReportsEnd { tenths } => write_silence(f, tenths),
+            Beware::SyncsEnd { tenths, newcomer } => write_end(f, *tenths, newcomer, unit),
+            Beware::ReportsEnd { tenths } => write_silence(f, *tenths),
             Beware::Repeated {
                 count,
                 least,
                 greatest,
-            } => write_copies(f, count, &Lags { least, greatest }),
-            Beware::OtherMasters => write_masters(f, Listed(&others.masters)),
-            Beware::OtherSlaves => write_slaves(f, Listed(&others.slaves)),
-            Beware::OtherDomains => write_domains(f, Domains(&others.domains)),
-            Beware::OutOfOrder(falls) => write_falls(f, falls, unit),
-            Beware::OldDelay { offsets, oldest } => write_old(
-                f,
-                offsets.count,
-                &First {
-                    cases: offsets,
-                    unit,
-                },
-                oldest,
-            ),
+            } => write_copies(f, *count, *least, *greatest),
+            Beware::OtherMasters => write_masters(f, Listed(&self.others.masters)),
+            Beware::OtherSlaves => write_slaves(f, Listed(&self.others.slaves)),
+            Beware::OtherDomains => write_domains(f, Domains(&self.others.domains)),
+            Beware::OutOfOrder(falls) => write_falls(f, *falls, unit),
+            Beware::OldDelay { offsets, oldest } => write_old(f, offsets, oldest, unit),
             Beware::MissingSyncs(lost) => write_missing(
                 f,
                 lost,
@@ -353,25 +366,23 @@ impl Display for Told<'_> {
                 lost,
                 "Delay_Reqs have no Delay_Resp: lost, or the master doesn't answer them",
             ),
-            Beware::CorrectedRequests(cases) => write_corrected(
-                f,
-                cases.count,
-                &First { cases, unit },
-            ),
+            Beware::CorrectedRequests(cases) => write_corrected(f, cases, unit),
             Beware::MasterAnew(cases) => write_anew(
                 f,
                 "the master began its numbers",
-                &Anew { cases, unit },
+                cases,
+                unit,
                 "another one took its identity, or many of its Syncs are missing",
             ),
             Beware::SlaveAnew(cases) => write_anew(
                 f,
                 "the slave began",
-                &Anew { cases, unit },
+                cases,
+                unit,
                 "many of its Delay_Reqs are missing",
             ),
             Beware::OffsetApart(spike) => write_apart(f, spike, unit),
-            Beware::CutShort(cut) => write_cut(f, cut),
+            Beware::CutShort(cut) => write_cut(f, *cut),
             Beware::WholeMicroseconds => f.write_str(
                 "all times are of whole microseconds: no offset is better than 1 us; record with tcpdump --time-stamp-precision nano, \
                  or dumpcap",

@@ -21,6 +21,24 @@ struct Listed {
     rest: u64,
 }
 
+/// Tells of a port behind a comma, if there is one. What can't be written is lost.
+fn tell_caller<E: Write>(comma: &str, caller: &Caller, errors: &mut E) {
+    let _ = write!(
+        errors,
+        "{comma} {} of {}",
+        caller.count,
+        Identity(&caller.port)
+    );
+}
+
+/// Tells how many messages are of further ports, and ends the line. What can't be written is lost.
+fn tell_rest<E: Write>(rest: u64, errors: &mut E) {
+    let _ = match rest {
+        0 => writeln!(errors, ""),
+        rest => writeln!(errors, ", {rest} of further ones"),
+    };
+}
+
 impl Listed {
     fn new() -> Listed {
         Listed {
@@ -55,18 +73,9 @@ impl Listed {
         }
         let _ = write!(errors, "ptpx: {kind}s of others:");
         for (place, caller) in self.callers.iter().flatten().enumerate() {
-            let comma = if place > 0 { "," } else { "" };
-            let _ = write!(
-                errors,
-                "{comma} {} of {}",
-                caller.count,
-                Identity(&caller.port)
-            );
+            tell_caller(if place > 0 { "," } else { "" }, caller, errors);
         }
-        let _ = match self.rest {
-            0 => writeln!(errors, ""),
-            rest => writeln!(errors, ", {rest} of further ones"),
-        };
+        tell_rest(self.rest, errors);
     }
 }
 

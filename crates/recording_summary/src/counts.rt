@@ -55,6 +55,15 @@ fn place_of(kind: Kind, why: NoReport) -> usize
     kind.number() * REASONS + why.number()
 }
 
+/// Tells how many reports there are. What can't be written is lost.
+fn tell_reports<E: Write>(reports: u64, errors: &mut E) {
+    let _ = match reports {
+        0 => writeln!(errors, "ptpx: no report"),
+        1 => writeln!(errors, "ptpx: 1 report"),
+        count => writeln!(errors, "ptpx: {count} reports"),
+    };
+}
+
 impl Counts {
     /// No datagram came.
     pub fn new() -> Counts
@@ -86,11 +95,7 @@ impl Counts {
     /// Tells them, in lines, behind what speaks against the numbers. What can't be written is lost.
     pub fn tell<E: Write>(&self, unit: &'static str, errors: &mut E) {
         self.tell_bewares(unit, errors);
-        let _ = match self.reports {
-            0 => writeln!(errors, "ptpx: no report"),
-            1 => writeln!(errors, "ptpx: 1 report"),
-            count => writeln!(errors, "ptpx: {count} reports"),
-        };
+        tell_reports(self.reports, errors);
         for kind in ALL_KINDS {
             for why in ALL_REASONS {
                 self.tell_count(kind, why, errors);

@@ -1,6 +1,7 @@
 //! What is told of what came, of what is missing, and of the time from one message to the next.
 
 use crate::counts::Counts;
+use crate::flows::Flows;
 use crate::time_text::Seconds;
 use statistics::{Milliseconds, Point, Series, Signed, deviation, mean};
 use std::io::Write;
@@ -21,6 +22,27 @@ fn interval_told(log: i8) -> Option<Milliseconds> {
     })
 }
 
+/// A standard deviation of so many thousandths of a nanosecond, in milliseconds.
+fn tell_deviation<E: Write>(size: u128, errors: &mut E) {
+    let is_negative = false;
+    let deviation = Milliseconds::of_thousandths(Signed { is_negative, size });
+    let _ = write!(errors, ", standard deviation {deviation}");
+}
+
+/// The least or the greatest interval, and its line or packet.
+fn tell_end<E: Write>(name: &str, end: &Point, unit: &'static str, errors: &mut E) {
+    let interval = Milliseconds::of(end.value);
+    let _ = write!(errors, ", {name} {interval} at {unit} {}", end.line);
+}
+
+/// What a logMessageInterval tells, at the end of a line.
+fn tell_log<E: Write>(log: Option<i8>, errors: &mut E) {
+    let _ = match log.and_then(interval_told) {
+        Some(told) => writeln!(errors, "; logMessageInterval tells {told}"),
+        None => writeln!(errors, ""),
+    };
+}
+
 /// Tells how long it is from one message to the next, where there are any. What can't be written is lost.
 fn tell_intervals<E: Write>(
     names: &str,
@@ -30,78 +52,88 @@ fn tell_intervals<E: Write>(
     errors: &mut E,
 ) {
     let (Some(least), Some(greatest), Some(mean)) = (
-        intervals.least,
-        intervals.greatest,
+        &intervals.least,
+        &intervals.greatest,
         mean(intervals),
     ) else {
         return;
     };
+    let mean = Milliseconds::of_thousandths(mean);
     let _ = write!(
         errors,
-        "ptpx: from one of the {names} to the next: mean {}",
-        Milliseconds::of_thousandths(mean)
+        "ptpx: from one of the {names} to the next: mean {mean}"
     );
-    if let Some(deviation) = deviation(intervals) {
-        let deviation = Milliseconds::of_thousandths(Signed {
-            is_negative: false,
-            size: deviation,
-        });
-        let _ = write!(errors, ", standard deviation {deviation}");
+    if let Some(size) = deviation(intervals) {
+        tell_deviation(size, errors);
     }
-    let _ = write!(
+    tell_end("least", least, unit, errors);
+    tell_end("greatest", greatest, unit, errors);
+    tell_log(log, errors);
+}
+
+/// Tells how many Syncs and Follow_Ups came, and how many are missing. What can't be written is lost.
+fn tell_syncs<E: Write>(flows: &Flows, errors: &mut E) {
+    let syncs = &flows.syncs;
+    if syncs.count > 0 {
+        let _ = writeln!(
+            errors,
+            "ptpx: Syncs: {}, {} missing; of these two-step: {}, Follow_Ups: {}, {} missing",
+            syncs.count,
+            syncs.missing(),
+            flows.two_step,
+            flows.follow_ups,
+            flows.unfollowed()
+        );
+    }
+}
+
+/// Tells how many Delay_Reqs and Delay_Resps came, and how many are missing. What can't be written is lost.
+fn tell_requests<E: Write>(flows: &Flows, errors: &mut E) {
+    let requests = &flows.requests;
+    if requests.count > 0 {
+        let _ = writeln!(
+            errors,
+            "ptpx: Delay_Reqs: {}, {} missing; Delay_Resps: {}, {} missing",
+            requests.count,
+            requests.missing(),
+            flows.answers,
+            flows.unanswered()
+        );
+    }
+}
+
+/// Tells how old a path delay is at most. What can't be written is lost.
+fn tell_age<E: Write>(oldest: &Point, unit: &'static str, errors: &mut E) {
+    let _ = writeln!(
         errors,
-        ", least {} at {unit} {}, greatest {} at {unit} {}",
-        Milliseconds::of(least.value),
-        least.line,
-        Milliseconds::of(greatest.value),
-        greatest.line
+        "ptpx: the path delay of an offset is at most {} old, at {unit} {}",
+        Seconds(oldest.value),
+        oldest.line
     );
-    let _ = match log.and_then(interval_told) {
-        Some(told) => writeln!(errors, "; logMessageInterval tells {told}"),
-        None => writeln!(errors, ""),
-    };
 }
 
 impl Counts {
     /// Tells what came of the master and the slave, and what is missing, in lines. What can't be written is lost.
     pub(crate) fn tell_flows<E: Write>(&self, unit: &'static str, errors: &mut E) {
         let flows = &self.others.flows;
-        let (syncs, requests) = (&flows.syncs, &flows.requests);
-        if syncs.count > 0 {
-            let _ = writeln!(
-                errors,
-                "ptpx: Syncs: {}, {} missing; of these two-step: {}, Follow_Ups: {}, {} missing",
-                syncs.count,
-                syncs.missing(),
-                flows.two_step,
-                flows.follow_ups,
-                flows.unfollowed()
-            );
-        }
-        tell_intervals("Syncs", &syncs.intervals, flows.sync_log, unit, errors);
-        if requests.count > 0 {
-            let _ = writeln!(
-                errors,
-                "ptpx: Delay_Reqs: {}, {} missing; Delay_Resps: {}, {} missing",
-                requests.count,
-                requests.missing(),
-                flows.answers,
-                flows.unanswered()
-            );
-        }
+        tell_syncs(flows, errors);
+        tell_intervals(
+            "Syncs",
+            &flows.syncs.intervals,
+            flows.sync_log,
+            unit,
+            errors,
+        );
+        tell_requests(flows, errors);
         tell_intervals(
             "Delay_Reqs",
-            &requests.intervals,
+            &flows.requests.intervals,
             flows.request_log,
             unit,
             errors,
         );
-        if let Some(Point { value, line, .. }) = self.quality.statistics.ages.greatest {
-            let _ = writeln!(
-                errors,
-                "ptpx: the path delay of an offset is at most {} old, at {unit} {line}",
-                Seconds(value)
-            );
+        if let Some(oldest) = &self.quality.statistics.ages.greatest {
+            tell_age(oldest, unit, errors);
         }
     }
 }

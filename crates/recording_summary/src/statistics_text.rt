@@ -23,12 +23,8 @@ impl Display for CorrectionAt {
     }
 }
 
-/// Tells of a series, where it isn't empty.
-fn tell_series<E: Write>(name: &str, series: &Series, unit: &'static str, errors: &mut E) {
-    let (Some(least), Some(greatest)) = (series.least, series.greatest) else {
-        return;
-    };
-    let _ = write!(errors, "ptpx: {name}: {}", series.count);
+/// Tells the mean and the standard deviation of a series, where they are known.
+fn tell_rounded<E: Write>(series: &Series, errors: &mut E) {
     if let Some(mean) = mean(series) {
         let _ = write!(errors, ", mean {} ns", Thousandths(mean));
     }
@@ -37,15 +33,21 @@ fn tell_series<E: Write>(name: &str, series: &Series, unit: &'static str, errors
         let deviation = Thousandths(Signed { is_negative, size });
         let _ = write!(errors, ", standard deviation {deviation} ns");
     }
-    let _ = writeln!(
-        errors,
-        " (rounded), least {}, greatest {}",
-        At { point: least, unit },
-        At {
-            point: greatest,
-            unit
-        }
-    );
+}
+
+/// Tells of a series, where it isn't empty.
+fn tell_series<E: Write>(name: &str, series: &Series, unit: &'static str, errors: &mut E) {
+    let (Some(least), Some(greatest)) = (series.least, series.greatest) else {
+        return;
+    };
+    let _ = write!(errors, "ptpx: {name}: {}", series.count);
+    tell_rounded(series, errors);
+    let least = At { point: least, unit };
+    let greatest = At {
+        point: greatest,
+        unit,
+    };
+    let _ = writeln!(errors, " (rounded), least {least}, greatest {greatest}");
 }
 
 /// Whether there are corrections, and all are 0.

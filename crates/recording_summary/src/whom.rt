@@ -42,35 +42,58 @@ impl Display for Source {
     }
 }
 
+/// Tells a value in a line, and how it is known. What can't be written is lost.
+fn tell_known<T: Display, E: Write>(
+    name: &str,
+    value: &T,
+    number: Option<u64>,
+    unit: &'static str,
+    errors: &mut E,
+) {
+    let _ = writeln!(errors, "ptpx: {name} {value}, {}", Source { number, unit });
+}
+
+/// Tells in a line what would have told a value that isn't known. What can't be written is lost.
+fn tell_unknown<E: Write>(teller: &str, name: &str, errors: &mut E) {
+    let _ = writeln!(errors, "ptpx: no {teller} tells the {name}");
+}
+
 impl Whom {
     /// Tells in lines whom an input is of, and which of its lines or packets told that. What can't be written is lost.
     pub fn tell<E: Write>(&self, unit: &'static str, errors: &mut E) {
-        let _ = match self.domain {
-            Some(Known { value, line }) => {
-                let source = Source { number: line, unit };
-                writeln!(errors, "ptpx: domain {value}, {source}")
-            }
-            None if self.master.is_some() => {
-                writeln!(errors, "ptpx: no Sync of the master tells the domain")
-            }
-            None => writeln!(errors, "ptpx: no Sync tells the domain"),
-        };
-        let _ = match self.master {
-            Some(Known { value, line }) => {
-                let source = Source { number: line, unit };
-                writeln!(errors, "ptpx: master {}, {source}", Identity(&value))
-            }
-            None if self.domain.is_some() => {
-                writeln!(errors, "ptpx: no Sync of the domain tells the master")
-            }
-            None => writeln!(errors, "ptpx: no Sync tells the master"),
-        };
-        let _ = match self.slave {
-            Some(Known { value, line }) => {
-                let source = Source { number: line, unit };
-                writeln!(errors, "ptpx: slave {}, {source}", Identity(&value))
-            }
-            None => writeln!(errors, "ptpx: no Delay_Req of the domain tells the slave"),
-        };
+        self.tell_domain(unit, errors);
+        self.tell_master(unit, errors);
+        match self.slave {
+            Some(Known { value, line }) => tell_known(
+                "slave",
+                &Identity(&value),
+                line,
+                unit,
+                errors,
+            ),
+            None => tell_unknown("Delay_Req of the domain", "slave", errors),
+        }
+    }
+
+    fn tell_domain<E: Write>(&self, unit: &'static str, errors: &mut E) {
+        match self.domain {
+            Some(Known { value, line }) => tell_known("domain", &value, line, unit, errors),
+            None if self.master.is_some() => tell_unknown("Sync of the master", "domain", errors),
+            None => tell_unknown("Sync", "domain", errors),
+        }
+    }
+
+    fn tell_master<E: Write>(&self, unit: &'static str, errors: &mut E) {
+        match self.master {
+            Some(Known { value, line }) => tell_known(
+                "master",
+                &Identity(&value),
+                line,
+                unit,
+                errors,
+            ),
+            None if self.domain.is_some() => tell_unknown("Sync of the domain", "master", errors),
+            None => tell_unknown("Sync", "master", errors),
+        }
     }
 }
