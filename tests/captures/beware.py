@@ -254,7 +254,7 @@ BENT = {
                                                 r'stands between the slave and this place, and both results are off by half of the time in it, unless the slave itself corrects an asymmetry: record in front of it$']),
     'with a snap length of 60': (lambda it: [one._replace(snap=60) for one in it], [CUT % 335]),
     # no report is left of either
-    'in reverse': (lambda it: it[::-1], [FALLS % 334, UNFOLLOWED % (55, 56), UNANSWERED % (51, 51),
+    'in reverse': (lambda it: it[::-1], [FALLS % 334, UNFOLLOWED % (55, 58), UNANSWERED % (51, 51),
                                          MASTER_ANEW % ('56 times, first', 8, r'1795329198\.843530988'), SLAVE_ANEW % ('50 times, first', 12, r'1795329198\.452161276')]),
     'shuffled': (shuffled, [r'the Syncs of the master end 25\.0 s before the recording does: it went away', FALLS % 162, MISSING % (514, 572, 'Syncs'), UNFOLLOWED % (57, 58),
                             MISSING % (476, 527, 'Delay_Reqs'), UNANSWERED % (50, 51),
