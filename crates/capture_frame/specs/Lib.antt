@@ -6,6 +6,7 @@ pub mod Ipv4
 pub mod Ipv6
 pub mod Tags
 pub mod Link
+pub mod Route
 pub mod Found
 pub mod Captured
 pub mod Written

@@ -23,12 +23,12 @@ const HSR_TAG: u16 = 0x892f;
 /// EtherTypes of PTP (IEEE 1588-2019, annex E) and of what carries it.
 const PTP: u16 = 0x88f7;
 
-const IPV4: u16 = 0x0800;
+pub(crate) const IPV4: u16 = 0x0800;
 
-const IPV6: u16 = 0x86dd;
+pub(crate) const IPV6: u16 = 0x86dd;
 
 /// How many octets stand behind the EtherType of a tag, of which the last two are the next EtherType.
-fn tag_size(kind: u16) -> Option<usize>
+pub(crate) fn tag_size(kind: u16) -> Option<usize>
     ensures { result ≡ tag_size kind [] }
 {
     match kind {

@@ -11,6 +11,8 @@ pub mod laws;
 mod link;
 mod link_type;
 mod octets;
+mod route;
 mod udp;
 
 pub use found::{DATAGRAM_LIMIT, Found, find_datagram};
+pub use route::{Address, Route, find_route};
