@@ -7,8 +7,11 @@ use Rattle.datagram_text.specs.Shown.{stamp_text}
 use Rattle.recording_lines.specs.Timed.{LineParts, timed_in, parted}
 use Rattle.capture_file.specs.Packet.{InterfaceOf, PacketOf, Captured, Timeless, Simple, interface_of}
 use Rattle.capture_frame.specs.Found as found
+use Rattle.capture_frame.specs.Route.{route_in}
 use Rattle.tap_choice.specs.TapName.{IsTapName}
 use Rattle.datagram_source.specs.Said.{reading_of}
+use Rattle.datagram_source.specs.Stream.{stream_of}
+use Rattle.datagram_source.specs.declared.stream.Stream.{Stream}
 use Rattle.datagram_source.specs.declared.datagram.Datagram as given
 use Rattle.datagram_source.specs.declared.datagram.Place as met
 use Rattle.datagram_source.specs.declared.datagram.Place.TheVariants as places
@@ -21,11 +24,12 @@ use Rattle.datagram_source.specs.declared.lines.LineForm.TheVariants.{Timed, AtT
 abbrev pub octets_limit : ℕ
 octets_limit = 2048
 
--- where a datagram was met: at no place of a name, since its line tells none; at the tap that its line names; or at an interface
+-- where a datagram was met: at no place of a name, since its line tells none; at the tap that its line names; or at an interface, in a
+-- stream
 pub data PlaceOf : Type 0 where
   Line : PlaceOf
   Tap : (name : List ℕ) → PlaceOf
-  Interface : (interface : InterfaceOf) → PlaceOf
+  Interface : (interface : InterfaceOf) → (stream : Stream) → PlaceOf
 
 -- a datagram, by the number and the time of its line or packet, and by the text of this time
 pub record DatagramOf : Type 0 where
@@ -40,7 +44,7 @@ pub record DatagramOf : Type 0 where
 abbrev pub place_of : met.Place → PlaceOf
 place_of places.Line = Line
 place_of (places.Tap name) = Tap name
-place_of (places.Interface interface) = Interface (interface_of interface)
+place_of (places.Interface interface stream) = Interface (interface_of interface) stream
 
 -- the text of a time: as a line has it, or of a packet seconds, a point and nine decimals
 abbrev pub text_of : told.Stamp → List ℕ
@@ -85,7 +89,7 @@ IsDatagramLine AtTaps number line d = IsTapDatagram number line d
 -- the packet of this number carries this datagram
 abbrev pub IsDatagramPacket : (number : ℕ) → PacketOf → DatagramOf → Type 0
 IsDatagramPacket number (Captured interface time link octets) d =
-    found.IsFound link octets (found.Datagram d.octets) × (d.place ≡ Interface interface)
+    found.IsFound link octets (found.Datagram d.octets) × (d.place ≡ Interface interface (stream_of (route_in link octets) d.octets))
     × (d.number ≡ number) × (d.time ≡ moment time 0) × (d.written ≡ stamp_text time) × IsReading d.octets d.said
 IsDatagramPacket number Timeless d = ⊥
 IsDatagramPacket number Simple d = ⊥

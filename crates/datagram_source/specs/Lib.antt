@@ -1,4 +1,5 @@
 pub mod Said
+pub mod Stream
 pub mod Datagram
 pub mod Rules
 pub mod Input

@@ -3,6 +3,7 @@ ghost use Rattle.event_codec.specs.Reading.{IsReading};
 ghost use Rattle.datagram_source.specs.Said.{reading_of};
 
 use crate::stamp::Stamp;
+use crate::stream::Stream;
 use capture_file::Interface;
 use event_codec::{DecodeRefusal, Message, decode};
 use ptp_units::ScaledTime;
@@ -15,8 +16,8 @@ pub enum Place<'a> {
     Line,
     /// At the tap that its line names.
     Tap(TapName),
-    /// At this interface of a capture.
-    Interface(Interface<'a>),
+    /// At this interface of a capture, in this stream.
+    Interface(Interface<'a>, Stream),
 }
 
 /// A datagram.

@@ -11,6 +11,7 @@ mod links;
 mod packet_counts;
 mod packets;
 mod stamp;
+mod stream;
 mod task;
 
 pub use datagram::{Datagram, Place, message_in};
@@ -18,4 +19,5 @@ pub use input::{InputOutcome, answer_capture, answer_datagrams};
 pub use lines::LineForm;
 pub use packet_counts::PacketCounts;
 pub use stamp::Stamp;
+pub use stream::Stream;
 pub use task::DatagramTask;

@@ -10,9 +10,10 @@ ghost use Rattle.datagram_source.specs.Inner.Outcomes.{IsKept, IsEnded};
 use crate::datagram::{Datagram, Place, message_in};
 use crate::packet_counts::PacketCounts;
 use crate::stamp::Stamp;
+use crate::stream::Stream;
 use crate::task::DatagramTask;
 use capture_file::{Captured, Packet, PacketTask, is_asked};
-use capture_frame::{Found, find_datagram};
+use capture_frame::{Found, find_datagram, find_route};
 use ptp_units::ScaledTime;
 use std::io::Write;
 use text_lines::Counted;
@@ -57,7 +58,10 @@ impl<T: DatagramTask, E: Write> PacketSource<'_, T, E> {
         let found = find_datagram(captured.link, captured.octets);
         if let Found::Datagram(octets) = found {
             let datagram = Datagram {
-                place: Place::Interface(captured.interface),
+                place: Place::Interface(
+                    captured.interface,
+                    Stream::new(find_route(captured.link, captured.octets), octets),
+                ),
                 number,
                 time: ScaledTime::join(captured.time, 0),
                 stamp: Stamp::Clock(captured.time),

@@ -1,7 +1,9 @@
-use Rattle.std.proofs.Common.{◌≡◌, ◌∙◌, [], true, false, inl, inr, refl, sym}
+use Rattle.std.proofs.Common.{◌≡◌, ◌∙◌, [], true, false, inl, inr, refl, sym, ap}
 use Rattle.std.proofs.KnownBytes.{Appends-nil}
 use Rattle.capture_file.specs.Name.{is_asked}
 use Rattle.capture_file.specs.Packet.{interface_of}
+use Rattle.datagram_source.specs.Datagram.{Interface}
+use Rattle.datagram_source.specs.Stream.{stream_of}
 use Rattle.datagram_source.proofs.PacketTakings.{carries_none, says}
 use Rattle.datagram_source.proofs.packets.PacketSource.take_captured.Goals as goal
 use Rattle.datagram_source.proofs.packets.PacketSource.take_captured.Goals.{in-Datagram+in_ok-take, in_default}
@@ -27,7 +29,7 @@ returns-clause-taken g c = λ state at.
             later,
             out,
             stands,
-            inl (_, ((w.in-Datagram.ensures.found, refl, refl, w.join.ensures, refl, w.message_in.ensures), asked), takes),
+            inl (_, ((w.in-Datagram.ensures.found, ap (Interface interface) (w.new.ensures ∙ ap (λ r. stream_of r w.in-Datagram.octets.now) w.find_route.ensures), refl, w.join.ensures, refl, w.message_in.ensures), asked), takes),
             went,
           )
       | in_default w ↦

@@ -1,0 +1,154 @@
+//! Which of the streams of an interface a datagram is of.
+ghost use Rattle.std.specs.Prelude.{◌≡◌, slice_index};
+ghost use Rattle.datagram_source.specs.Stream.{sdo_in, unicast, slave_in, stream_of, to_all, is_same_stream};
+
+use capture_frame::{Address, Route};
+use std::fmt;
+use std::fmt::{Display, Formatter};
+use std::net::{Ipv4Addr, Ipv6Addr};
+
+/// messageTypes (IEEE 1588-2019, table 36) of what a master sends to a slave, and of what a slave sends to it.
+const SYNC: u8 = 0;
+
+const DELAY_REQ: u8 = 1;
+
+const FOLLOW_UP: u8 = 8;
+
+const DELAY_RESP: u8 = 9;
+
+const ANNOUNCE: u8 = 11;
+
+/// Which of the streams of an interface a datagram is of: messages of one sdoId and VLAN, and of one slave where its master sends to it
+/// alone.
+#[derive(Clone, Copy, Debug, PartialEq, Eq)]
+pub struct Stream {
+    /// sdoId (IEEE 1588-2019, 7.1.4), below 4,096; 0 for what is no message of version 2.
+    pub sdo: u16,
+    /// The VLAN, from 1 on.
+    pub vlan: Option<u16>,
+    /// The address of the slave: to which a Sync, Follow_Up, Delay_Resp or Announce was sent by unicast, or from which a Delay_Req was.
+    pub slave: Option<Address>,
+}
+
+/// The octet at this place, and 0 behind the end.
+fn octet_at(octets: &[u8], at: usize) -> u8
+    ensures { result ≡ slice_index octets.now at }
+{
+    octets.get(at).copied().unwrap_or(0)
+}
+
+/// sdoId: majorSdoId and minorSdoId (13.3.2.2, 13.3.2.7).
+fn sdo_in(octets: &[u8]) -> u16
+    ensures { result ≡ sdo_in octets.now }
+{
+    if octet_at(octets, 1) % 16 == 2 {
+        256 * u16::from(octet_at(octets, 0) / 16) + u16::from(octet_at(octets, 5))
+    } else {
+        0
+    }
+}
+
+/// An address, where one interface alone has it.
+fn unicast(address: Option<Address>) -> Option<Address>
+    ensures { result ≡ unicast address }
+{
+    address.filter(Address::is_unicast)
+}
+
+/// The address of the slave, where a message goes between it and its master alone.
+fn slave_in(route: Route, octets: &[u8]) -> Option<Address>
+    ensures { result ≡ slave_in route octets.now }
+{
+    match octet_at(octets, 0) % 16 {
+        SYNC | FOLLOW_UP | DELAY_RESP | ANNOUNCE => unicast(route.destination),
+        DELAY_REQ => match unicast(route.destination) {
+            Some(_) => unicast(route.source),
+            None => None,
+        },
+        _ => None,
+    }
+}
+
+impl Stream {
+    /// That of a datagram that came by this way.
+    pub(crate) fn new(route: Route, octets: &[u8]) -> Stream
+        ensures { result ≡ stream_of route octets.now }
+    {
+        Stream {
+            sdo: sdo_in(octets),
+            vlan: route.vlan,
+            slave: slave_in(route, octets),
+        }
+    }
+
+    /// That of messages to all slaves in its place.
+    pub fn to_all(self) -> Stream
+        ensures { result ≡ to_all self }
+    {
+        Stream {
+            slave: None,
+            ..self
+        }
+    }
+
+    /// Whether it is the same.
+    pub fn is(&self, other: &Stream) -> bool
+        ensures { result ≡ is_same_stream self.now other.now }
+    {
+        self == other
+    }
+}
+
+/// An address, as people write it.
+#[derive(Clone, Copy)]
+struct Shown(Address);
+
+impl Display for Shown {
+    fn fmt<W: fmt::Write>(&self, f: &mut Formatter<W>) -> fmt::Result {
+        match self.0 {
+            Address::Ipv4(number) => Ipv4Addr::from(number).fmt(f),
+            Address::Ipv6(number) => Ipv6Addr::from(number).fmt(f),
+            Address::Ethernet(number) => {
+                let octets = number.to_be_bytes();
+                write!(f, "{:02x}", octets[2])?;
+                for octet in &octets[3..] {
+                    write!(f, ":{octet:02x}")?;
+                }
+                Ok(())
+            }
+        }
+    }
+}
+
+/// What tells it from other streams; nothing for sdoId 0 in no VLAN and to all slaves.
+impl Display for Stream {
+    fn fmt<W: fmt::Write>(&self, f: &mut Formatter<W>) -> fmt::Result {
+        if self.sdo != 0 {
+            write!(f, ", sdoId {:#05x}", self.sdo)?;
+        }
+        if let Some(vlan) = self.vlan {
+            write!(f, ", VLAN {vlan}")?;
+        }
+        if let Some(slave) = self.slave {
+            write!(f, ", unicast to {}", Shown(slave))?;
+        }
+        Ok(())
+    }
+}
+
+#[cfg(test)]
+mod tests {
+    use super::*;
+    use capture_frame::find_route;
+
+    #[test]
+    fn tells_a_stream_by_its_headers(rt: HostRuntime) {
+        let packet = b"\x02\0\0\0\0\x02\x02\0\0\0\0\x01\x81\0\x60\x07\x88\xf7\x10\x02\0\x2c\0\x05";
+        let stream = Stream {
+            sdo: 0x105,
+            vlan: Some(7),
+            slave: Some(Address::Ethernet(0x0200_0000_0002)),
+        };
+        assert_eq!(rt; Stream::new(find_route(1, packet), &packet[18..]), stream);
+    }
+}
