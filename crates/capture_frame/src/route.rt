@@ -6,12 +6,15 @@ ghost use Rattle.capture_frame.specs.Route.{is_unicast, ethernet_route, ipv4_rou
 use crate::ether::{IPV4, IPV6, tag_size};
 use crate::link_type::LinkType;
 use crate::octets::octet_at;
+use std::fmt;
+use std::fmt::{Display, Formatter};
+use std::net::{Ipv4Addr, Ipv6Addr};
 
 /// How many tags are looked at.
 const TAGS_MOST: usize = 8;
 
 /// The address of an interface, or of a group of them, as a number of which the most significant octet stands first in a packet.
-#[derive(Clone, Copy, Debug, PartialEq, Eq)]
+#[derive(Clone, Copy, Debug, PartialEq, Eq, PartialOrd, Ord)]
 pub enum Address {
     /// Of Ethernet, below 2^48.
     Ethernet(u64),
@@ -31,6 +34,24 @@ impl Address {
             Address::Ethernet(number) => number / (1 << 40) % 2 == 0,
             Address::Ipv4(number) => number < 0xe000_0000,
             Address::Ipv6(number) => number < 0xff << 120,
+        }
+    }
+}
+
+/// As people write it: in dots, or in colons.
+impl Display for Address {
+    fn fmt<W: fmt::Write>(&self, f: &mut Formatter<W>) -> fmt::Result {
+        match self {
+            Address::Ipv4(number) => Ipv4Addr::from(*number).fmt(f),
+            Address::Ipv6(number) => Ipv6Addr::from(*number).fmt(f),
+            Address::Ethernet(number) => {
+                let octets = number.to_be_bytes();
+                write!(f, "{:02x}", octets[2])?;
+                for octet in &octets[3..] {
+                    write!(f, ":{octet:02x}")?;
+                }
+                Ok(())
+            }
         }
     }
 }
