@@ -6,3 +6,4 @@ mod Inputs
 mod Lefts
 pub mod LeftAs
 pub mod OneCourse
+pub mod Streams

@@ -10,7 +10,7 @@ use Rattle.capture_frame.specs.Found as found
 use Rattle.capture_frame.specs.Route.{route_in}
 use Rattle.tap_choice.specs.TapName.{IsTapName}
 use Rattle.datagram_source.specs.Said.{reading_of}
-use Rattle.datagram_source.specs.Stream.{stream_of}
+use Rattle.datagram_source.specs.Stream.{stream_of, to_all}
 use Rattle.datagram_source.specs.declared.stream.Stream.{Stream}
 use Rattle.datagram_source.specs.declared.datagram.Datagram as given
 use Rattle.datagram_source.specs.declared.datagram.Place as met
@@ -45,6 +45,12 @@ abbrev pub place_of : met.Place → PlaceOf
 place_of places.Line = Line
 place_of (places.Tap name) = Tap name
 place_of (places.Interface interface stream) = Interface (interface_of interface) stream
+
+-- the same place, but of what goes to all slaves
+abbrev pub place_to_all : PlaceOf → PlaceOf
+place_to_all Line = Line
+place_to_all (Tap name) = Tap name
+place_to_all (Interface interface stream) = Interface interface (to_all stream)
 
 -- the text of a time: as a line has it, or of a packet seconds, a point and nine decimals
 abbrev pub text_of : told.Stamp → List ℕ

@@ -1,6 +1,8 @@
 //! A datagram, from a line or a packet.
 ghost use Rattle.event_codec.specs.Reading.{IsReading};
+ghost use Rattle.std.specs.Prelude.{◌≡◌};
 ghost use Rattle.datagram_source.specs.Said.{reading_of};
+ghost use Rattle.datagram_source.specs.Datagram.{place_of, place_to_all};
 
 use crate::stamp::Stamp;
 use crate::stream::Stream;
@@ -18,6 +20,19 @@ pub enum Place<'a> {
     Tap(TapName),
     /// At this interface of a capture, in this stream.
     Interface(Interface<'a>, Stream),
+}
+
+impl<'a> Place<'a> {
+    /// The same place, but of what goes to all slaves.
+    pub fn to_all(&self) -> Place<'a>
+        ensures { place_of result ≡ place_to_all (place_of self.now) }
+    {
+        match self {
+            Place::Line => Place::Line,
+            Place::Tap(tap) => Place::Tap(*tap),
+            Place::Interface(interface, stream) => Place::Interface(*interface, stream.to_all()),
+        }
+    }
 }
 
 /// A datagram.

@@ -5,7 +5,6 @@ ghost use Rattle.datagram_source.specs.Stream.{sdo_in, unicast, slave_in, stream
 use capture_frame::{Address, Route};
 use std::fmt;
 use std::fmt::{Display, Formatter};
-use std::net::{Ipv4Addr, Ipv6Addr};
 
 /// messageTypes (IEEE 1588-2019, table 36) of what a master sends to a slave, and of what a slave sends to it.
 const SYNC: u8 = 0;
@@ -20,7 +19,7 @@ const ANNOUNCE: u8 = 11;
 
 /// Which of the streams of an interface a datagram is of: messages of one sdoId and VLAN, and of one slave where its master sends to it
 /// alone.
-#[derive(Clone, Copy, Debug, PartialEq, Eq)]
+#[derive(Clone, Copy, Debug, PartialEq, Eq, PartialOrd, Ord)]
 pub struct Stream {
     /// sdoId (IEEE 1588-2019, 7.1.4), below 4,096; 0 for what is no message of version 2.
     pub sdo: u16,
@@ -99,27 +98,6 @@ impl Stream {
     }
 }
 
-/// An address, as people write it.
-#[derive(Clone, Copy)]
-struct Shown(Address);
-
-impl Display for Shown {
-    fn fmt<W: fmt::Write>(&self, f: &mut Formatter<W>) -> fmt::Result {
-        match self.0 {
-            Address::Ipv4(number) => Ipv4Addr::from(number).fmt(f),
-            Address::Ipv6(number) => Ipv6Addr::from(number).fmt(f),
-            Address::Ethernet(number) => {
-                let octets = number.to_be_bytes();
-                write!(f, "{:02x}", octets[2])?;
-                for octet in &octets[3..] {
-                    write!(f, ":{octet:02x}")?;
-                }
-                Ok(())
-            }
-        }
-    }
-}
-
 /// What tells it from other streams; nothing for sdoId 0 in no VLAN and to all slaves.
 impl Display for Stream {
     fn fmt<W: fmt::Write>(&self, f: &mut Formatter<W>) -> fmt::Result {
@@ -130,7 +108,7 @@ impl Display for Stream {
             write!(f, ", VLAN {vlan}")?;
         }
         if let Some(slave) = self.slave {
-            write!(f, ", unicast to {}", Shown(slave))?;
+            write!(f, ", unicast to {slave}")?;
         }
         Ok(())
     }
