@@ -24,6 +24,7 @@ use Rattle.recording_measure.proofs.Rows.{unknown_before, heard-unknown}
 use Rattle.recording_measure.proofs.Told.{watched-stays}
 use Rattle.datagram_source.specs.Rules.{nothing_read}
 use Rattle.recording_measure.specs.Measure.{begun}
+use Rattle.recording_measure.proofs.Chosen.{measured-other}
 use Rattle.recording_laws.specs.Alone.{AsksForNothing, AreAt, rows_of, OnePlaceIsMeasuredAlone}
 use Rattle.recording_laws.proofs.LinesRead.{begun_of_lines, read_on}
 
@@ -249,4 +250,5 @@ measured_alone = record {
   whom = told_whom_one;
   fates = told_fates_one;
   interface = λ form w place rows asks at. written_one w place (unasked w asks place) form rows at;
+  others = λ form w rows r place watched is known other. ap (texts_as form) (measured-other w rows r place watched is known other);
 }

@@ -7,8 +7,9 @@ use Rattle.text_lines.specs.Task.{TakesLines}
 use Rattle.datagram_source.specs.Rules.{LinesRead, nothing_read, line_rules}
 use Rattle.recording_measure.specs.declared.form.Form.{Form}
 use Rattle.recording_measure.specs.declared.watch.WantedPorts.{WantedPorts}
-use Rattle.recording_measure.specs.Places.{PlacedRow, name_in}
+use Rattle.recording_measure.specs.Places.{PlacedRow}
 use Rattle.recording_measure.specs.Measure.{Recording, begun, written_of, measure_rules}
+use Rattle.recording_measure.proofs.Settled.{settled_line}
 use Rattle.recording_laws.specs.Alone.{AreAt}
 
 -- rows have the numbers of lines from 1 on
@@ -48,7 +49,8 @@ read_on number (line ∷ lines) r read text (next, first, others, whole, (d, is,
         count = omega (arith, count, are.count, ap (λ (x : Recording). length x.rows) on);
         counted = subst (λ (x : Recording). AreCounted x.rows) (sym on) (is.numbered ∙ ap (λ (n : ℕ). n + 1) are.count, are.counted);
         nameless = subst (λ (x : Recording). AreAt None x.rows) (sym on)
-            (All-cons (λ (x : PlacedRow). x.place ≡ None) _ r.state.rows (ap name_in is.placed) are.nameless);
+            (All-cons (λ (x : PlacedRow). x.place ≡ None) _ r.state.rows
+            (settled_line r.state.wanted r.state.rows d is.placed) are.nameless);
       });
     }
 

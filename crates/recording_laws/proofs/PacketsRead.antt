@@ -9,6 +9,7 @@ use Rattle.recording_measure.specs.declared.watch.WantedPorts.{WantedPorts}
 use Rattle.recording_measure.specs.Places.{PlacedRow, placed}
 use Rattle.datagram_source.specs.Datagram.{DatagramOf, IsDatagramPacket}
 use Rattle.datagram_source.specs.Rules.{packet_rules}
+use Rattle.recording_measure.specs.Chosen.{settled}
 use Rattle.recording_measure.specs.Measure.{Recording, begun, written_of, measure_rules}
 
 abbrev pub ArePackets : (most : ℕ) → List PlacedRow → Type 0
@@ -42,7 +43,7 @@ read_on form wanted [] read text (same, nothing) = record {
 }
 read_on form wanted (packet ∷ earlier) read text (state, before, out, taken, inl (d, given, (on, added)), all) =
     let so_far = read_on form wanted earlier state before taken in
-    let r : PlacedRow = placed d in
+    let r : PlacedRow = placed (settled state.wanted state.rows d) d in
     let number : r.row.datagram.line ≡ length earlier + 1 = row_number (length earlier + 1) packet d given.0 in record {
       form = ap (λ (x : Recording). x.form) on ∙ so_far.form;
       wanted = ap (λ (x : Recording). x.wanted) on ∙ so_far.wanted;

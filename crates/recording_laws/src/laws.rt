@@ -29,8 +29,8 @@ pub fn each_measurement_of_a_capture_is_exact()
 }
 
 /// What was met at one place is measured as a recording of which that is all: of lines what is written, whom they are of and what
-/// comes of each is by their numbers, times and datagrams alone, and of the packets at one interface what is written is, where nothing is asked
-/// for.
+/// comes of each is by their numbers, times and datagrams alone, and of the packets in one stream of an interface what is written is, where
+/// nothing is asked for. Once one stream is measured, a datagram of another one changes nothing of what is written.
 pub fn one_place_is_measured_alone()
     ensures { OnePlaceIsMeasuredAlone }
 {}

@@ -22,3 +22,4 @@ pub mod Watches
 pub mod Worked
 pub mod WorkedCapture
 pub mod Places
+pub mod Settled

@@ -7,16 +7,25 @@ use Rattle.std.proofs.lemmas.Bool.Decides.{not_from_Decides}
 use Rattle.std.proofs.lemmas.List.{get_or_push}
 use Rattle.std.proofs.lemmas.List.Folds.{list_any-append}
 use Rattle.std.proofs.Math.ListN.{get_or-append}
+use Rattle.std.proofs.lemmas.Bool.Decides.{Decides-and}
 use Rattle.std.proofs.lemmas.Slice.Eq.{bytes_eq-Decides}
 use Rattle.recording_measure.specs.Places.{PlaceName, PlacedRow, is_same_place, rows_at, is_among}
-use Rattle.recording_measure.specs.Places.{places_in, places_most}
+use Rattle.recording_measure.specs.Places.{Named, places_in, places_most}
+use Rattle.datagram_source.proofs.Streams.{same_stream}
 
 pub same_place : (one other : PlaceName) → Decides (is_same_place one other) (one ≡ other)
 same_place None None = (λ e. refl, λ e. refl)
 same_place None (Some other) = (λ e. absurd cc, λ e. absurd cc)
 same_place (Some one) None = (λ e. absurd cc, λ e. absurd cc)
 same_place (Some one) (Some other) =
-    let those = bytes_eq-Decides one other in (λ e. ap Some (those.0 e), λ e. those.1 cc)
+    let those = Decides-and _ _ (bytes_eq-Decides one.name other.name) (same_stream one.stream other.stream) in (
+      λ e. ap Some (alike (those.0 e)),
+      λ e. let same : one ≡ other = cc in
+          those.1 (ap (λ (n : Named). n.name) same, ap (λ (n : Named). n.stream) same),
+    )
+  where
+    alike : (one.name ≡ other.name) × (one.stream ≡ other.stream) → one ≡ other
+    alike (name, stream) = λ i. record { name = name i; stream = stream i }
 
 pub other_way : (one other : PlaceName) → is_same_place one other ≡ false → is_same_place other one ≡ false
 other_way one other differ = go (is_same_place other one) refl

@@ -5,7 +5,7 @@ use Rattle.std.specs.Prelude.{if◌then◌else◌}
 use Rattle.std.specs.List.{All}
 use Rattle.std.specs.Option.{option_map_or}
 use Rattle.std.specs.Result.{result_ok}
-use Rattle.std.proofs.lemmas.Bool.{cases_eq, lt-leb}
+use Rattle.std.proofs.lemmas.Bool.{cases_lt, cases_eq, lt-leb}
 use Rattle.std.proofs.lemmas.List.{length-append, length-map, length-set, map-append, get_or-map, get_or_push, get_or-set_same, get_or-set_other}
 use Rattle.std.proofs.lemmas.List.Elements.{All-push}
 use Rattle.event_codec.specs.declared.message.Header.{Header}
@@ -80,6 +80,19 @@ AreKeptRows-more earlier rows (x ∷ kept) k row are is =
     (are.0, are.1, AreKeptRows-more (are.0 ∷ earlier) rows kept k row are.2 is)
 
 -- ---- which of them is that of a place
+-- none of one more is at a place
+pub one_more_differs : (place : PlaceName) (xs : List Recording) (n : ℕ)
+    → ((k : ℕ) (d : Recording) → k < n → is_same_place (place_in (get_or xs k d)) place ≡ false)
+    → ((d : Recording) → is_same_place (place_in (get_or xs n d)) place ≡ false)
+    → (k : ℕ) (d : Recording) → k < n + 1 → is_same_place (place_in (get_or xs k d)) place ≡ false
+one_more_differs place xs n before here k d below = go (cases_lt k n)
+  where
+    go : (k < n) ⊎ (n ≤ k) → is_same_place (place_in (get_or xs k d)) place ≡ false
+    go (inl less) = before k d less
+    go (inr more) =
+        let same : k ≡ n = omega (arith, more, below) in
+        ap (λ (i : ℕ). is_same_place (place_in (get_or xs i d)) place) same ∙ here d
+
 pub none_among : (place : PlaceName) (xs : List Recording)
     → ((k : ℕ) (d : Recording) → k < length xs → is_same_place (place_in (get_or xs k d)) place ≡ false)
     → is_among place (map place_in xs) ≡ false

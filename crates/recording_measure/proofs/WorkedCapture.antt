@@ -1,6 +1,6 @@
 -- A worked capture of two interfaces, at one of which alone a slave asks: which is measured, which of its rows are heard, and what
 -- is written of them.
-use Rattle.std.proofs.Common.{◌≡◌, refl, ℕ, List, [], ◌∷◌, map, codes, Some, None}
+use Rattle.std.proofs.Common.{◌≡◌, refl, List, [], ◌∷◌, map, codes, Some, None}
 use Rattle.ptp_units.specs.Moment.{stamp}
 use Rattle.event_codec.specs.declared.message.Body.TheVariants.{Sync, DelayReq, DelayResp}
 use Rattle.ptp_units.specs.Nanoseconds.{decimals}
@@ -9,20 +9,20 @@ use Rattle.recording_measure.specs.declared.form.Form.TheVariants.{Table}
 use Rattle.capture_file.specs.Name.{called}
 use Rattle.recording_measure.specs.declared.watch.WantedPorts.{WantedPorts}
 use Rattle.recording_measure.specs.Row.{Row}
-use Rattle.recording_measure.specs.Places.{PlacedRow, places_in}
+use Rattle.recording_measure.specs.Places.{Named, PlacedRow, plain, places_in}
 use Rattle.recording_measure.specs.Chosen.{chosen, heard_at, input_written}
 use Rattle.recording_measure.specs.Counts.{input_fates}
 use Rattle.recording_summary.specs.declared.no_report.NoReport.TheVariants.{OfSlave, Alone}
 use Rattle.recording_measure.proofs.Worked.{port, said, a_line, anybody}
 
 -- an interface without a name, and one that has one
-abbrev first : List ℕ
-first = called 0 None
+abbrev first : Named
+first = record { name = called 0 None; stream = plain }
 
-abbrev tap : List ℕ
-tap = called 1 (Some (codes "tap"))
+abbrev tap : Named
+tap = record { name = called 1 (Some (codes "tap")); stream = plain }
 
-abbrev at : List ℕ → Row → PlacedRow
+abbrev at : Named → Row → PlacedRow
 at interface it = record { place = Some interface; row = it }
 
 abbrev sync : Row

@@ -14,7 +14,7 @@ use Rattle.recording_measure.specs.declared.form.Form.TheVariants.{Json, Table, 
 use Rattle.recording_measure.specs.declared.watch.WantedPorts.{WantedPorts}
 use Rattle.recording_measure.specs.Places.{PlacedRow, placed}
 use Rattle.recording_measure.specs.Measured.{GoesWhole}
-use Rattle.recording_measure.specs.Chosen.{input_measured, input_written}
+use Rattle.recording_measure.specs.Chosen.{settled, input_measured, input_written}
 
 -- what is asked for, and the rows that were read, newest first
 pub record Recording : Type 0 where
@@ -38,18 +38,22 @@ written_of r = input_written r.form r.wanted r.rows
 abbrev pub with_row : PlacedRow → Recording → Recording
 with_row row r = record r { rows = row ∷ r.rows }
 
+-- after one more datagram: its row, where it belongs
+abbrev pub with_datagram : DatagramOf → Recording → Recording
+with_datagram d r = with_row (placed (settled r.wanted r.rows d) d) r
+
 -- A datagram is one more row, and what this adds to all that is written goes out.
 abbrev pub Takes : DatagramOf → Recording → Recording → List ℕ → Type 0
-Takes d r later out = (later ≡ with_row (placed d) r) × (written_of later ≡ written_of r ++ out)
+Takes d r later out = (later ≡ with_datagram d r) × (written_of later ≡ written_of r ++ out)
 
 -- Why a datagram isn't taken: memory failed, or the writer did, at a report. Before that some of its reports may have gone out,
 -- each whole.
 abbrev pub Stops : DatagramOf → Recording → LineFault → List ℕ → Type 0
 Stops d r Write out = (left : List Measured) × (left ≢ [])
-    × GoesWhole r.form (measured_so_far r) (measured_so_far (with_row (placed d) r)) left out
+    × GoesWhole r.form (measured_so_far r) (measured_so_far (with_datagram d r)) left out
 Stops d r Field out = ⊥
 Stops d r Memory out = (left : List Measured)
-    × GoesWhole r.form (measured_so_far r) (measured_so_far (with_row (placed d) r)) left out
+    × GoesWhole r.form (measured_so_far r) (measured_so_far (with_datagram d r)) left out
 
 -- lines tell a time and a datagram each, and the end changes nothing
 abbrev pub measure_rules : DatagramRules Recording LineFault

@@ -1,34 +1,46 @@
 -- Where datagrams were met: at places, each of which is a recording of its own. Lists of rows have the newest in front.
-use Rattle.std.specs.Prelude.{ℕ, nat_le, Bool, true, false, ◌||◌, List, [], ◌∷◌, ◌++◌, length, if◌then◌else◌, Option, Some, None}
+use Rattle.std.specs.Prelude.{ℕ, nat_le, Bool, true, false, ◌||◌, ◌&&◌, List, [], ◌∷◌, ◌++◌, length, if◌then◌else◌, Option, Some, None}
 use Rattle.std.specs.List.{list_any}
 use Rattle.std.specs.Str.{bytes_eq}
 use Rattle.capture_file.specs.Name.{name_of}
 use Rattle.datagram_source.specs.Datagram.{PlaceOf, Line, Tap, Interface, DatagramOf}
+use Rattle.datagram_source.specs.Stream.{is_same_stream}
+use Rattle.datagram_source.specs.declared.stream.Stream.{Stream}
 use Rattle.recording_measure.specs.Row.{Row, row_of}
+
+-- a place that has a name: a tap, or one of the streams at an interface
+pub record Named : Type 0 where
+  pub name : List ℕ
+  pub stream : Stream
 
 -- what a place is called; lines that tell none are all met at one without a name
 abbrev pub PlaceName : Type 0
-PlaceName = Option (List ℕ)
+PlaceName = Option Named
+
+-- the stream of sdoId 0 in no VLAN, to all slaves
+abbrev pub plain : Stream
+plain = record { sdo = 0; vlan = None; slave = None }
 
 abbrev pub name_in : PlaceOf → PlaceName
 name_in Line = None
-name_in (Tap name) = Some name
-name_in (Interface interface) = Some (name_of interface)
+name_in (Tap name) = Some (record { name = name; stream = plain })
+name_in (Interface interface stream) = Some (record { name = name_of interface; stream = stream })
 
 -- a row, and where its datagram was met
 pub record PlacedRow : Type 0 where
   pub place : PlaceName
   pub row : Row
 
-abbrev pub placed : DatagramOf → PlacedRow
-placed d = record { place = name_in d.place; row = row_of d }
+-- that of a datagram, which belongs here
+abbrev pub placed : PlaceOf → DatagramOf → PlacedRow
+placed place d = record { place = name_in place; row = row_of d }
 
--- places that are called alike are one, though each section of a capture describes its own interfaces
+-- places that are called alike and are of one stream are one, though each section of a capture describes its own interfaces
 abbrev pub is_same_place : (one other : PlaceName) → Bool
 is_same_place None None = true
 is_same_place None (Some other) = false
 is_same_place (Some one) None = false
-is_same_place (Some one) (Some other) = bytes_eq one other
+is_same_place (Some one) (Some other) = bytes_eq one.name other.name && is_same_stream one.stream other.stream
 
 -- the rows at a place
 abbrev pub rows_at : PlaceName → List PlacedRow → List Row

@@ -22,7 +22,7 @@ counts_told summary = summary.counts
 
 -- what a place is called that is kept
 abbrev pub kept_name : Place → PlaceName
-kept_name place = option_map (λ name. name.items) place.name
+kept_name place = option_map (λ name. record { name = name.items; stream = place.stream }) place.name
 
 abbrev pub place_in : Known → PlaceName
 place_in known = kept_name known.place
@@ -31,12 +31,16 @@ abbrev pub place_at : Stage → List Known → Option PlaceName
 place_at (Looking count) known = None
 place_at (Hearing index listener) known = option_map place_in (slice_get known index)
 
--- the name of the place that is measured, if it has one
+-- what a place is called, if it has a name
+abbrev pub called : Option PlaceName → Option (List ℕ)
+called place = option_map (λ it. it.name) (option_and_then (λ it. it) place)
+
+-- what the place is called that is measured, if it has a name
 abbrev pub interface_told : Summary → Option (List ℕ)
-interface_told summary = option_and_then (λ place. place) (place_at summary.task.stage summary.task.recordings.recordings.items)
+interface_told summary = called (place_at summary.task.stage summary.task.recordings.recordings.items)
 
 -- what is told of all that was read
 pub record IsSummary (summary : Summary) (r : Recording) : Type 0 where
   pub whom : whom_told summary ≡ told_whom r.wanted r.rows
-  pub interface : interface_told summary ≡ option_and_then (λ place. place) (chosen r.wanted r.rows)
+  pub interface : interface_told summary ≡ called (chosen r.wanted r.rows)
   pub counts : IsCounts (told_fates r.wanted r.rows) (counts_told summary)

@@ -5,13 +5,15 @@ ghost use Rattle.text_lines.specs.Counted.{device_of, HasNotFailed, HasFailedIf}
 ghost use Rattle.text_lines.specs.Fault.{is_write};
 ghost use Rattle.event_codec.specs.Reading.{IsReading};
 ghost use Rattle.datagram_source.specs.Said.{reading_of};
-ghost use Rattle.datagram_source.specs.Datagram.{datagram_of};
+ghost use Rattle.datagram_source.specs.Datagram.{datagram_of, place_of, place_to_all};
 ghost use Rattle.recording_measure.specs.Row.{Row, row_of};
+ghost use Rattle.recording_measure.specs.Places.{name_in};
+ghost use Rattle.recording_measure.specs.Chosen.{is_exchange, stays_at, settled};
 ghost use Rattle.recording_measure.specs.Measured.{measurements};
 ghost use Rattle.recording_measure.specs.Measure.{Recording as Read, begun, measure_rules};
 ghost use Rattle.recording_measure.specs.Summary.{told_whom};
 ghost use Rattle.recording_measure.specs.Counts.{Fate, fates, told_fates, IsCounts};
-ghost use Rattle.recording_measure.specs.Told.{place_at};
+ghost use Rattle.recording_measure.specs.Told.{place_at, called};
 ghost use Rattle.recording_measure.specs.Inner.Hearing.{Goes};
 ghost use Rattle.recording_measure.specs.Inner.Recordings.{BeginsWith};
 ghost use Rattle.recording_measure.specs.Inner.Measuring.{IsMeasuring, IsLooking, IsHearingAt, AddsRow};
@@ -24,7 +26,8 @@ use crate::reports::TimedReports;
 use crate::tally::Tally;
 use crate::watch::{WantedPorts, Watch};
 use capture_file::InterfaceName;
-use datagram_source::{Datagram, DatagramTask, LineForm};
+use datagram_source::{Datagram, DatagramTask, LineForm, Place as MetAt};
+use event_codec::{Body, DecodeRefusal, Message};
 use recording_model::Watched;
 use recording_summary::{Counts, Whom};
 use std::alloc::Global;
@@ -35,6 +38,16 @@ use text_lines::{Counted, LineFault};
 
 /// How many datagrams are kept until it is known whom to watch.
 const KEPT_MOST: u64 = 1024;
+
+/// Whether it is a Delay_Req, or the answer to one.
+fn is_exchange(said: &Result<Message<'_>, DecodeRefusal>) -> bool
+    ensures { result ≡ is_exchange (reading_of said.now) }
+{
+    match said {
+        Ok(message) => matches!(message.body, Body::DelayReq { .. } | Body::DelayResp { .. }),
+        Err(_) => false,
+    }
+}
 
 /// What is done with a datagram.
 #[derive(Drop)]
@@ -87,7 +100,12 @@ impl DatagramTask for Measuring {
         output: &mut Counted<W>,
         errors: &mut E,
     ) -> Result<(), LineFault> {
-        self.take_row(datagram, output, errors)
+        let to_all = datagram.place.to_all();
+        if self.is_to_all(datagram, &to_all) {
+            self.take_row(&to_all, datagram, output, errors)
+        } else {
+            self.take_row(&datagram.place, datagram, output, errors)
+        }
     }
 
     fn finish<W: Write, E: Write>(
@@ -114,9 +132,34 @@ impl Measuring {
         }
     }
 
-    /// Takes a datagram, and what it adds to all that is written goes out.
+    /// Whether a datagram that was met here stays here, and isn't one of those to all slaves: while no place is measured because this one
+    /// is looked at.
+    fn stays_at(&self, met: &MetAt<'_>, to_all: &MetAt<'_>) -> bool
+        requires measuring { (r : Read) × IsMeasuring self.now r }
+        requires place { place_of to_all.now ≡ place_to_all (place_of met.now) }
+        ensures { (r : Read) → IsMeasuring self.now r → result ≡ stays_at r.wanted r.rows (place_of met.now) }
+    {
+        match &self.stage {
+            Stage::Looking(_) => self.recordings.find(met).is_some(),
+            Stage::Hearing(index, _) => !self.recordings.is_at(*index, to_all),
+        }
+    }
+
+    /// Whether a datagram belongs to those that go to all: a Delay_Req or Delay_Resp where no Syncs go to its slave alone.
+    fn is_to_all(&self, datagram: &Datagram<'_>, to_all: &MetAt<'_>) -> bool
+        requires measuring { (r : Read) × IsMeasuring self.now r }
+        requires place { place_of to_all.now ≡ place_to_all (place_of datagram.now.place) }
+        ensures { (r : Read) → IsMeasuring self.now r
+            → (if result then place_to_all (place_of datagram.now.place) else place_of datagram.now.place)
+            ≡ settled r.wanted r.rows (datagram_of datagram.now) }
+    {
+        is_exchange(&datagram.said) && !self.stays_at(&datagram.place, to_all)
+    }
+
+    /// Takes a datagram that belongs here, and what it adds to all that is written goes out.
     fn take_row<W: Write, E: Write>(
         &mut self,
+        met: &MetAt<'_>,
         datagram: &Datagram<'_>,
         output: &mut Counted<W>,
         errors: &mut E,
@@ -124,7 +167,7 @@ impl Measuring {
         requires stands { (r : Read) × IsMeasuring self.old r }
         requires read { IsReading datagram.now.octets.now (reading_of datagram.now.said) }
         ensures taken { (r : Read) → IsMeasuring self.old r →
-            AddsRow result r datagram.now self.new (W.contents (device_of output.old)) (W.contents (device_of output.new)) }
+            AddsRow result r met.now datagram.now self.new (W.contents (device_of output.old)) (W.contents (device_of output.new)) }
         ensures failures { MatchResult result
             (λ _. HasNotFailed output.old output.new)
             (λ fault. HasFailedIf (is_write fault) output.old output.new) }
@@ -135,13 +178,13 @@ impl Measuring {
                 if is_kept {
                     *count += 1;
                 }
-                self.look(datagram, is_kept, output, errors)
+                self.look(met, datagram, is_kept, output, errors)
             }
             Stage::Hearing(index, listener) => {
-                if self.recordings.is_at(*index, &datagram.place) {
+                if self.recordings.is_at(*index, met) {
                     self.reports.hear(listener, datagram, output)
                 } else {
-                    self.at_places.count(self.recordings.find(&datagram.place));
+                    self.at_places.count(self.recordings.find(met));
                     Ok(())
                 }
             }
@@ -152,6 +195,7 @@ impl Measuring {
     /// were met at its place.
     fn look<W: Write, E: Write>(
         &mut self,
+        met: &MetAt<'_>,
         datagram: &Datagram<'_>,
         is_kept: bool,
         output: &mut Counted<W>,
@@ -159,14 +203,14 @@ impl Measuring {
     ) -> Result<(), LineFault>
         requires { IsReading datagram.now.octets.now (reading_of datagram.now.said) }
         ensures taken { (r : Read) → IsLooking self.old r is_kept →
-            AddsRow result r datagram.now self.new (W.contents (device_of output.old)) (W.contents (device_of output.new)) }
+            AddsRow result r met.now datagram.now self.new (W.contents (device_of output.old)) (W.contents (device_of output.new)) }
         ensures failures { MatchResult result
             (λ _. HasNotFailed output.old output.new)
             (λ fault. HasFailedIf (is_write fault) output.old output.new) }
     {
         let found = self
             .recordings
-            .take(self.alloc, &self.wanted, datagram, is_kept)?;
+            .take(self.alloc, &self.wanted, met, datagram, is_kept)?;
         self.at_places.count(found);
         let Some(index) = found else {
             return Ok(());
@@ -252,8 +296,7 @@ impl Measuring {
 
     /// What the place is called that is measured, where one is that has a name.
     pub(crate) fn interface(&self) -> Option<&[u8]>
-        ensures { option_map (λ name. name.now) result
-            ≡ option_and_then (λ place. place) (place_at self.now.stage self.now.recordings.recordings.items) }
+        ensures { option_map (λ name. name.now) result ≡ called (place_at self.now.stage self.now.recordings.recordings.items) }
     {
         match &self.stage {
             Stage::Looking(_) => None,
@@ -328,7 +371,7 @@ impl Measuring {
         if count > 0 {
             let _ = writeln!(
                 errors,
-                "ptpx: {} at other interfaces, which weren't looked at",
+                "ptpx: {} at other places, which weren't looked at",
                 Datagrams(count)
             );
         }

@@ -5,16 +5,24 @@ ghost use Rattle.datagram_source.specs.Datagram.{place_of as met_at};
 ghost use Rattle.recording_measure.specs.Places.{name_in, is_same_place};
 ghost use Rattle.recording_measure.specs.Told.{kept_name};
 
-use datagram_source::Place as MetAt;
+use datagram_source::{Place as MetAt, Stream};
 use std::alloc::{AllocError, Global};
 use std::fmt;
 use std::fmt::{Display, Formatter};
 
-/// A place at which datagrams were met, by what it is called: the name of an interface, in whichever section of the capture, or of
-/// a tap. That of lines which tell none has no name.
+/// The stream of sdoId 0 in no VLAN, to all slaves.
+const PLAIN: Stream = Stream {
+    sdo: 0,
+    vlan: None,
+    slave: None,
+};
+
+/// A place at which datagrams were met: a tap, or one of the streams at an interface, in whichever section of the capture. That of
+/// lines which tell none has no name.
 #[derive(Drop)]
 pub(crate) struct Place {
     name: Option<Vec<u8>>,
+    stream: Stream,
 }
 
 impl Place {
@@ -22,17 +30,17 @@ impl Place {
     pub(crate) fn new(alloc: Global, met: &MetAt<'_>) -> Result<Place, AllocError>
         ensures { IfOk result (λ place. kept_name place ≡ name_in (met_at met.now)) }
     {
-        let name = match met {
-            MetAt::Line => None,
-            MetAt::Tap(tap) => Some(Vec::from_slice(alloc, tap.text().as_bytes())?),
-            MetAt::Interface(interface) => Some(interface.called(alloc)?),
+        let (name, stream) = match met {
+            MetAt::Line => (None, PLAIN),
+            MetAt::Tap(tap) => (Some(Vec::from_slice(alloc, tap.text().as_bytes())?), PLAIN),
+            MetAt::Interface(interface, stream) => (Some(interface.called(alloc)?), *stream),
         };
-        Ok(Place { name })
+        Ok(Place { name, stream })
     }
 
-    /// What it is called, if it has a name.
+    /// The name of its tap or interface, if it has one.
     pub(crate) fn name(&self) -> Option<&[u8]>
-        ensures { option_map (λ name. name.now) result ≡ kept_name self.now }
+        ensures { option_map (λ name. name.now) result ≡ option_map (λ it. it.name) (kept_name self.now) }
     {
         match &self.name {
             Some(name) => Some(name),
@@ -53,8 +61,12 @@ impl Place {
     {
         match (&self.name, met) {
             (None, MetAt::Line) => true,
-            (Some(name), MetAt::Tap(tap)) => name.as_slice() == tap.text().as_bytes(),
-            (Some(name), MetAt::Interface(interface)) => interface.is_called(name),
+            (Some(name), MetAt::Tap(tap)) => {
+                name.as_slice() == tap.text().as_bytes() && self.stream.is(&PLAIN)
+            }
+            (Some(name), MetAt::Interface(interface, stream)) => {
+                interface.is_called(name) && self.stream.is(stream)
+            }
             _ => false,
         }
     }
@@ -70,6 +82,6 @@ impl Display for Place {
         for octet in self.name.iter().flatten() {
             write!(f, "{}", octet.escape_ascii())?;
         }
-        Ok(())
+        write!(f, "{}", self.stream)
     }
 }

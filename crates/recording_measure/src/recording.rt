@@ -15,7 +15,7 @@ ghost use Rattle.recording_measure.specs.Inner.Hearing.{recorded_of};
 ghost use Rattle.recording_measure.specs.Inner.Recordings.{IsCopy, IsRowOf, IsSought, IsNoticed, IsFresh, AreRecordings};
 ghost use Rattle.recording_measure.specs.Inner.Recordings.{IsFoundAt, HasAdded, KeepsMore};
 ghost use Rattle.recording_measure.specs.Inner.Watching.{whom_of};
-ghost use Rattle.recording_measure.specs.Told.{place_in};
+ghost use Rattle.recording_measure.specs.Told.{place_in, called};
 
 use crate::place::Place;
 use crate::tally::Tally;
@@ -274,23 +274,24 @@ impl Recordings {
         Ok(Some(index))
     }
 
-    /// Takes a datagram, and keeps it where this is asked for. Answers the index of its place.
+    /// Takes a datagram that belongs here, and keeps it where this is asked for. Answers the index of its place.
     pub(crate) fn take(
         &mut self,
         alloc: Global,
         wanted: &WantedPorts,
+        met: &MetAt<'_>,
         datagram: &Datagram<'_>,
         is_kept: bool,
     ) -> Result<Option<usize>, AllocError>
         requires { IsReading datagram.now.octets.now (reading_of datagram.now.said) }
         ensures within { IfOk result (λ found. IfSome found (λ index. index < length self.new.recordings.items)) }
-        ensures taken { (rows : List PlacedRow) (r : PlacedRow) → r ≡ placed (datagram_of datagram.now)
+        ensures taken { (rows : List PlacedRow) (r : PlacedRow) → r ≡ placed (place_of met.now) (datagram_of datagram.now)
             → is_kept ≡ nat_lt (length rows) kept_most
             → AreRecordings wanted.now rows self.old.recordings.items
             → IfOk result (λ found. AreRecordings wanted.now (r ∷ rows) self.new.recordings.items
             × IsFoundAt r.place (places_in (r ∷ rows)) found self.new.recordings.items) }
     {
-        let found = self.find_or_add(alloc, wanted, &datagram.place)?;
+        let found = self.find_or_add(alloc, wanted, met)?;
         if let Some(index) = found {
             let recording = &mut self.recordings[index];
             recording.notice(wanted, datagram);
@@ -331,7 +332,7 @@ impl Recordings {
     /// What the place of this index is called, where there is one that has a name.
     pub(crate) fn name(&self, index: usize) -> Option<&[u8]>
         ensures { option_map (λ name. name.now) result
-            ≡ option_and_then (λ place. place) (option_map place_in (slice_get self.now.recordings.items index)) }
+            ≡ called (option_map place_in (slice_get self.now.recordings.items index)) }
     {
         match self.recordings.get(index) {
             Some(recording) => recording.place.name(),

@@ -26,4 +26,4 @@ pub data IsTapOf : InterfaceOf → List ℕ → Type 0 where
 abbrev pub IsTapAt : PlaceOf → List ℕ → Type 0
 IsTapAt Line tap = ⊥
 IsTapAt (Tap name) tap = tap ≡ name
-IsTapAt (Interface interface) tap = IsTapOf interface tap
+IsTapAt (Interface interface stream) tap = IsTapOf interface tap

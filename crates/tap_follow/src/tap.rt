@@ -43,6 +43,6 @@ pub(crate) fn tap_met(place: &Place<'_>) -> Option<TapName>
     match place {
         Place::Line => None,
         Place::Tap(tap) => Some(*tap),
-        Place::Interface(interface) => tap_of(interface),
+        Place::Interface(interface, _) => tap_of(interface),
     }
 }

@@ -8,7 +8,7 @@ use Rattle.recording_summary.specs.declared.counts.Counts.{Counts}
 use Rattle.recording_summary.specs.declared.kind.Kind.{Kind}
 use Rattle.recording_summary.specs.declared.no_report.NoReport.{NoReport}
 use Rattle.recording_summary.specs.declared.no_report.NoReport.TheVariants as whys
-use Rattle.recording_summary.specs.Counts.{with_one, with_unreported}
+use Rattle.recording_summary.specs.Counts.{with_unreported}
 use Rattle.recording_measure.specs.declared.watch.WantedPorts.{WantedPorts}
 use Rattle.recording_measure.specs.Places.{PlaceName, PlacedRow}
 use Rattle.recording_measure.specs.Counts.{why_answered, input_fates, IsCounts}

@@ -2,7 +2,8 @@
 use Rattle.std.specs.Prelude.{◌≡◌, ℕ, ◌+◌, ◌<◌, nat_lt, Bool, min, ◌++◌, List, [], length, get_or, Some, None, Option, Result, OnOk}
 use Rattle.text_lines.specs.declared.line_fault.LineFault.{LineFault}
 use Rattle.datagram_source.specs.declared.datagram.Datagram.{Datagram}
-use Rattle.datagram_source.specs.Datagram.{datagram_of}
+use Rattle.datagram_source.specs.declared.datagram.Place.{Place}
+use Rattle.datagram_source.specs.Datagram.{place_of, datagram_of}
 use Rattle.recording_model.specs.declared.watched.Watched.{Watched}
 use Rattle.recording_model.specs.Listening.{after_all}
 use Rattle.recording_measure.specs.Inner.StandsFor.{StandsFor}
@@ -57,9 +58,10 @@ pub record IsLooking (task : Measuring) (r : Recording) (is_kept : Bool) : Type 
   pub nothing : IsCounts [] task.reports.reports.tally.counts
   pub counted : (count : ℕ) × (task.stage ≡ Looking count) × (count ≡ min (length r.rows + 1) kept_most)
 
--- a datagram was taken, and the reports that it brings went out, or some of them before a fault
-abbrev pub AddsRow : {T : Type 0} → Result T LineFault → Recording → Datagram → Measuring → (before after : Option (List ℕ)) → Type 0
-AddsRow result r d new before after =
-    OnOk result (IsMeasuring new (with_row (placed (datagram_of d)) r))
-    × (ms : List Measured) × (measured_so_far (with_row (placed (datagram_of d)) r) ≡ ms ++ measured_so_far r)
+-- a datagram was taken, which belongs here, and the reports that it brings went out, or some of them before a fault
+abbrev pub AddsRow : {T : Type 0} → Result T LineFault → Recording → (met : Place) → Datagram → Measuring
+    → (before after : Option (List ℕ)) → Type 0
+AddsRow result r met d new before after =
+    OnOk result (IsMeasuring new (with_row (placed (place_of met) (datagram_of d)) r))
+    × (ms : List Measured) × (measured_so_far (with_row (placed (place_of met) (datagram_of d)) r) ≡ ms ++ measured_so_far r)
     × Goes r.form result ms before after

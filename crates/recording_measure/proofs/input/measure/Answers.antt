@@ -1,10 +1,9 @@
 use Rattle.std.proofs.Common.{ℕ, List, ap, subst}
-use Rattle.std.specs.Prelude.{option_and_then}
 use Rattle.datagram_source.specs.Input.{AnswersInput}
 use Rattle.datagram_source.proofs.LeftAs.{left_as}
 use Rattle.recording_measure.specs.Measure.{begun, measure_rules}
 use Rattle.recording_measure.specs.declared.input.Summary.{Summary}
-use Rattle.recording_measure.specs.Told.{IsSummary}
+use Rattle.recording_measure.specs.Told.{called, IsSummary}
 use Rattle.recording_measure.specs.Inner.Measuring.{IsMeasuring}
 use Rattle.recording_measure.proofs.Summaries.{place_chosen}
 use Rattle.recording_measure.proofs.input.measure.Goals as goal
@@ -28,7 +27,7 @@ returns-clause-summary g c = λ octets known.
     left_as measure_rules (begun c.args.form c.args.wanted.now) octets (IsMeasuring outcome.result.1) (IsSummary summary)
     (λ r at. record {
       whom = c.whom.ensures r at;
-      interface = ap (option_and_then (λ place. place))
+      interface = ap called
           (place_chosen r.wanted r.rows outcome.result.1.recordings.recordings.items outcome.result.1.stage at.stage);
       counts = c.counts.ensures r at;
     }) outcome.result.0 (outcome.ensures.left (begun c.args.form c.args.wanted.now) c.new-task.ensures octets known)

@@ -3,7 +3,7 @@ use Rattle.std.proofs.KnownBytes.{Appends-nil}
 use Rattle.std.proofs.lemmas.Result.{err_from_is_err_and}
 use Rattle.std.specs.Prelude.{if◌then◌else◌}
 use Rattle.text_lines.specs.Counted.{device_of}
-use Rattle.datagram_source.specs.Datagram.{datagram_of}
+use Rattle.datagram_source.specs.Datagram.{place_of, datagram_of}
 use Rattle.recording_measure.specs.declared.form.Form.{Form}
 use Rattle.recording_measure.specs.declared.recording.Recordings.{Recordings}
 use Rattle.recording_measure.specs.declared.watch.WantedPorts.{WantedPorts}
@@ -30,12 +30,12 @@ use Rattle.recording_measure.proofs.measuring.Measuring.look.Goals as goal
 pub returns-in_err-found-clause-taken : goal.returns-in_err-found-clause-taken
 returns-in_err-found-clause-taken g c = λ k at.
     let e = err_from_is_err_and c.from_residual.result c.from_residual.ensures.1 in
-    let r : PlacedRow = placed (datagram_of c.args.datagram.now) in
+    let r : PlacedRow = placed (place_of c.args.met.now) (datagram_of c.args.datagram.now) in
     rw (e.1, e.2) (tt, _, adds_all k r at.unchosen, GoesUntil-none k.form _ _)
 
 pub returns-in_default-clause-taken : goal.returns-in_default-clause-taken
 returns-in_default-clause-taken g c = λ k at.
-    let r : PlacedRow = placed (datagram_of c.args.datagram.now) in
+    let r : PlacedRow = placed (place_of c.args.met.now) (datagram_of c.args.datagram.now) in
     let w : WantedPorts = c.args.self.now.wanted in
     let (are, found) = c.in_ok-found.ensures.taken k.rows r refl at.kept
     (subst (λ (w : WantedPorts). AreRecordings w k.rows c.args.self.now.recordings.recordings.items) (sym at.wanted) at.recordings) in
@@ -50,7 +50,7 @@ returns-in_default-clause-taken g c = λ k at.
 
 pub returns-in-Some-watched-clause-taken : goal.returns-in-Some-watched-clause-taken
 returns-in-Some-watched-clause-taken g c = λ k at.
-    let r : PlacedRow = placed (datagram_of c.args.datagram.now) in
+    let r : PlacedRow = placed (place_of c.args.met.now) (datagram_of c.args.datagram.now) in
     let recordings = c.take.new.self.recordings.items in
     let taken = c.in_ok-found.ensures.taken k.rows r refl at.kept
     (subst (λ (w : WantedPorts). AreRecordings w k.rows c.args.self.now.recordings.recordings.items) (sym at.wanted) at.recordings) in
@@ -97,7 +97,7 @@ returns-in-Some-watched-clause-taken g c = λ k at.
 
 pub returns-in-None-clause-taken : goal.returns-in-None-clause-taken
 returns-in-None-clause-taken g c = λ k at.
-    let r : PlacedRow = placed (datagram_of c.args.datagram.now) in
+    let r : PlacedRow = placed (place_of c.args.met.now) (datagram_of c.args.datagram.now) in
     let recordings = c.take.new.self.recordings.items in
     let taken = c.in_ok-found.ensures.taken k.rows r refl at.kept
     (subst (λ (w : WantedPorts). AreRecordings w k.rows c.args.self.now.recordings.recordings.items) (sym at.wanted) at.recordings) in

@@ -2,7 +2,7 @@ use Rattle.std.proofs.Common.{◌≡◌, ◌∙◌, ◌+◌, ◌∷◌, List, tr
 use Rattle.std.specs.Prelude.{option_to_list}
 use Rattle.std.proofs.KnownBytes.{Appends-nil}
 use Rattle.text_lines.specs.Counted.{device_of}
-use Rattle.datagram_source.specs.Datagram.{datagram_of}
+use Rattle.datagram_source.specs.Datagram.{place_of, datagram_of}
 use Rattle.recording_measure.specs.declared.form.Form.{Form}
 use Rattle.recording_measure.specs.declared.recording.Recording.{Recording}
 use Rattle.recording_measure.specs.Places.{PlacedRow, placed, is_same_place}
@@ -57,7 +57,7 @@ is_at-requires g c =
 
 pub returns-then-is_at-clause-taken : goal.returns-then-is_at-clause-taken
 returns-then-is_at-clause-taken g c = λ k at.
-    let r : PlacedRow = placed (datagram_of c.args.datagram.now) in
+    let r : PlacedRow = placed (place_of c.args.met.now) (datagram_of c.args.datagram.now) in
     let recordings = c.args.self.now.recordings.recordings.items in
     let (watched, within, is, known, listens) = subst (IsStage k.wanted k.rows recordings) c.in-Hearing.is at.stage in
     let same : (d : Recording) → is_same_place (place_in (get_or recordings c.in-Hearing.index d)) r.place ≡ true =
@@ -91,7 +91,7 @@ returns-then-is_at-clause-taken g c = λ k at.
 
 pub returns-else-is_at-clause-taken : goal.returns-else-is_at-clause-taken
 returns-else-is_at-clause-taken g c = λ k at.
-    let r : PlacedRow = placed (datagram_of c.args.datagram.now) in
+    let r : PlacedRow = placed (place_of c.args.met.now) (datagram_of c.args.datagram.now) in
     let recordings = c.args.self.now.recordings.recordings.items in
     let (watched, within, is, known, listens) = subst (IsStage k.wanted k.rows recordings) c.in-Hearing.is at.stage in
     let other : (d : Recording) → is_same_place (place_in (get_or recordings c.in-Hearing.index d)) r.place ≡ false =

@@ -5,7 +5,7 @@ use Rattle.recording_measure.specs.declared.recording.Recording.{Recording}
 use Rattle.recording_measure.specs.Places.{name_in, is_same_place}
 use Rattle.recording_measure.specs.Told.{place_in}
 use Rattle.recording_measure.proofs.Places.{same_place}
-use Rattle.recording_measure.proofs.Recordings.{none_among, among_recordings}
+use Rattle.recording_measure.proofs.Recordings.{one_more_differs, none_among, among_recordings}
 use Rattle.recording_measure.proofs.recording.Recordings.find.Goals as goal
 
 pub returns-then-is : goal.returns-then-is
@@ -21,3 +21,12 @@ pub returns : goal.returns
 returns c =
     let xs = c.args.self.now.recordings.items in
     none_among (name_in (place_of c.args.met.now)) xs (λ k d within. c.loop-index.invariant k d (omega (arith, within)))
+
+pub loop-index-preserved : goal.loop-index-preserved
+loop-index-preserved c =
+    let xs = c.args.self.now.recordings.items in
+    let place = name_in (place_of c.args.met.now) in
+    let within : c.loop-index.index < length xs = omega arith in
+    one_more_differs place xs c.loop-index.index c.loop-index.invariant
+    (λ d. ap (λ (x : Recording). is_same_place (place_in x) place)
+    (get_or_default xs c.loop-index.index d c.index.result.now within ∙ sym c.index.ensures) ∙ sym c.is.ensures ∙ c.if-is.false)

@@ -24,7 +24,7 @@ returns-in_ok-keep-clause-taken c = λ rows r is_row few are.
     let new = c.find_or_add.new.self.recordings.items in
     let has : HasAdded c.args.wanted.now r.place (Some c.in-Some.index) old new =
     subst (λ (i : PlaceName). HasAdded c.args.wanted.now i (Some c.in-Some.index) old new) (sym (ap (λ (x : PlacedRow). x.place) is_row))
-    (subst (λ (found : Option ℕ). HasAdded c.args.wanted.now (name_in (met_at c.args.datagram.now.place)) found old new) c.in-Some.is
+    (subst (λ (found : Option ℕ). HasAdded c.args.wanted.now (name_in (met_at c.args.met.now)) found old new) c.in-Some.is
     c.in_ok-found.ensures) in
     added_taken c.args.wanted.now rows r c.in-Some.index old new was x are has c.index_mut-recording.ensures.value
     (ap place_in c.keep.ensures.others ∙ ap place_in c.count_early.ensures.others ∙ ap kept_name c.notice.ensures.place)
@@ -60,7 +60,7 @@ returns-else-is_kept-clause-taken c = λ rows r is_row few are.
     let new = c.find_or_add.new.self.recordings.items in
     let has : HasAdded c.args.wanted.now r.place (Some c.in-Some.index) old new =
     subst (λ (i : PlaceName). HasAdded c.args.wanted.now i (Some c.in-Some.index) old new) (sym (ap (λ (x : PlacedRow). x.place) is_row))
-    (subst (λ (found : Option ℕ). HasAdded c.args.wanted.now (name_in (met_at c.args.datagram.now.place)) found old new) c.in-Some.is
+    (subst (λ (found : Option ℕ). HasAdded c.args.wanted.now (name_in (met_at c.args.met.now)) found old new) c.in-Some.is
     c.in_ok-found.ensures) in
     let many : kept_most ≤ length rows = ltb-false (length rows) kept_most (sym few ∙ c.if-is_kept.false) in
     added_taken c.args.wanted.now rows r c.in-Some.index old new was x are has c.index_mut-recording.ensures.value
