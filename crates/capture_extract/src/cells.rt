@@ -11,11 +11,12 @@ enum Side {
 }
 
 /// How many columns there are.
-const COLUMNS_COUNT: usize = 15;
+const COLUMNS_COUNT: usize = 16;
 
 /// The head of each column, and where its cells stand: numbers at the right.
 const COLUMNS: [(&str, Side); COLUMNS_COUNT] = [
     ("interface", Side::Left),
+    ("stream", Side::Left),
     ("domain", Side::Right),
     ("source", Side::Left),
     ("requesting", Side::Left),

@@ -2,6 +2,7 @@
 
 use crate::header::Listed;
 use crate::message_type::MessageType;
+use datagram_source::Stream;
 use event_codec::PortIdentity;
 use ptp_units::{Interval, Nanoseconds, ScaledTime, Seq, Timestamp};
 use statistics::{Flow, Sent};
@@ -16,6 +17,8 @@ use std::fmt::{Display, Formatter};
 pub(crate) struct RowKey {
     /// The interface, by its index, where the message was met at one.
     pub(crate) interface: Option<usize>,
+    /// The stream, of those at the interface.
+    pub(crate) stream: Option<Stream>,
     /// domainNumber.
     pub(crate) domain: u8,
     /// sourcePortIdentity.

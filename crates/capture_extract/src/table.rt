@@ -65,18 +65,19 @@ impl Table {
 
     /// Counts a message in its row.
     fn count(&mut self, datagram: &Datagram<'_>, listed: &Listed) -> Result<(), AllocError> {
-        let interface = match &datagram.place {
-            Place::Interface(interface) => {
+        let (interface, stream) = match &datagram.place {
+            Place::Interface(interface, stream) => {
                 let Some(index) = self.interface(interface)? else {
                     self.further = self.further.saturating_add(1);
                     return Ok(());
                 };
-                Some(index)
+                (Some(index), Some(*stream))
             }
-            Place::Tap(_) | Place::Line => None,
+            Place::Tap(_) | Place::Line => (None, None),
         };
         let key = RowKey {
             interface,
+            stream,
             domain: listed.header.domain,
             source: listed.header.source,
             message: listed.message,

@@ -5,6 +5,7 @@ use crate::interfaces::{Argument, Label};
 use crate::message_type::MessageType;
 use crate::row::{Correction, Row, RowKey, Time};
 use crate::table::{ROWS_MOST, Table};
+use datagram_source::Stream;
 use datagram_text::Identity;
 use event_codec::PortIdentity;
 use statistics::{Milliseconds, mean};
@@ -25,6 +26,29 @@ impl<T: Display> Display for OrDash<T> {
             Some(value) => write!(f, "{value}"),
             None => f.write_str("-"),
         }
+    }
+}
+
+/// What tells a stream from others of its interface, without blanks; a dash for sdoId 0 in no VLAN and to all slaves.
+#[derive(Clone, Copy)]
+struct OfStream(Stream);
+
+impl Display for OfStream {
+    fn fmt<W: fmt::Write>(&self, f: &mut Formatter<W>) -> fmt::Result {
+        let mut separator = "";
+        if self.0.sdo != 0 {
+            write!(f, "sdo={:#05x}", self.0.sdo)?;
+            separator = ",";
+        }
+        if let Some(vlan) = self.0.vlan {
+            write!(f, "{separator}vlan={vlan}")?;
+            separator = ",";
+        }
+        if let Some(slave) = self.0.slave {
+            write!(f, "{separator}unicast={slave}")?;
+            separator = ",";
+        }
+        f.write_str(if separator.is_empty() { "-" } else { "" })
     }
 }
 
@@ -82,6 +106,7 @@ fn push_row(
 ) -> Result<(), AllocError> {
     let has_steps = key.message.has_steps();
     cells.push(&OrDash(interface))?;
+    cells.push(&OrDash(key.stream.map(OfStream)))?;
     cells.push(&key.domain)?;
     cells.push(&Identity(&key.source))?;
     cells.push(&OrDash(key.requesting.as_ref().map(Identity)))?;
