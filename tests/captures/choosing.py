@@ -1,12 +1,13 @@
-"""What `ptpx measure` owes for a capture, written apart from it: at which interface it measures, which datagrams are heard there, and what it tells of
-that at the end. The rules are those of FORMATS.md, and the packets those that reading.py finds."""
+"""What `ptpx measure` owes for a capture, written apart from it: at which interface and in which of its streams it measures, which datagrams are heard
+there, and what it tells of that at the end. The rules are those of FORMATS.md, and the packets those that reading.py finds."""
 import typing
 
 import measured
 import shown
+import streaming
 from texts import counted, escaped, port, seconds
 
-# How many datagrams are kept until it is known whom to watch, and how many interfaces are looked at.
+# How many datagrams are kept until it is known whom to watch, and how many places are looked at.
 KEPT, LOOKED_AT = 1_024, 16
 
 
@@ -38,6 +39,11 @@ class Datagram(typing.NamedTuple):
         return measured.Read(self.number, seconds(self.time), self.time * 2**16, self.said)
 
 
+def called(place):
+    """What a place is called, an interface and its stream."""
+    return escaped(place[0]) + place[1].told()
+
+
 def watch_of(wanted, datagrams):
     """Whom datagrams are of."""
     watch = measured.Watch(measured.Options(wanted.slave, wanted.master, wanted.domain))
@@ -54,15 +60,25 @@ def is_met(wanted, datagrams):
 
 
 class Choice:
-    """What becomes of the packets with PTP: the interfaces that are looked at, in order, with the datagrams at each; how many there are at others; and
-    the interface that is measured, or None."""
+    """What becomes of the packets with PTP: the places that are looked at, streams of interfaces, in order, with the datagrams at each; how many there are
+    at others; and the place that is measured, or None."""
 
     def __init__(self, wanted, rows):
         self.wanted, self.looked, self.others, self.measured, self.watch = wanted, {}, 0, None, None
         # how many datagrams came before the one by which it was known whom to watch, with that one
         self.count = 0
         for row in rows:
-            self.take(row.interface.name, Datagram(row.number, row.time, shown.message(row.datagram)))
+            datagram = Datagram(row.number, row.time, shown.message(row.datagram))
+            self.take((row.interface.name, self.settled(row, datagram)), datagram)
+
+    def settled(self, row, datagram):
+        """The stream to which a datagram belongs: a Delay_Req or its answer by unicast is of what goes to all where no Sync goes to its slave alone."""
+        stream = streaming.stream(row.route, row.datagram)
+        if not datagram.is_message() or datagram.said.kind not in ('Delay_Req', 'Delay_Resp'):
+            return stream
+        own, to_all = (row.interface.name, stream), (row.interface.name, stream.to_all())
+        stays = own in self.looked if self.measured is None else self.measured != to_all
+        return stream if stays else stream.to_all()
 
     def take(self, place, datagram):
         if self.measured is None:
@@ -96,21 +112,21 @@ class Choice:
         are_several = len(self.looked) > 1 or self.others
         if self.measured:
             if are_several:
-                yield f'measured at {escaped(self.measured)}'
+                yield f'measured at {called(self.measured)}'
             early, heard = self.parts()
             yield from summary(self.watch.known(), early, heard)
             for place, datagrams in self.looked.items():
                 if place != self.measured:
-                    yield f'{counted(len(datagrams), "datagram")} at {escaped(place)}, which isn\'t measured'
+                    yield f'{counted(len(datagrams), "datagram")} at {called(place)}, which isn\'t measured'
         else:
             for place, datagrams in self.looked.items():
                 if are_several:
-                    yield f'at {escaped(place)}:'
+                    yield f'at {called(place)}:'
                 yield from measured.whom(watch_of(self.wanted, datagrams), 'packet')
                 yield from summary(None, datagrams, [])
                 yield from measured.callers(self.wanted, [it.said for it in datagrams if it.is_message()])
         if self.others:
-            yield f'{counted(self.others, "datagram")} at other interfaces, which weren\'t looked at'
+            yield f'{counted(self.others, "datagram")} at other places, which weren\'t looked at'
 
 
 def summary(watched, early, heard):

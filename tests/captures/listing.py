@@ -2,6 +2,7 @@
 import typing
 from fractions import Fraction
 
+import streaming
 import texts
 from texts import counted, escaped, seconds
 
@@ -12,9 +13,9 @@ NAMES = {0: 'Sync', 1: 'Delay_Req', 2: 'Pdelay_Req', 3: 'Pdelay_Resp', 8: 'Follo
          12: 'Signaling', 13: 'Management'}
 WITH_STEPS, WITH_REQUESTING, DELAY_RESP = {0, 3}, {3, 9, 10}, 9
 
-HEAD = ['interface', 'domain', 'source', 'requesting', 'message', 'count', 'lost', 'interval',
+HEAD = ['interface', 'stream', 'domain', 'source', 'requesting', 'message', 'count', 'lost', 'interval',
         'one-step', 'two-step', 'version', 'first', 'last', 'correction ns', 'up to ns']
-AT_RIGHT = [HEAD.index(head) for head in HEAD if head not in ('interface', 'source', 'requesting', 'message', 'version')]
+AT_RIGHT = [HEAD.index(head) for head in HEAD if head not in ('interface', 'stream', 'source', 'requesting', 'message', 'version')]
 
 NONE = 'there is no message of PTP version 2\n'
 
@@ -22,6 +23,7 @@ NONE = 'there is no message of PTP version 2\n'
 class Key(typing.NamedTuple):
     """What the messages of a row have in common."""
     interface: tuple
+    stream: streaming.Stream
     domain: int
     source: bytes
     kind: int
@@ -29,7 +31,7 @@ class Key(typing.NamedTuple):
 
 
 def order(key, interfaces):
-    return interfaces.index(key.interface), key.domain, key.source, key.kind not in NAMES, key.kind, key.requesting
+    return interfaces.index(key.interface), key.stream.order(), key.domain, key.source, key.kind not in NAMES, key.kind, key.requesting
 
 
 def called(interface):
@@ -82,7 +84,7 @@ def cells(key, messages):
     versions = sorted({octets[1] >> 4 for _, octets in messages})
     has_steps = key.kind in WITH_STEPS
     lost, interval = passed(messages)
-    return [called(key.interface), str(key.domain), port(key.source), port(key.requesting), NAMES.get(key.kind, f'type {key.kind}'), str(len(messages)),
+    return [called(key.interface), key.stream.cell(), str(key.domain), port(key.source), port(key.requesting), NAMES.get(key.kind, f'type {key.kind}'), str(len(messages)),
             str(lost), interval, str(steps.count(0)) if has_steps else '-', str(steps.count(1)) if has_steps else '-', ','.join(f'2.{it}' for it in versions),
             seconds(messages[0][0]), seconds(messages[-1][0]), nanoseconds(min(corrections)), nanoseconds(max(corrections))]
 
@@ -101,9 +103,10 @@ class Listing:
         self.interfaces, self.rows = [], {}
         self.further = self.other_version = self.too_short = 0
         for row in rows:
-            self.take(row.interface.name, row.time, row.datagram)
+            self.take(row)
 
-    def take(self, interface, time, octets):
+    def take(self, row):
+        octets = row.datagram
         kind = octets[0] & 15 if octets else None
         if len(octets) < 34:
             self.too_short += 1
@@ -112,7 +115,8 @@ class Listing:
         elif len(octets) < (54 if kind in WITH_REQUESTING else 34):
             self.too_short += 1
         else:
-            self.count(Key(interface, octets[4], octets[20:30], kind, octets[44:54] if kind in WITH_REQUESTING else b''), time, octets)
+            stream, requesting = streaming.stream(row.route, octets), octets[44:54] if kind in WITH_REQUESTING else b''
+            self.count(Key(row.interface.name, stream, octets[4], octets[20:30], kind, requesting), row.time, octets)
 
     def count(self, key, time, octets):
         if key not in self.rows and len(self.rows) == ROWS_MOST:

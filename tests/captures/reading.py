@@ -63,11 +63,12 @@ class Interface(typing.NamedTuple):
 
 
 class Row(typing.NamedTuple):
-    """A packet that carries a datagram: its number, from 1, and where and when that was captured."""
+    """A packet that carries a datagram: its number, from 1, where and when that was captured, and by which way it came."""
     number: int
     interface: Interface
     time: int
     datagram: bytes
+    route: unwrapping.Route
 
 
 class Answer:
@@ -91,7 +92,7 @@ class Answer:
         datagram, outcome = unwrapping.unwrapped(interface.link, octets)
         if datagram is not None:
             self.datagrams.append((time, datagram))
-            self.rows.append(Row(self.packets + 1, interface, time, datagram))
+            self.rows.append(Row(self.packets + 1, interface, time, datagram, unwrapping.route(interface.link, octets)))
         return outcome
 
     def take(self, interface, time, octets):

@@ -1,5 +1,8 @@
 """Finds the datagram of PTP in a packet, as `ptpx extract` does, written apart from it: each header is a function of the octets from it on."""
 
+import ipaddress
+import typing
+
 # Of a packet so many octets are looked at, and a datagram that is told has so many at the most.
 LOOKED_AT, LONGEST = 65_536, 2_035
 
@@ -125,6 +128,56 @@ def datagram(link, octets):
     if len(found) > LONGEST:
         raise Nothing('long')
     return found
+
+
+# Which of the tags are of VLANs, and how many tags are looked at for them.
+VLAN_TAGS, TAGS_MOST = [0x8100, 0x88a8, 0x9100], 8
+
+
+class Address(typing.NamedTuple):
+    """An address: its kind, in the order in which they stand in a table, and its octets."""
+    kind: int
+    octets: bytes
+
+    def is_unicast(self):
+        return [self.octets[0] % 2 == 0, self.octets[0] < 224, self.octets[0] != 255][self.kind]
+
+    def __str__(self):
+        return ':'.join(f'{it:02x}' for it in self.octets) if self.kind == 0 else str(ipaddress.ip_address(self.octets))
+
+
+class Route(typing.NamedTuple):
+    """By which way a packet came: its VLAN, who sent it, and to whom."""
+    vlan: int | None = None
+    source: Address | None = None
+    destination: Address | None = None
+
+    def over_ip(self, octets):
+        """The addresses of IP, by its version."""
+        kind, first, size = (2, 8, 16) if octets[0] // 16 == 6 else (1, 12, 4)
+        return self._replace(source=Address(kind, octets[first:first + size]), destination=Address(kind, octets[first + size:first + 2 * size]))
+
+    def behind_type(self, kind, octets):
+        for _ in range(TAGS_MOST):
+            if kind not in TAGS:
+                break
+            vlan = number(octets, 0, 2) % 4096
+            if kind in VLAN_TAGS and vlan:
+                self = self._replace(vlan=vlan)
+            between = TAGS[kind]
+            kind, octets = number(octets, between, between + 2), octets[between + 2:]
+        return self.over_ip(octets) if kind in (0x0800, 0x86dd) else self
+
+
+def route(link, octets):
+    """By which way a packet came that has a datagram."""
+    if link == 1:
+        addressed = Route(None, Address(0, octets[6:12]), Address(0, octets[:6]))
+        return addressed.behind_type(number(octets, 12, 14), octets[14:])
+    if link in (113, 276):
+        kind, size = ((14, 16), 16) if link == 113 else ((0, 2), 20)
+        return Route().behind_type(number(octets, *kind), octets[size:])
+    return Route().over_ip(octets[4:] if link in (0, 108) else octets)
 
 
 def unwrapped(link, octets):
