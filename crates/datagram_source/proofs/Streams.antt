@@ -1,5 +1,5 @@
 -- Two streams are one exactly where their sdoIds, VLANs and slaves are.
-use Rattle.std.proofs.Common.{◌≡◌, ◌==◌, Bool, true, Option, Some, None, refl, ap}
+use Rattle.std.proofs.Common.{◌≡◌, ◌==◌, Bool, Option, Some, None, refl, ap}
 use Rattle.std.specs.Prelude.{Decides}
 use Rattle.std.specs.Option.{option_eq}
 use Rattle.std.proofs.lemmas.Bool.Decides.{Decides-and, Decides-eqb}

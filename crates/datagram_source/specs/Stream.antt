@@ -13,12 +13,16 @@ abbrev pub sdo_in : List ℕ → ℕ
 sdo_in octets =
     if slice_index octets 1 % 16 == 2 then 256 * (slice_index octets 0 / 16) + slice_index octets 5 else 0
 
--- messageType (13.3.2.3, table 36): Sync, Follow_Up, Delay_Resp and Announce go from a master to a slave, Delay_Req from a slave
+-- messageType (13.3.2.3, table 36): Sync, Follow_Up and Delay_Resp go from a master to a slave, Delay_Req from a slave
 abbrev pub type_in : List ℕ → ℕ
 type_in octets = slice_index octets 0 % 16
 
 abbrev pub is_to_slave : (type : ℕ) → Bool
-is_to_slave type = type == 0 || (type == 8 || (type == 9 || type == 11))
+is_to_slave type = type == 0 || (type == 8 || type == 9)
+
+-- a Delay_Req, or the answer to one, also where it is cut short
+abbrev pub is_exchange : List ℕ → Bool
+is_exchange octets = type_in octets == 1 || type_in octets == 9
 
 -- an address, where one interface alone has it
 abbrev pub unicast : Option Address → Option Address
@@ -39,6 +43,10 @@ stream_of route octets = record { sdo = sdo_in octets; vlan = route.vlan; slave 
 -- that of messages to all slaves in its place
 abbrev pub to_all : Stream → Stream
 to_all stream = record stream { slave = None }
+
+-- the one of sdoId 0 in no VLAN by multicast
+abbrev pub plain : Stream
+plain = record { sdo = 0; vlan = None; slave = None }
 
 -- ---- two streams are one
 abbrev pub is_same_address : (one other : Address) → Bool

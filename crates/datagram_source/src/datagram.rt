@@ -2,10 +2,11 @@
 ghost use Rattle.event_codec.specs.Reading.{IsReading};
 ghost use Rattle.std.specs.Prelude.{◌≡◌};
 ghost use Rattle.datagram_source.specs.Said.{reading_of};
-ghost use Rattle.datagram_source.specs.Datagram.{place_of, place_to_all};
+ghost use Rattle.datagram_source.specs.Datagram.{place_of, place_to_all, datagram_of};
+ghost use Rattle.datagram_source.specs.Stream.{is_exchange};
 
 use crate::stamp::Stamp;
-use crate::stream::Stream;
+use crate::stream::{Stream, is_exchange};
 use capture_file::Interface;
 use event_codec::{DecodeRefusal, Message, decode};
 use ptp_units::ScaledTime;
@@ -50,6 +51,15 @@ pub struct Datagram<'a> {
     pub octets: &'a [u8],
     /// The message that these begin with, or why they begin with none.
     pub said: Result<Message<'a>, DecodeRefusal>,
+}
+
+impl Datagram<'_> {
+    /// Whether it is a Delay_Req or a Delay_Resp, by its messageType.
+    pub fn is_exchange(&self) -> bool
+        ensures { result ≡ is_exchange (datagram_of self.now).octets }
+    {
+        is_exchange(self.octets)
+    }
 }
 
 /// The message that octets begin with, or why they begin with none.

@@ -1,6 +1,6 @@
 //! Which of the streams of an interface a datagram is of.
-ghost use Rattle.std.specs.Prelude.{◌≡◌, slice_index};
-ghost use Rattle.datagram_source.specs.Stream.{sdo_in, unicast, slave_in, stream_of, to_all, is_same_stream};
+ghost use Rattle.std.specs.Prelude.{◌≡◌, not, slice_index};
+ghost use Rattle.datagram_source.specs.Stream.{sdo_in, unicast, is_exchange, slave_in, stream_of, to_all, plain, is_same_stream};
 
 use capture_frame::{Address, Route};
 use std::fmt;
@@ -15,8 +15,6 @@ const FOLLOW_UP: u8 = 8;
 
 const DELAY_RESP: u8 = 9;
 
-const ANNOUNCE: u8 = 11;
-
 /// Which of the streams of an interface a datagram is of: messages of one sdoId and VLAN, and of one slave where its master sends to it
 /// alone.
 #[derive(Clone, Copy, Debug, PartialEq, Eq, PartialOrd, Ord)]
@@ -25,7 +23,7 @@ pub struct Stream {
     pub sdo: u16,
     /// The VLAN, from 1 on.
     pub vlan: Option<u16>,
-    /// The address of the slave: to which a Sync, Follow_Up, Delay_Resp or Announce was sent by unicast, or from which a Delay_Req was.
+    /// The address of the slave: to which a Sync, Follow_Up or Delay_Resp was sent by unicast, or from which a Delay_Req was.
     pub slave: Option<Address>,
 }
 
@@ -59,13 +57,20 @@ fn slave_in(route: Route, octets: &[u8]) -> Option<Address>
     ensures { result ≡ slave_in route octets.now }
 {
     match octet_at(octets, 0) % 16 {
-        SYNC | FOLLOW_UP | DELAY_RESP | ANNOUNCE => unicast(route.destination),
+        SYNC | FOLLOW_UP | DELAY_RESP => unicast(route.destination),
         DELAY_REQ => match unicast(route.destination) {
             Some(_) => unicast(route.source),
             None => None,
         },
         _ => None,
     }
+}
+
+/// Whether octets are those of a Delay_Req, or of the answer to one, also where they are cut short.
+pub(crate) fn is_exchange(octets: &[u8]) -> bool
+    ensures { result ≡ is_exchange octets.now }
+{
+    matches!(octet_at(octets, 0) % 16, DELAY_REQ | DELAY_RESP)
 }
 
 impl Stream {
@@ -88,6 +93,13 @@ impl Stream {
             slave: None,
             ..self
         }
+    }
+
+    /// Whether anything tells it from that of sdoId 0 in no VLAN by multicast.
+    pub fn is_named(&self) -> bool
+        ensures { result ≡ not (is_same_stream self.now plain) }
+    {
+        self.sdo != 0 || self.vlan.is_some() || self.slave.is_some()
     }
 
     /// Whether it is the same.
