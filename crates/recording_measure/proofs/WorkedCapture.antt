@@ -8,8 +8,9 @@ use Rattle.std.specs.Fmt.{digits}
 use Rattle.recording_measure.specs.declared.form.Form.TheVariants.{Table}
 use Rattle.capture_file.specs.Name.{called}
 use Rattle.recording_measure.specs.declared.watch.WantedPorts.{WantedPorts}
+use Rattle.datagram_source.specs.Stream.{plain}
 use Rattle.recording_measure.specs.Row.{Row}
-use Rattle.recording_measure.specs.Places.{Named, PlacedRow, plain, places_in}
+use Rattle.recording_measure.specs.Places.{Named, PlacedRow, places_in}
 use Rattle.recording_measure.specs.Chosen.{chosen, heard_at, input_written}
 use Rattle.recording_measure.specs.Counts.{input_fates}
 use Rattle.recording_summary.specs.declared.no_report.NoReport.TheVariants.{OfSlave, Alone}

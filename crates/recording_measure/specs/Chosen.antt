@@ -1,6 +1,5 @@
 -- Whom an input is of, lines or a capture, and at which of the places at which its datagrams were met: the first at which that is known.
-use Rattle.std.specs.Prelude.{ℕ, nat_le, Bool, true, false, not, ◌==◌, ◌&&◌, ◌||◌, List, [], ◌∷◌, length, if◌then◌else◌, is_some}
-use Rattle.std.specs.Prelude.{Ok, Err}
+use Rattle.std.specs.Prelude.{ℕ, nat_le, Bool, true, false, not, ◌==◌, ◌&&◌, List, [], ◌∷◌, length, if◌then◌else◌, is_some}
 use Rattle.std.specs.Prelude.{Option, Some, None, option_and_then}
 use Rattle.std.specs.List.{list_any}
 use Rattle.std.specs.Option.{option_or, option_map_or}
@@ -8,14 +7,14 @@ use Rattle.std.specs.Result.{result_ok}
 use Rattle.event_codec.specs.declared.message.Header.{Header}
 use Rattle.event_codec.specs.declared.port.PortIdentity.{PortIdentity}
 use Rattle.event_codec.specs.Port.{is_same_port}
-use Rattle.event_codec.specs.Reading.{Reading}
 use Rattle.datagram_source.specs.Datagram.{DatagramOf, PlaceOf, place_to_all}
+use Rattle.datagram_source.specs.Stream.{is_exchange}
 use Rattle.recording_model.specs.declared.watched.Watched.{Watched}
 use Rattle.recording_model.specs.Recorded.{Recorded}
 use Rattle.recording_measure.specs.Made.{Measured}
 use Rattle.recording_measure.specs.declared.form.Form.{Form}
 use Rattle.recording_measure.specs.declared.watch.WantedPorts.{WantedPorts}
-use Rattle.recording_measure.specs.Watch.{watched_in, is_request, is_response}
+use Rattle.recording_measure.specs.Watch.{watched_in}
 use Rattle.recording_measure.specs.Row.{Row, datagrams, kept_most}
 use Rattle.recording_measure.specs.Measured.{texts_as, measurements}
 use Rattle.recording_measure.specs.Places.{PlaceName, PlacedRow, name_in, is_same_place, rows_at, is_among, places_in}
@@ -61,21 +60,17 @@ chosen w [] = None
 chosen w (r ∷ earlier) = option_or (chosen w earlier) (chosen_by w r earlier)
 
 -- ---- where a datagram belongs
--- a Delay_Req, or the answer to one
-abbrev pub is_exchange : Reading → Bool
-is_exchange (Ok m) = is_request m.body || is_response m.body
-is_exchange (Err refusal) = false
-
--- Its own place is looked at; once one is measured, this isn't that of what goes to all.
+-- While no place is measured its own one is looked at, as it is where Syncs go to this slave alone. Once one is measured, that isn't what
+-- goes to all.
 abbrev pub stays_at : WantedPorts → List PlacedRow → PlaceOf → Bool
 stays_at w rows place =
     option_map_or (λ measured. not (is_same_place measured (name_in (place_to_all place)))) (chosen w rows)
     (is_among (name_in place) (places_in rows))
 
--- Where a datagram belongs: a Delay_Req or Delay_Resp by unicast to the Syncs that go to this slave alone where these are there, and
--- else to those that go to all, as where Delay_Reqs alone are sent by unicast.
+-- Where a datagram belongs. A Delay_Req or Delay_Resp by unicast does to the Syncs that go to its slave alone where these came, and else
+-- to those that go to all, as where Delay_Reqs alone are sent by unicast. Once what goes to all is measured, it does to that.
 abbrev pub settled : WantedPorts → List PlacedRow → DatagramOf → PlaceOf
-settled w rows d = if is_exchange d.said && not (stays_at w rows d.place) then place_to_all d.place else d.place
+settled w rows d = if is_exchange d.octets && not (stays_at w rows d.place) then place_to_all d.place else d.place
 
 -- ---- what is heard
 -- The rows that are heard with one more: those at the place that is measured. Once that is known, and not too many

@@ -4,7 +4,7 @@ use Rattle.std.specs.List.{list_any}
 use Rattle.std.specs.Str.{bytes_eq}
 use Rattle.capture_file.specs.Name.{name_of}
 use Rattle.datagram_source.specs.Datagram.{PlaceOf, Line, Tap, Interface, DatagramOf}
-use Rattle.datagram_source.specs.Stream.{is_same_stream}
+use Rattle.datagram_source.specs.Stream.{plain, is_same_stream}
 use Rattle.datagram_source.specs.declared.stream.Stream.{Stream}
 use Rattle.recording_measure.specs.Row.{Row, row_of}
 
@@ -16,10 +16,6 @@ pub record Named : Type 0 where
 -- what a place is called; lines that tell none are all met at one without a name
 abbrev pub PlaceName : Type 0
 PlaceName = Option Named
-
--- the stream of sdoId 0 in no VLAN, to all slaves
-abbrev pub plain : Stream
-plain = record { sdo = 0; vlan = None; slave = None }
 
 abbrev pub name_in : PlaceOf → PlaceName
 name_in Line = None
@@ -50,7 +46,7 @@ rows_at place (r ∷ earlier) =
 
 -- the most places that are looked at
 abbrev pub places_most : ℕ
-places_most = 16
+places_most = 64
 
 -- one of these places is this one
 abbrev pub is_among : PlaceName → List PlaceName → Bool

@@ -6,7 +6,7 @@ use Rattle.std.specs.Option.{option_or, option_map_or}
 use Rattle.std.specs.Result.{result_ok}
 use Rattle.event_codec.specs.declared.message.Header.{Header}
 use Rattle.event_codec.specs.declared.message.Body.{Body}
-use Rattle.event_codec.specs.declared.message.Body.TheVariants.{DelayReq, DelayResp}
+use Rattle.event_codec.specs.declared.message.Body.TheVariants.{DelayReq}
 use Rattle.event_codec.specs.declared.port.PortIdentity.{PortIdentity}
 use Rattle.event_codec.specs.Port.{is_same_port}
 use Rattle.recording_model.specs.declared.watched.Watched.{Watched}
@@ -18,11 +18,6 @@ use Rattle.recording_measure.specs.declared.watch.WantedPorts.{WantedPorts}
 abbrev pub is_request : Body → Bool
 is_request (DelayReq origin) = true
 is_request _ = false
-
--- a Delay_Resp
-abbrev pub is_response : Body → Bool
-is_response (DelayResp receive requesting) = true
-is_response _ = false
 
 -- the header of the message that a datagram is, where it is of this kind
 abbrev pub header_in : (Body → Bool) → Recorded → Option Header

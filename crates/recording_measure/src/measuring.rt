@@ -8,7 +8,7 @@ ghost use Rattle.datagram_source.specs.Said.{reading_of};
 ghost use Rattle.datagram_source.specs.Datagram.{datagram_of, place_of, place_to_all};
 ghost use Rattle.recording_measure.specs.Row.{Row, row_of};
 ghost use Rattle.recording_measure.specs.Places.{name_in};
-ghost use Rattle.recording_measure.specs.Chosen.{is_exchange, stays_at, settled};
+ghost use Rattle.recording_measure.specs.Chosen.{stays_at, settled};
 ghost use Rattle.recording_measure.specs.Measured.{measurements};
 ghost use Rattle.recording_measure.specs.Measure.{Recording as Read, begun, measure_rules};
 ghost use Rattle.recording_measure.specs.Summary.{told_whom};
@@ -27,7 +27,6 @@ use crate::tally::Tally;
 use crate::watch::{WantedPorts, Watch};
 use capture_file::InterfaceName;
 use datagram_source::{Datagram, DatagramTask, LineForm, Place as MetAt};
-use event_codec::{Body, DecodeRefusal, Message};
 use recording_model::Watched;
 use recording_summary::{Counts, Whom};
 use std::alloc::Global;
@@ -38,16 +37,6 @@ use text_lines::{Counted, LineFault};
 
 /// How many datagrams are kept until it is known whom to watch.
 const KEPT_MOST: u64 = 1024;
-
-/// Whether it is a Delay_Req, or the answer to one.
-fn is_exchange(said: &Result<Message<'_>, DecodeRefusal>) -> bool
-    ensures { result ≡ is_exchange (reading_of said.now) }
-{
-    match said {
-        Ok(message) => matches!(message.body, Body::DelayReq { .. } | Body::DelayResp { .. }),
-        Err(_) => false,
-    }
-}
 
 /// What is done with a datagram.
 #[derive(Drop)]
@@ -132,8 +121,8 @@ impl Measuring {
         }
     }
 
-    /// Whether a datagram that was met here stays here, and isn't one of those to all slaves: while no place is measured because this one
-    /// is looked at.
+    /// Whether a Delay_Req that was met here stays here, and isn't one of those to all: while no place is measured, where this one is
+    /// looked at; then, where what goes to all isn't measured.
     fn stays_at(&self, met: &MetAt<'_>, to_all: &MetAt<'_>) -> bool
         requires measuring { (r : Read) × IsMeasuring self.now r }
         requires place { place_of to_all.now ≡ place_to_all (place_of met.now) }
@@ -145,7 +134,7 @@ impl Measuring {
         }
     }
 
-    /// Whether a datagram belongs to those that go to all: a Delay_Req or Delay_Resp where no Syncs go to its slave alone.
+    /// Whether a datagram belongs to those that go to all: a Delay_Req or Delay_Resp, unless Syncs go to its slave alone.
     fn is_to_all(&self, datagram: &Datagram<'_>, to_all: &MetAt<'_>) -> bool
         requires measuring { (r : Read) × IsMeasuring self.now r }
         requires place { place_of to_all.now ≡ place_to_all (place_of datagram.now.place) }
@@ -153,7 +142,7 @@ impl Measuring {
             → (if result then place_to_all (place_of datagram.now.place) else place_of datagram.now.place)
             ≡ settled r.wanted r.rows (datagram_of datagram.now) }
     {
-        is_exchange(&datagram.said) && !self.stays_at(&datagram.place, to_all)
+        datagram.is_exchange() && !self.stays_at(&datagram.place, to_all)
     }
 
     /// Takes a datagram that belongs here, and what it adds to all that is written goes out.
@@ -357,6 +346,12 @@ impl Measuring {
             recording.early.counts.tell(unit, errors);
             recording.tell_callers(errors);
         }
+        if self.recordings.all().iter().any(|it| it.place.has_vlan()) {
+            let _ = writeln!(
+                errors,
+                "ptpx: if the Syncs of a pair are at one of these places and its Delay_Reqs at another, tcprewrite --enet-vlan=del takes tags of VLANs away"
+            );
+        }
         self.tell_others(errors);
     }
 
@@ -371,7 +366,7 @@ impl Measuring {
         if count > 0 {
             let _ = writeln!(
                 errors,
-                "ptpx: {} at other places, which weren't looked at",
+                "ptpx: {} at other places, which weren't looked at: cut the capture by an address or a VLAN (tshark -Y)",
                 Datagrams(count)
             );
         }

@@ -71,6 +71,11 @@ impl Place {
         }
     }
 
+    /// Whether it is of a VLAN.
+    pub(crate) fn has_vlan(&self) -> bool {
+        self.stream.vlan.is_some()
+    }
+
     /// What a datagram that was met here is one of, in words.
     pub(crate) fn unit(&self) -> &'static str {
         if self.is_nameless() { "line" } else { "packet" }

@@ -29,7 +29,7 @@ use std::alloc::{AllocError, Global};
 use std::io::Write;
 
 /// How many places are looked at.
-pub(crate) const PLACES_MOST: usize = 16;
+pub(crate) const PLACES_MOST: usize = 64;
 
 /// A datagram that is kept, but for its place.
 #[derive(Drop)]
