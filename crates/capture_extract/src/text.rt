@@ -29,7 +29,7 @@ impl<T: Display> Display for OrDash<T> {
     }
 }
 
-/// What tells a stream from others of its interface, without blanks; a dash for sdoId 0 in no VLAN and to all slaves.
+/// What tells a stream from others of its interface, without blanks; a dash for sdoId 0 in no VLAN by multicast.
 #[derive(Clone, Copy)]
 struct OfStream(Stream);
 
@@ -79,6 +79,8 @@ struct Call<'a> {
     domain: u8,
     master: PortIdentity,
     slave: PortIdentity,
+    /// The stream, where it isn't that of sdoId 0 in no VLAN by multicast.
+    stream: Option<Stream>,
 }
 
 impl Display for Call<'_> {
@@ -93,7 +95,11 @@ impl Display for Call<'_> {
             self.domain,
             Identity(&self.master),
             Identity(&self.slave)
-        )
+        )?;
+        match self.stream {
+            Some(stream) => write!(f, " # stream {}", OfStream(stream)),
+            None => Ok(()),
+        }
     }
 }
 
@@ -154,6 +160,7 @@ impl Table {
             domain: key.domain,
             master: key.source,
             slave,
+            stream: key.stream.filter(Stream::is_named),
         })
     }
 
