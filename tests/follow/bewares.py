@@ -130,8 +130,8 @@ class Ways:
                 if not other.most_below('rest'):
                     yield text + 'the clock of a tap is off, or corrections are too big: set both taps by one clock'
                 elif way is self.syncs:
-                    yield text + ("as those of Delay_Reqs are, so it isn't the taps' clocks: corrections are too big, or a tap stamps what leaves earlier, or what "
-                                  'arrives later, than the clock between does, as software may; have hardware stamp')
+                    yield text + ("as those of Delay_Reqs are, so it isn't that one tap is ahead of the other: corrections are too big, a clock that both taps share is "
+                                  'slow, or a tap stamps what leaves earlier, or what arrives later, than the clock between does, as software may')
                 else:
                     yield text + 'as those of Syncs are'
 
@@ -139,8 +139,8 @@ class Ways:
         if self.asymmetry is not None and not self.moves and not self.are_exchanged() and self.is_too_great():
             size = Fraction(abs(self.asymmetry), UNITS)
             above, ahead = ('below', 'behind') if self.asymmetry < 0 else ('above', 'ahead')
-            yield (f'rests of Syncs are {thousandths(size)} ns {above} those of Delay_Reqs, in the mean, too much for an asymmetry: the taps\' clocks differ, and that '
-                   f'of {self.end} is {thousandths(size / 2)} ns {ahead}, unless one way is so much longer: set both by one clock')
+            yield (f'rests of Syncs are {thousandths(size)} ns {above} those of Delay_Reqs, in the mean, more than an asymmetry is as a rule: the clock '
+                   f'of {self.end} is {thousandths(size / 2)} ns {ahead}, or one way is so much longer: taps of one clock show which')
 
     def bewares(self):
         """What is told to beware of, in its order."""
@@ -150,5 +150,5 @@ class Ways:
         for way in (self.syncs, self.requests):
             yield from way.uncorrected(self.unit)
         if self.is_steep() and not self.moves:
-            yield (f'the rest of Syncs grows by {thousandths(self.rate[0])} ppm of corrected, by least squares (rounded), and no clock is off by more than 100: stamps '
-                   'are, or corrections, and --csv shows which')
+            yield (f'the rest of Syncs grows by {thousandths(self.rate[0])} ppm of corrected, by least squares (rounded), and no clock is off by more than 100 ppm: '
+                   'stamps or corrections are wrong; compare taken and corrected by --csv')

@@ -347,9 +347,9 @@ def figure(name, *values):
     return f'  {name}: ' + ', '.join(f'{which} {value}' for which, value in zip(('least', 'median', 'mean', 'greatest'), values, strict=True))
 
 
-def asymmetric(asymmetry, half, end):
-    """What is said of an asymmetry, in rounded texts, where Syncs end at this tap."""
-    which = 'low' if asymmetry.startswith('-') else 'high'
+def asymmetric(asymmetry, half, end, is_below):
+    """What is said of an asymmetry, in rounded texts, where Syncs end at this tap, and whether it is below 0."""
+    which = 'low' if is_below else 'high'
     return f'asymmetry {asymmetry} ns. If both taps share a clock, a slave behind {end} reads offsets {half.removeprefix("-")} ns too {which}'
 
 
@@ -374,7 +374,7 @@ def figures(crossings, ways, start, end):
     asymmetry = ways.told_asymmetry()
     if asymmetry is not None:
         asymmetry = fractions.Fraction(asymmetry, UNITS)
-        lines.append(asymmetric(thousandths(asymmetry), thousandths(asymmetry / 2), end))
+        lines.append(asymmetric(thousandths(asymmetry), thousandths(asymmetry / 2), end, asymmetry < 0))
     mean = ways.told_mean_rest()
     if mean is not None:
         lines.append(both_ways(thousandths(fractions.Fraction(mean, UNITS))))

@@ -78,8 +78,8 @@ impl Told<'_> {
                 "the clock of a tap is off, or corrections are too big: set both taps by one clock"
             }
             (Kind::Sync, true) => {
-                "as those of Delay_Reqs are, so it isn't the taps' clocks: corrections are too big, or a tap stamps what leaves earlier, \
-                 or what arrives later, than the clock between does, as software may; have hardware stamp"
+                "as those of Delay_Reqs are, so it isn't that one tap is ahead of the other: corrections are too big, a clock that both taps \
+                 share is slow, or a tap stamps what leaves earlier, or what arrives later, than the clock between does, as software may"
             }
             (Kind::DelayReq, true) => "as those of Syncs are",
         })
@@ -95,8 +95,8 @@ impl Told<'_> {
         };
         write!(
             f,
-            "rests of Syncs are {} ns {above} those of Delay_Reqs, in the mean, too much for an asymmetry: the taps' clocks differ, and that \
-             of {} is {} ns {ahead}, unless one way is so much longer: set both by one clock",
+            "rests of Syncs are {} ns {above} those of Delay_Reqs, in the mean, more than an asymmetry is as a rule: the clock of {} is {} ns \
+             {ahead}, or one way is so much longer: taps of one clock show which",
             of_units(size),
             self.to,
             Rounded(size)
@@ -134,8 +134,8 @@ impl Display for Told<'_> {
             ),
             Beware::SteepRate(rate) => write!(
                 f,
-                "the rest of Syncs grows by {} ppm of corrected, by least squares (rounded), and no clock is off by more than 100: \
-                 stamps are, or corrections, and --csv shows which",
+                "the rest of Syncs grows by {} ppm of corrected, by least squares (rounded), and no clock is off by more than 100 ppm: \
+                 stamps or corrections are wrong; compare taken and corrected by --csv",
                 Thousandths(rate)
             ),
             Beware::ClocksDiffer(asymmetry) => self.tell_clocks(asymmetry, f),
