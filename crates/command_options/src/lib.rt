@@ -26,7 +26,7 @@ pub struct MeasureOptions {
     pub master: Option<PortIdentity>,
     /// domainNumber; without it, that of the first Sync, of the master where that is given.
     pub domain: Option<u8>,
-    /// The interface of a capture; without it, the first at which slave, master and domain are known.
+    /// The interface of a capture; without it, that of the first stream in which slave, master and domain are known.
     pub interface: Option<InterfaceName>,
     /// The greatest offset, either way, that isn't told by the exit status: so many seconds as it is nanoseconds.
     pub limit: Option<ScaledTime>,

@@ -65,7 +65,8 @@ alone are taken. An interface is called as the capture names it, or, where it ha
 digits alone, or one that an earlier interface of its section has, as in a pcap, if0, if1, .. by its place.
 
 With --list standard output has a table in place of lines, once all packets were read, or those before a
-fault: at which interface who sent how many messages of each type, and below it how to call 'ptpx measure'.
+fault: at which interface and in which stream who sent how many messages of each type, and below it how to
+call 'ptpx measure'. A stream is of one sdoId, of one VLAN, and of one slave by unicast, or of multicast (-).
 
 PTP is what UDP carries to port 319 or 320, over IPv4 or IPv6, and what Ethernet carries in packets of
 type 0x88f7, behind any VLAN tags. Link types are Ethernet (1), Linux cooked captures (113, 276), raw IP

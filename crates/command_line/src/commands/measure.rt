@@ -33,7 +33,7 @@ const OPTIONS: [OptionRow; 8] = [
     OptionRow {
         name: "interface",
         value: Some("NAME"),
-        about: "The interface of a capture; else the first at which all three are known",
+        about: "The interface of a capture; else that of the first stream in which all three are known",
     },
     OptionRow {
         name: "limit",
@@ -116,11 +116,12 @@ Unless they are asked for, the domain is that of the first Sync, of the master t
 is; the master sent the first Sync of the domain, and the slave its first Delay_Req. Up to 1024 lines or
 datagrams are kept until all three are known.
 
-Each interface of a capture is a recording of its own, and one alone is measured: the first at which all
-three are known. What is asked for is known at an interface once a message of that domain, or from that port,
-was met there. Interfaces that are called alike, as 'ptpx extract' calls them, are one, also in several
-sections. Of more than 16 the first 16 at which PTP was met are looked at. With --interface the packets of
-one interface alone are looked at; lines have none.
+Each stream at an interface of a capture is a recording of its own, and one alone is measured: the first in
+which all three are known. A stream is of one sdoId, of one VLAN, and of one slave by unicast, or of multicast.
+What is asked for is known in a stream once a message of that domain, or from that port, was met in it.
+Interfaces that are called alike, as 'ptpx extract' calls them, are one, also in several sections. Of more
+than 64 streams the first 64 are looked at. With --interface the packets of one interface alone are looked at;
+lines have none.
 
 The results are exact for the times in the input, and the offset is that of the clock that stamped it: of the
 slave's where its own port did, at a tap or a mirror port of the box that captured. A capture on the slave's
