@@ -8,7 +8,7 @@ import streaming
 from texts import counted, escaped, port, seconds
 
 # How many datagrams are kept until it is known whom to watch, and how many places are looked at.
-KEPT, LOOKED_AT = 1_024, 16
+KEPT, LOOKED_AT = 1_024, 64
 
 
 class Wanted(typing.NamedTuple):
@@ -69,12 +69,12 @@ class Choice:
         self.count = 0
         for row in rows:
             datagram = Datagram(row.number, row.time, shown.message(row.datagram))
-            self.take((row.interface.name, self.settled(row, datagram)), datagram)
+            self.take((row.interface.name, self.settled(row)), datagram)
 
-    def settled(self, row, datagram):
+    def settled(self, row):
         """The stream to which a datagram belongs: a Delay_Req or its answer by unicast is of what goes to all where no Sync goes to its slave alone."""
         stream = streaming.stream(row.route, row.datagram)
-        if not datagram.is_message() or datagram.said.kind not in ('Delay_Req', 'Delay_Resp'):
+        if not streaming.is_exchange(row.datagram):
             return stream
         own, to_all = (row.interface.name, stream), (row.interface.name, stream.to_all())
         stays = own in self.looked if self.measured is None else self.measured != to_all
@@ -125,8 +125,11 @@ class Choice:
                 yield from measured.whom(watch_of(self.wanted, datagrams), 'packet')
                 yield from summary(None, datagrams, [])
                 yield from measured.callers(self.wanted, [it.said for it in datagrams if it.is_message()])
+            if any(stream.vlan for _, stream in self.looked):
+                yield ('if the Syncs of a pair are at one of these places and its Delay_Reqs at another, tcprewrite --enet-vlan=del takes tags of VLANs '
+                       'away')
         if self.others:
-            yield f'{counted(self.others, "datagram")} at other places, which weren\'t looked at'
+            yield f'{counted(self.others, "datagram")} at other places, which weren\'t looked at: cut the capture by an address or a VLAN (tshark -Y)'
 
 
 def summary(watched, early, heard):

@@ -133,8 +133,9 @@ class Listing:
         """The calls that measure those who are answered."""
         for key in self.keys():
             if key.kind == DELAY_RESP:
+                stream = '' if key.stream == streaming.Stream() else f' # stream {key.stream.cell()}'
                 interface = f'--interface {argument(key.interface)} ' if len(self.interfaces) > 1 else ''
-                yield f'ptpx measure {interface}--domain {key.domain} --master {port(key.source)} --slave {port(key.requesting)}\n'
+                yield f'ptpx measure {interface}--domain {key.domain} --master {port(key.source)} --slave {port(key.requesting)}{stream}\n'
 
     def others(self):
         """What is told of what isn't in a row."""

@@ -3,7 +3,7 @@ import typing
 
 from unwrapping import Address
 
-DELAY_REQ, TO_SLAVE = 1, {0, 8, 9, 11}
+DELAY_REQ, DELAY_RESP, TO_SLAVE = 1, 9, {0, 8, 9}
 
 
 class Stream(typing.NamedTuple):
@@ -26,6 +26,11 @@ class Stream(typing.NamedTuple):
     def cell(self):
         """The same in a table."""
         return ','.join(it for it in [self.sdo and f'sdo={self.sdo:#05x}', self.vlan and f'vlan={self.vlan}', self.slave and f'unicast={self.slave}'] if it) or '-'
+
+
+def is_exchange(octets):
+    """Whether octets are those of a Delay_Req or of its answer, also where they are cut short."""
+    return bool(octets) and octets[0] % 16 in (DELAY_REQ, DELAY_RESP)
 
 
 def unicast(address):

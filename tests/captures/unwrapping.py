@@ -143,7 +143,11 @@ class Address(typing.NamedTuple):
         return [self.octets[0] % 2 == 0, self.octets[0] < 224, self.octets[0] != 255][self.kind]
 
     def __str__(self):
-        return ':'.join(f'{it:02x}' for it in self.octets) if self.kind == 0 else str(ipaddress.ip_address(self.octets))
+        if self.kind == 0:
+            return ':'.join(f'{it:02x}' for it in self.octets)
+        address = ipaddress.ip_address(self.octets)
+        mapped = self.kind == 2 and address.ipv4_mapped
+        return f'::ffff:{mapped}' if mapped else str(address)
 
 
 class Route(typing.NamedTuple):
