@@ -125,20 +125,3 @@ impl Display for Stream {
         Ok(())
     }
 }
-
-#[cfg(test)]
-mod tests {
-    use super::*;
-    use capture_frame::find_route;
-
-    #[test]
-    fn tells_a_stream_by_its_headers(rt: HostRuntime) {
-        let packet = b"\x02\0\0\0\0\x02\x02\0\0\0\0\x01\x81\0\x60\x07\x88\xf7\x10\x02\0\x2c\0\x05";
-        let stream = Stream {
-            sdo: 0x105,
-            vlan: Some(7),
-            slave: Some(Address::Ethernet(0x0200_0000_0002)),
-        };
-        assert_eq!(rt; Stream::new(find_route(1, packet), &packet[18..]), stream);
-    }
-}
