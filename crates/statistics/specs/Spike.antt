@@ -1,9 +1,10 @@
 -- Values that lie above both of their neighbours, or below both. Lists have the newest in front.
-use Rattle.std.specs.Prelude.{◌≡◌, ℕ, ◌+◌, ◌-◌, ◌^◌, min, nat_lt, int_lt, Bool, ◌&&◌, ◌||◌, if◌then◌else◌}
+use Rattle.std.specs.Prelude.{◌≡◌, ℕ, ◌+◌, ◌-◌, ◌^◌, min, nat_lt, int_lt, Bool, false, ◌&&◌, ◌||◌, if◌then◌else◌}
 use Rattle.std.specs.Prelude.{List, [], ◌∷◌, length, Option, Some, None}
 use Rattle.statistics.specs.declared.series.Point.{Point}
 use Rattle.statistics.specs.declared.spike.Spike.{Spike}
 use Rattle.statistics.specs.declared.spike.Spikes.{Spikes}
+use Rattle.statistics.specs.Counting.{with_one_if}
 use Rattle.statistics.specs.Step.{size, newest}
 use Rattle.statistics.specs.Wide.{at_most}
 
@@ -53,10 +54,32 @@ abbrev pub changes : List Point → ℕ
 changes [] = 0
 changes (p ∷ earlier) = up_to (changes earlier + size_between (newest earlier) p)
 
+-- a value is above the one before it, if there is one
+abbrev pub is_rise : Option Point → Point → Bool
+is_rise None p = false
+is_rise (Some q) p = int_lt q.value p.value
+
+-- or below it
+abbrev pub is_fall : Option Point → Point → Bool
+is_fall None p = false
+is_fall (Some q) p = int_lt p.value q.value
+
+-- how many are above the one before, as far as is counted
+abbrev pub rises : List Point → ℕ
+rises [] = 0
+rises (p ∷ earlier) = with_one_if (is_rise (newest earlier) p) (rises earlier)
+
+-- and below it
+abbrev pub falls : List Point → ℕ
+falls [] = 0
+falls (p ∷ earlier) = with_one_if (is_fall (newest earlier) p) (falls earlier)
+
 -- this is held of these values
 pub record AreSpikes (points : List Point) (s : Spikes) : Type 0 where
   pub count : s.count ≡ at_most (length points)
   pub changes : s.changes ≡ changes points
+  pub rises : s.rises ≡ rises points
+  pub falls : s.falls ≡ falls points
   pub newest : s.newest ≡ newest points
   pub before : s.before ≡ second points
   pub greatest : s.greatest ≡ greatest points

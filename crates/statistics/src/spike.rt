@@ -1,6 +1,7 @@
 ghost use Rattle.std.specs.Prelude.{◌≡◌, List, [], ◌∷◌, Option};
-ghost use Rattle.statistics.specs.Spike.{AreSpikes, size_between, lies_apart, spike_of, greater_spike};
+ghost use Rattle.statistics.specs.Spike.{AreSpikes, size_between, is_rise, is_fall, lies_apart, spike_of, greater_spike};
 
+use crate::counting::count_if;
 use crate::series::Point;
 
 /// A value that lies above both of its neighbours, or below both.
@@ -21,6 +22,10 @@ pub struct Spikes {
     pub count: u64,
     /// The sum of the sizes of all changes from one to the next, up to 2^128 - 1.
     pub changes: u128,
+    /// How many values are above the one before, up to 2^64 - 1.
+    pub rises: u64,
+    /// How many are below it, up to 2^64 - 1.
+    pub falls: u64,
     /// The newest value.
     pub newest: Option<Point>,
     /// The one before it.
@@ -36,6 +41,26 @@ fn size_between(one: &Option<Point>, other: Point) -> u128
     match one {
         Some(one) => other.value.abs_diff(one.value),
         None => 0,
+    }
+}
+
+/// Whether a value is above the one before it, if there is one.
+fn is_rise(before: &Option<Point>, at: Point) -> bool
+    ensures { result ≡ is_rise before.now at }
+{
+    match before {
+        Some(before) => before.value < at.value,
+        None => false,
+    }
+}
+
+/// Whether a value is below the one before it, if there is one.
+fn is_fall(before: &Option<Point>, at: Point) -> bool
+    ensures { result ≡ is_fall before.now at }
+{
+    match before {
+        Some(before) => at.value < before.value,
+        None => false,
     }
 }
 
@@ -87,6 +112,8 @@ impl Spikes {
         Spikes {
             count: 0,
             changes: 0,
+            rises: 0,
+            falls: 0,
             newest: None,
             before: None,
             greatest: None,
@@ -102,6 +129,8 @@ impl Spikes {
         self.changes = self
             .changes
             .saturating_add(size_between(&self.newest, point));
+        self.rises = count_if(self.rises, is_rise(&self.newest, point));
+        self.falls = count_if(self.falls, is_fall(&self.newest, point));
         self.count = self.count.saturating_add(1);
         self.before = self.newest;
         self.newest = Some(point);
