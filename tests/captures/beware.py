@@ -84,6 +84,12 @@ def drifting(packets, parts):
     return [it._replace(time=it.time + (it.time - first) * parts // 10**9) for it in packets]
 
 
+def sawtooth(packets, parts, height):
+    """Such a clock is set back each time that it is so many nanoseconds ahead."""
+    first = packets[0].time
+    return [it._replace(time=it.time + (it.time - first) * parts // 10**9 % height) for it in packets]
+
+
 def at_master(packets):
     """At the master's own port, by its own stamps: Syncs leave when their Follow_Ups say, and requests come when their responses say."""
     left = {said_by(it).sequence: said_by(it).stamp // 2**16 for it in packets if kind(it) == FOLLOW_UP}
@@ -216,6 +222,12 @@ BENT = {
     'ahead by 5 s': (lambda it: shifted(it, 5 * 10**9), [r'all offsets are next to 5 s: .*editcap -t -5 ']),
     'of a free clock': (lambda it: drifting(it, 20_000), [r'the offset runs away by (19|20)\.\d{3} ppm']),
     'of a slow clock': (lambda it: drifting(it, -5_000), [r'the offset runs away by -(4|5)\.\d{3} ppm']),
+    'of a clock that is set back each 7 s': (lambda it: sawtooth(it, 20_000, 141_000),
+                                             [r'42 of 55 offsets are above the one before, and others far below it, by 121812 ns at most, at packet 336: the '
+                                              r'clock drifts, and is set again and again instead of steered$']),
+    'of a clock that is set ahead each 7 s': (lambda it: sawtooth(it, -20_000, 141_000),
+                                             [r'42 of 55 offsets are below the one before, and others far above it, by 116230 ns at most, at packet 254: the '
+                                              r'clock drifts, and is set again and again instead of steered$']),
     # each packet is there twice, as a mirror of both directions writes it
     'mirrored': (lambda it: [copy for one in it for copy in (one, *shifted([one], 4500))],
                  [r'messages with a number that came before: 218, from 4500 to 4500 ns after the first;']),

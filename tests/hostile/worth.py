@@ -14,6 +14,9 @@ SECOND2, NANOSECOND2, SECOND, NANOSECOND = 10**9 * 2**17, 2**17, 10**9 * 2**16, 
 # From how many values on a slope or a step is told, from which slope on in thousand-millionths, and from which step on in thousandths of a nanosecond.
 VALUES, SLOPE, STEP = 16, 1000, 10**6
 
+# From how many values on it is told that they are set back, and from how far.
+TEETH, SET_BACK = 32, 1000 * NANOSECOND2
+
 # The names of the four messages.
 SYNC, FOLLOW_UP, REQUEST, RESPONSE = 'Sync', 'Follow_Up', 'Delay_Req', 'Delay_Resp'
 
@@ -146,6 +149,19 @@ def running(values):
         if by_line is not None and 2 * by_line >= 1 and size >= SLOPE:
             yield (f'the offset runs away by {thousandths(by * 10**6)} ppm (rounded): the times are of a clock that '
                    "doesn't follow this master, as that of a tap or of another host, or that was set or was still settling")
+
+
+def set_back(unit, values):
+    """What is told of offsets of which more than three in four changes go one way, and the greatest the other way."""
+    if len(values) < TEETH:
+        return
+    changes = [(here - before, place) for (_, before, _), (_, here, place) in zip(values, values[1:])]
+    greatest, place = max(changes, key=lambda it: abs(it[0]))
+    against = [change for change, _ in changes if change * greatest < 0]
+    if abs(greatest) >= SET_BACK and 4 * len(against) > 3 * len(changes):
+        side, other = ('above', 'below') if greatest < 0 else ('below', 'above')
+        yield (f'{len(against)} of {len(changes)} offsets are {side} the one before, and others far {other} it, by {abs(greatest) // NANOSECOND2} ns at most, '
+               f'at {unit} {place}: the clock drifts, and is set again and again instead of steered')
 
 
 # What became of a message that is of another domain, of another master, of another slave or to it, and of one that came before.
@@ -369,7 +385,7 @@ def beware(unit, counts, reads, reports, became):
                f"where the slave's own clock is right, editcap -t {-second} mends a capture")
     offsets = [(it.units, it.offset2, it.place) for it in syncs]
     stepped = list(stepping('offset', 'a clock was set there, or the way changed', unit, offsets))
-    yield from stepped or running(offsets)
+    yield from stepped or list(running(offsets)) or set_back(unit, offsets)
     yield from stepping('path delay', 'the way changed, or a clock was set there', unit, [(it.units, it.path2, it.place) for it in responses])
     times = [units for units, _ in reads]
     if times:

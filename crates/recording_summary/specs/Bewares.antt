@@ -6,7 +6,7 @@ use Rattle.std.specs.Option.{option_or}
 use Rattle.std.specs.List.{list_any}
 use Rattle.recording_summary.specs.declared.beware.Beware.{Beware}
 use Rattle.recording_summary.specs.declared.beware.Beware.TheVariants.{RequestsAtOnce, SyncsAtOnce, PathsBelow, PathsZero, WholeSeconds}
-use Rattle.recording_summary.specs.declared.beware.Beware.TheVariants.{OffsetSteps, OffsetRunsAway, PathSteps, SyncsEnd, ReportsEnd}
+use Rattle.recording_summary.specs.declared.beware.Beware.TheVariants.{OffsetSteps, OffsetRunsAway, OffsetIsSetBack, PathSteps, SyncsEnd, ReportsEnd}
 use Rattle.recording_summary.specs.declared.beware.Beware.TheVariants.{Repeated, OtherMasters, OtherSlaves, OtherDomains}
 use Rattle.recording_summary.specs.declared.beware.Beware.TheVariants.{OldDelay, MissingSyncs, MissingFollowUps, MissingRequests}
 use Rattle.recording_summary.specs.declared.beware.Beware.TheVariants.{MissingResponses, OutOfOrder, CorrectedRequests, MasterAnew}
@@ -14,6 +14,7 @@ use Rattle.recording_summary.specs.declared.beware.Beware.TheVariants.{SlaveAnew
 use Rattle.recording_summary.specs.declared.beware.Jump.{Jump}
 use Rattle.recording_summary.specs.declared.beware.Lost.{Lost}
 use Rattle.recording_summary.specs.declared.beware.Rounded.{Rounded}
+use Rattle.recording_summary.specs.declared.beware.SetBack.{SetBack}
 use Rattle.recording_summary.specs.declared.counts.Counts.{Counts}
 use Rattle.recording_summary.specs.declared.flows.Flows.{Flows}
 use Rattle.recording_summary.specs.declared.kind.Kind.TheVariants as kinds
@@ -35,6 +36,7 @@ use Rattle.statistics.specs.declared.spike.Spike.{Spike}
 use Rattle.statistics.specs.declared.spike.Spikes.{Spikes}
 use Rattle.statistics.specs.declared.step.Change.{Change}
 use Rattle.statistics.specs.declared.step.Step.{Step}
+use Rattle.statistics.specs.Step.{size}
 use Rattle.statistics.specs.Wide.{at_most}
 
 -- ---- at a master's own port
@@ -109,10 +111,42 @@ abbrev pub runs_away : (count : ℕ) → Option Growth → Option Beware
 runs_away count growth =
     option_and_then (λ g. if is_running count g then Some (OffsetRunsAway g.rate) else None) growth
 
--- a step of the offsets, or else that they run away
+-- more than three quarters of all
+abbrev pub are_most : (count all : ℕ) → Bool
+are_most count all = nat_lt (all * 3) (count * 4)
+
+-- a change is downwards
+abbrev pub is_fall : Change → Bool
+is_fall change = int_lt change.to.value change.from.value
+
+-- how many values change against this change
+abbrev pub alike : Spikes → Change → ℕ
+alike spikes change = if is_fall change then spikes.rises else spikes.falls
+
+-- of 32 values and more, most change one way, and this change, of 1 us and more, is the other way
+abbrev pub is_set_back : Spikes → Change → Bool
+is_set_back spikes change = not (nat_lt spikes.count 32) && not (nat_lt (size change.from change.to) 131072000)
+    && are_most (alike spikes change) (spikes.count - 1)
+
+abbrev pub set_back_by : Spikes → Change → Option Beware
+set_back_by spikes change = if is_set_back spikes change
+    then Some (OffsetIsSetBack (record {
+      is_up = is_fall change;
+      count = alike spikes change;
+      of = spikes.count - 1;
+      size = size change.from change.to;
+      line = change.to.line;
+    }))
+    else None
+
+-- the greatest change of the offsets sets them back
+abbrev pub set_back : Statistics → Option Beware
+set_back s = option_and_then (set_back_by s.spikes) s.offsets.greatest
+
+-- a step of the offsets, or else that they run away, or else that they are set back
 abbrev pub offsets_change : Rounded → Statistics → Option Beware
 offsets_change rounded s = option_or (option_map (λ j. OffsetSteps j) (jump s.offsets rounded.offset_shift))
-    (runs_away s.offsets.all.count rounded.offset_growth)
+    (option_or (runs_away s.offsets.all.count rounded.offset_growth) (set_back s))
 
 abbrev pub paths_change : Rounded → Statistics → Option Beware
 paths_change rounded s = option_map (λ j. PathSteps j) (jump s.paths rounded.path_shift)

@@ -21,6 +21,21 @@ pub struct Jump {
     pub line: u64,
 }
 
+/// Values of which most are to one side of the one before, and the greatest change is to the other side.
+#[derive(Clone, Copy)]
+pub struct SetBack {
+    /// Whether most go up.
+    pub is_up: bool,
+    /// How many of the changes go that way.
+    pub count: u64,
+    /// How many changes there are.
+    pub of: u64,
+    /// How great the greatest one is, in 2^-17 ns.
+    pub size: u128,
+    /// The line of the value behind it.
+    pub line: u64,
+}
+
 /// What is rounded of the reports of a recording. Of these numbers nothing is promised.
 #[derive(Clone, Copy)]
 pub struct Rounded {
@@ -59,6 +74,8 @@ pub enum Beware {
     OffsetSteps(Jump),
     /// The offsets grow by their times: by so many thousand-millionths, rounded.
     OffsetRunsAway(Signed),
+    /// The offsets are set back again and again.
+    OffsetIsSetBack(SetBack),
     /// One step explains most of how the path delays vary.
     PathSteps(Jump),
     /// The Syncs of the master end so many tenths of a second before the recording does, and another master's begin then.

@@ -1,6 +1,6 @@
 //! The words of what speaks against the numbers.
 
-use crate::beware::{Beware, Jump, Lost};
+use crate::beware::{Beware, Jump, Lost, SetBack};
 use crate::others::{Newcomer, Others};
 use crate::others_text::{Domains, Listed};
 use crate::time_text::{At, Seconds, Tenths};
@@ -162,6 +162,27 @@ fn write_running<W: fmt::Write>(f: &mut Formatter<W>, rate: Signed) -> fmt::Resu
         "the offset runs away by {} ppm (rounded): the times are of a clock that doesn't follow this master, as that of a tap or of \
          another host, or that was set or was still settling",
         Thousandths(rate)
+    )
+}
+
+fn write_set_back<W: fmt::Write>(
+    f: &mut Formatter<W>,
+    set_back: &SetBack,
+    unit: &str,
+) -> fmt::Result {
+    let (side, other) = if set_back.is_up {
+        ("above", "below")
+    } else {
+        ("below", "above")
+    };
+    write!(
+        f,
+        "{} of {} offsets are {side} the one before, and others far {other} it, by {} ns at most, at {unit} {}: the clock drifts, and is \
+         set again and again instead of steered",
+        set_back.count,
+        set_back.of,
+        set_back.size / (2 * NANOSECOND),
+        set_back.line
     )
 }
 
@@ -327,6 +348,7 @@ impl Display for Told<'_> {
                 "a clock was set there, or the way changed",
             ),
             Beware::OffsetRunsAway(rate) => write_running(f, *rate),
+            Beware::OffsetIsSetBack(set_back) => write_set_back(f, set_back, unit),
             Beware::PathSteps(jump) => write_jump(
                 f,
                 "path delay",

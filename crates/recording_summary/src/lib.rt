@@ -21,7 +21,7 @@ mod time_text;
 mod whom;
 mod worth;
 
-pub use beware::{Beware, Jump, Lost, Rounded};
+pub use beware::{Beware, Jump, Lost, Rounded, SetBack};
 pub use callers::Callers;
 pub use counts::Counts;
 pub use flows::Flows;

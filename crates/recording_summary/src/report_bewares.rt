@@ -3,12 +3,13 @@
 ghost use Rattle.std.specs.Prelude.{◌≡◌};
 ghost use Rattle.recording_summary.specs.Bewares.{are_requests_at_once, are_syncs_at_once, at_once, paths_below, paths_zero, zeros_by};
 ghost use Rattle.recording_summary.specs.Bewares.{seconds_next, is_sign_alike, are_seconds_alike, whole_seconds};
-ghost use Rattle.recording_summary.specs.Bewares.{is_step, jump, is_running, runs_away, offsets_change, paths_change};
+ghost use Rattle.recording_summary.specs.Bewares.{is_step, jump, is_running, runs_away, are_most, alike, is_set_back, set_back};
+ghost use Rattle.recording_summary.specs.Bewares.{offsets_change, paths_change};
 ghost use Rattle.recording_summary.specs.Bewares.{if_any, old_delay, is_far, offset_apart};
 
-use crate::beware::{Beware, Jump, Rounded};
+use crate::beware::{Beware, Jump, Rounded, SetBack};
 use crate::quality::Statistics;
-use statistics::{Cases, Growth, Series, Shift, Spike, Spikes, Step};
+use statistics::{Cases, Change, Growth, Series, Shift, Spike, Spikes, Step};
 
 /// A second, in units of 2^-17 ns.
 const SECOND: u128 = 131_072_000_000_000;
@@ -16,13 +17,16 @@ const SECOND: u128 = 131_072_000_000_000;
 /// From how many values on it is told that they step, run away or lie apart.
 const VALUES: u64 = 16;
 
+/// From how many values on it is told that they are set back.
+const TEETH_VALUES: u64 = 32;
+
 /// From how many thousandths of a nanosecond on a step is told: a microsecond.
 const STEP: u128 = 1_000_000;
 
 /// From how many thousand-millionths on it is told that offsets run away.
 const SLOPE: u128 = 1000;
 
-/// From how far on a value that lies apart is told, in units of 2^-17 ns: a microsecond.
+/// From how far on a value that lies apart, or is set back, is told, in units of 2^-17 ns: a microsecond.
 const APART: u128 = 131_072_000;
 
 /// Whether all requests arrive at the time at which they leave.
@@ -174,13 +178,61 @@ fn runs_away(count: u64, growth: Option<Growth>) -> Option<Beware>
     }
 }
 
-/// A step of the offsets, or else that they run away.
+/// Whether so many are more than three quarters of all.
+fn are_most(count: u64, all: u64) -> bool
+    ensures { result ≡ are_most count all }
+{
+    u128::from(count) * 4 > u128::from(all) * 3
+}
+
+/// How many values change against this change.
+fn alike(spikes: &Spikes, against: &Change) -> u64
+    ensures { result ≡ alike spikes.now against.now }
+{
+    if against.is_fall() {
+        spikes.rises
+    } else {
+        spikes.falls
+    }
+}
+
+/// Whether this change sets values back of which most change the other way.
+fn is_set_back(spikes: &Spikes, change: &Change) -> bool
+    ensures { result ≡ is_set_back spikes.now change.now }
+{
+    !(spikes.count < TEETH_VALUES)
+        && !(change.size() < APART)
+        && are_most(alike(spikes, change), spikes.count - 1)
+}
+
+/// That offsets are set back again and again.
+fn set_back(statistics: &Statistics) -> Option<Beware>
+    ensures { result ≡ set_back statistics.now }
+{
+    let change = statistics.offsets.greatest?;
+    if is_set_back(&statistics.spikes, &change) {
+        Some(Beware::OffsetIsSetBack(SetBack {
+            is_up: change.is_fall(),
+            count: alike(&statistics.spikes, &change),
+            of: statistics.spikes.count - 1,
+            size: change.size(),
+            line: change.to.line,
+        }))
+    } else {
+        None
+    }
+}
+
+/// A step of the offsets, or else that they run away, or else that they are set back.
 pub(crate) fn offsets_change(rounded: &Rounded, statistics: &Statistics) -> Option<Beware>
     ensures { result ≡ offsets_change rounded.now statistics.now }
 {
     match jump(&statistics.offsets, rounded.offset_shift) {
         Some(jump) => Some(Beware::OffsetSteps(jump)),
-        None => runs_away(statistics.offsets.all.count, rounded.offset_growth),
+        None => match runs_away(statistics.offsets.all.count, rounded.offset_growth) {
+            Some(running) => Some(running),
+            None => set_back(statistics),
+        },
     }
 }
 
