@@ -2,3 +2,4 @@ mod Kept
 mod Worked
 mod InOrder
 pub mod Counts
+mod Rounding

@@ -7,3 +7,4 @@ pub mod Step
 pub mod Median
 pub mod Flow
 pub mod Spike
+pub mod Mean

@@ -1,5 +1,9 @@
 //! Means, deviations, slopes and steps, rounded. Each is None where a sum is too big to divide.
 
+ghost use Rattle.std.specs.Prelude.{◌≡◌, ◌+◌, ◌*◌, ◌/◌, ◌-◌, ◌<◌, ◌≤◌, ◌^◌, ◌⊎◌, nat_lt, MatchOption};
+ghost use Rattle.statistics.specs.Mean.{apart, total, in_nanoseconds, HasNoMean, IsMean, HasNoDeviation, IsDeviation};
+ghost use Rattle.statistics.specs.Wide.{wide};
+
 use crate::series::Series;
 use crate::step::Step;
 use crate::trend::Trend;
@@ -12,6 +16,9 @@ const PARTS: u128 = 1000;
 
 /// Values are in this part of a nanosecond, 2^-17.
 const NANOSECOND: u128 = 131_072;
+
+/// The base of the digits in which numbers are divided.
+const DIGIT: u128 = 1 << 64;
 
 /// The parts in which slopes are told: a thousand million.
 const MILLIONTHS: u128 = 1_000_000_000;
@@ -67,7 +74,10 @@ fn sum(one: Wide, other: Wide) -> Option<Wide> {
 }
 
 /// A difference of two, and whether it is below 0.
-fn difference(one: Wide, other: Wide) -> (bool, Wide) {
+fn difference(one: Wide, other: Wide) -> (bool, Wide)
+    ensures sign { result.0 ≡ nat_lt (wide one) (wide other) }
+    ensures size { wide result.1 ≡ apart (wide one) (wide other) }
+{
     let is_negative = one.high < other.high || (one.high == other.high && one.low < other.low);
     let (more, less) = if is_negative {
         (other, one)
@@ -81,21 +91,31 @@ fn difference(one: Wide, other: Wide) -> (bool, Wide) {
 }
 
 /// A product of two.
-fn product(one: u128, other: u128) -> Wide {
+fn product(one: u128, other: u128) -> Wide
+    ensures { wide result ≡ one * other }
+{
     let (low, high) = one.carrying_mul(other, 0);
     Wide { low, high }
 }
 
 /// A number so many times, where it is below 2^256.
-fn times(one: Wide, count: u64) -> Option<Wide> {
+fn times(one: Wide, count: u64) -> Option<Wide>
+    ensures { MatchOption result (2 ^ 256 ≤ wide one * count) (λ it. wide it ≡ wide one * count) }
+{
     let (low, up) = one.low.carrying_mul(u128::from(count), 0);
     let high = one.high.checked_mul(u128::from(count))?.checked_add(up)?;
     Some(Wide { low, high })
 }
 
 /// A number where it is below 2^128.
-fn narrow(wide: Wide) -> Option<u128> {
-    if wide.high == 0 { Some(wide.low) } else { None }
+fn narrow(number: Wide) -> Option<u128>
+    ensures { MatchOption result (2 ^ 128 ≤ wide number) (λ it. it ≡ wide number) }
+{
+    if number.high == 0 {
+        Some(number.low)
+    } else {
+        None
+    }
 }
 
 /// Half of it.
@@ -108,7 +128,11 @@ fn half(wide: Wide) -> Wide {
 }
 
 /// The sum of all values of a series.
-fn total(series: &Series) -> Option<Signed> {
+fn total(series: &Series) -> Option<Signed>
+    ensures { MatchOption result
+        (2 ^ 128 ≤ total series.now)
+        (λ it. (it.is_negative ≡ nat_lt (wide series.now.above) (wide series.now.below)) × (it.size ≡ total series.now)) }
+{
     let (is_negative, size) = difference(series.above, series.below);
     Some(Signed {
         is_negative,
@@ -116,55 +140,82 @@ fn total(series: &Series) -> Option<Signed> {
     })
 }
 
-/// In thousandths of a nanosecond, of a size in 2^-17 ns.
-fn in_thousandths(size: u128) -> Option<u128> {
-    Some(size.checked_mul(PARTS)?.checked_add(NANOSECOND / 2)? / NANOSECOND)
+/// A size in units of 2^-17 ns to the nearest nanosecond, a half upwards.
+fn in_nanoseconds(size: u128) -> u128
+    ensures { result ≡ in_nanoseconds size }
+{
+    size / NANOSECOND + size % NANOSECOND / (NANOSECOND / 2)
 }
 
 /// The mean of a series, in thousandths of a nanosecond.
-pub fn mean(series: &Series) -> Option<Signed> {
+#[tactic(auto, using(crate::proofs::Rounding::rounded_once))]
+pub fn mean(series: &Series) -> Option<Signed>
+    ensures { MatchOption result (HasNoMean series.now) (IsMean series.now) }
+{
     let count = u128::from(series.count);
     let total = total(series)?;
     let fine = total.size.checked_mul(PARTS)?;
-    let size = fine.checked_div(count)?.checked_add(NANOSECOND / 2)? / NANOSECOND;
     Some(Signed {
         is_negative: total.is_negative,
-        size,
+        size: in_nanoseconds(fine.checked_div(count)?),
     })
 }
 
 /// How much so many values of this sum and of squares of this sum vary: their variance, times their number, times one less.
-fn spread(count: u64, total: u128, squares: Wide) -> Option<Wide> {
+fn spread(count: u64, total: u128, squares: Wide) -> Option<Wide>
+    ensures { MatchOption result
+        ((2 ^ 256 ≤ wide squares * count) ⊎ (wide squares * count < total * total))
+        (λ it. wide it ≡ wide squares * count - total * total) }
+{
     let (is_negative, spread) = difference(times(squares, count)?, product(total, total));
     if is_negative { None } else { Some(spread) }
 }
 
-/// A quotient, where it is below 2^128.
-fn quotient(dividend: Wide, divisor: u128) -> Option<u128> {
-    if dividend.high >= divisor {
-        return None;
+/// The upper and the lower 64 bits of a number.
+fn digits(number: u128) -> (u64, u64)
+    ensures { number ≡ result.0 * 2 ^ 64 + result.1 }
+{
+    ((number / DIGIT) as u64, (number % DIGIT) as u64)
+}
+
+/// What is left of a division and one digit more, divided: the next digit of the quotient, and what is left then.
+fn divide_digit(left: u64, digit: u64, divisor: u64) -> (u64, u64)
+    requires { left < divisor }
+    ensures quotient { left * 2 ^ 64 + digit ≡ result.0 * divisor + result.1 }
+    ensures left { result.1 < divisor }
+{
+    let number = u128::from(left) * DIGIT + u128::from(digit);
+    let divisor = u128::from(divisor);
+    ((number / divisor) as u64, (number % divisor) as u64)
+}
+
+/// A quotient, rounded down.
+fn divide(dividend: Wide, divisor: u64) -> Wide
+    requires { 0 < divisor }
+    ensures { wide result ≡ wide dividend / divisor }
+{
+    let (first, second) = digits(dividend.high);
+    let (third, fourth) = digits(dividend.low);
+    let (one, left) = divide_digit(0, first, divisor);
+    let (two, left) = divide_digit(left, second, divisor);
+    let (three, left) = divide_digit(left, third, divisor);
+    let (four, _) = divide_digit(left, fourth, divisor);
+    Wide {
+        low: u128::from(three) * DIGIT + u128::from(four),
+        high: u128::from(one) * DIGIT + u128::from(two),
     }
-    let mut rest = dividend.high;
-    let mut low = dividend.low;
-    let mut quotient: u128 = 0;
-    for _place in 0..128 {
-        rest = rest.checked_mul(2)?.checked_add(low >> 127)?;
-        low = low.wrapping_mul(2);
-        quotient = quotient.checked_mul(2)?;
-        if rest >= divisor {
-            rest -= divisor;
-            quotient = quotient.checked_add(1)?;
-        }
-    }
-    Some(quotient)
 }
 
 /// The standard deviation of a series, in thousandths of a nanosecond; None of fewer than two values, and from 39 hours on.
-pub fn deviation(series: &Series) -> Option<u128> {
-    let count = u128::from(series.count);
-    let pairs = count.checked_mul(count.checked_sub(1)?)?;
+pub fn deviation(series: &Series) -> Option<u128>
+    ensures { MatchOption result (HasNoDeviation series.now) (IsDeviation series.now) }
+{
+    if series.count < 2 {
+        return None;
+    }
     let spread = spread(series.count, total(series)?.size, series.squares)?;
-    in_thousandths(quotient(spread, pairs)?.isqrt())
+    let variance = divide(divide(spread, series.count), series.count - 1);
+    Some(in_nanoseconds(PARTS * narrow(variance)?.isqrt()))
 }
 
 /// A number by its front, which is below 2^63, and how many of its bits are left out behind that.
