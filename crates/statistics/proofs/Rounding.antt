@@ -33,5 +33,5 @@ pub divided : (first second third fourth one two three four a b c left d : ℕ) 
 divided first second third fourth one two three four a b c left d p q r s below =
     let all = times_all one two three four d in
     let whole : (third * 2 ^ 64 + fourth + (first * 2 ^ 64 + second) * 2 ^ 128 ≡ digits_of one two three four * d + left) =
-        omega (arith, all, p, q, r, s) in
+    omega (arith, all, p, q, r, s) in
     sym (ap (λ n. n / d) whole ∙ div-mul-add (digits_of one two three four) d left below)

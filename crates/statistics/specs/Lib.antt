@@ -5,6 +5,7 @@ pub mod Series
 pub mod Trend
 pub mod Step
 pub mod Median
+pub mod Percentile
 pub mod Flow
 pub mod Spike
 pub mod Mean

@@ -1,5 +1,6 @@
--- Means, rounded to thousandths of a nanosecond, halves away from 0. Values are in units of 2^-17 ns.
-use Rattle.std.specs.Prelude.{◌≡◌, ℕ, ◌+◌, ◌-◌, ◌*◌, ◌/◌, ◌^◌, ◌≤◌, ◌<◌, ◌⊎◌, nat_lt}
+-- Means, medians and standard deviations, rounded to thousandths of a nanosecond. Values are in units of 2^-17 ns.
+use Rattle.std.specs.Prelude.{◌≡◌, ℕ, ◌+◌, ◌-◌, ◌*◌, ◌/◌, ◌^◌, ◌≤◌, ◌<◌, ◌⊎◌, nat_lt, ℤ, pos, ◌+ℤ◌, int_lt, unsigned_abs}
+use Rattle.statistics.specs.declared.recent.Middle.{Middle}
 use Rattle.statistics.specs.declared.rounded.Signed.{Signed}
 use Rattle.statistics.specs.declared.series.Series.{Series}
 use Rattle.statistics.specs.Wide.{wide}
@@ -24,6 +25,15 @@ HasNoMean s = (2 ^ 128 ≤ 1000 * total s) ⊎ (s.count ≡ 0)
 pub record IsMean (s : Series) (m : Signed) : Type 0 where
   pub is_negative : m.is_negative ≡ nat_lt (wide s.above) (wide s.below)
   pub size : m.size ≡ (1000 * total s + 65536 * s.count) / (131072 * s.count)
+
+-- the sum of the two values in the middle
+abbrev pub both : Middle → ℤ
+both middle = middle.lower +ℤ middle.upper
+
+-- their mean, in thousandths of a nanosecond, to the nearest, halves away from 0
+pub record IsRoundedMedian (middle : Middle) (m : Signed) : Type 0 where
+  pub is_negative : m.is_negative ≡ int_lt (both middle) (pos 0)
+  pub size : m.size ≡ (1000 * unsigned_abs (both middle) + 131072) / 262144
 
 -- ---- how much values vary
 -- so many times the sum of the squares, less the square of the sum

@@ -5,7 +5,7 @@ ghost use Rattle.statistics.specs.Cases.{AreCases};
 use crate::series::Point;
 
 /// How many of many are so, and the first of them. The count stays at 2^64 - 1.
-#[derive(Clone, Copy, Debug, PartialEq, Eq)]
+#[derive(Clone, Copy)]
 pub struct Cases {
     /// How many are.
     pub count: u64,

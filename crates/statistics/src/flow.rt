@@ -8,7 +8,7 @@ use crate::series::{Point, Series};
 use ptp_units::{ScaledTime, Seq};
 
 /// A message of a port, by its number.
-#[derive(Clone, Copy, Debug, PartialEq, Eq)]
+#[derive(Clone, Copy)]
 pub struct Sent {
     /// The number of its line.
     pub line: u64,
@@ -21,7 +21,7 @@ pub struct Sent {
 }
 
 /// What the numbers and times of a port's messages of one kind tell. Each count stays at 2^64 - 1.
-#[derive(Clone, Copy, Debug, PartialEq, Eq)]
+#[derive(Clone, Copy)]
 pub struct Flow {
     /// How many came.
     pub count: u64,

@@ -1,6 +1,6 @@
 //! What is told of many values: exact sums of what was measured, with the least and the greatest, what a line through it is drawn by,
-//! where it steps, medians of the last ones, counts, and what numbers and times of messages tell. Of means, deviations, slopes and
-//! steps, rounded, nothing is promised.
+//! where it steps, medians and percentiles of the last ones, counts, and what numbers and times of messages tell. Of means, deviations,
+//! slopes and steps, rounded, nothing is promised.
 #![tactic(auto)]
 
 mod cases;
@@ -20,8 +20,8 @@ pub use cases::Cases;
 pub use counting::count_if;
 pub use flow::{Flow, Sent};
 pub use milliseconds::Milliseconds;
-pub use recent::{Middle, RECENT_MOST, Recent};
-pub use rounded::{Growth, Shift, Signed, Thousandths, deviation, mean, shift_of, slope};
+pub use recent::{Middle, RECENT_MOST, Ranks, Recent};
+pub use rounded::{Growth, Shift, Signed, Thousandths, deviation, mean, median, shift_of, slope};
 pub use series::{Point, Series, Spread};
 pub use spike::{Spike, Spikes};
 pub use step::{Change, Step};

@@ -1,9 +1,11 @@
 //! Means, deviations, slopes and steps, rounded. Each is None where a sum is too big to divide.
 
-ghost use Rattle.std.specs.Prelude.{◌≡◌, ◌+◌, ◌*◌, ◌/◌, ◌-◌, ◌<◌, ◌≤◌, ◌^◌, ◌⊎◌, nat_lt, MatchOption};
-ghost use Rattle.statistics.specs.Mean.{apart, total, in_nanoseconds, HasNoMean, IsMean, HasNoDeviation, IsDeviation};
+ghost use Rattle.std.specs.Prelude.{◌≡◌, ◌+◌, ◌*◌, ◌/◌, ◌-◌, ◌<◌, ◌≤◌, ◌^◌, ◌⊎◌, nat_lt, unsigned_abs, MatchOption};
+ghost use Rattle.statistics.specs.Mean.{apart, total, in_nanoseconds, HasNoMean, IsMean, both, IsRoundedMedian, HasNoDeviation};
+ghost use Rattle.statistics.specs.Mean.{IsDeviation};
 ghost use Rattle.statistics.specs.Wide.{wide};
 
+use crate::recent::Middle;
 use crate::series::Series;
 use crate::step::Step;
 use crate::trend::Trend;
@@ -158,6 +160,18 @@ pub fn mean(series: &Series) -> Option<Signed>
     Some(Signed {
         is_negative: total.is_negative,
         size: in_nanoseconds(fine.checked_div(count)?),
+    })
+}
+
+/// The median of values whose middle this is, in thousandths of a nanosecond.
+pub fn median(middle: &Middle) -> Option<Signed>
+    ensures { MatchOption result (2 ^ 128 ≤ 1000 * unsigned_abs (both middle.now)) (IsRoundedMedian middle.now) }
+{
+    let both = middle.lower.checked_add(middle.upper)?;
+    let fine = both.unsigned_abs().checked_mul(PARTS)?;
+    Some(Signed {
+        is_negative: both < 0,
+        size: fine / (2 * NANOSECOND) + fine % (2 * NANOSECOND) / NANOSECOND,
     })
 }
 

@@ -6,7 +6,7 @@ use crate::counting::count_if;
 use crate::wide::Wide;
 
 /// What was measured at a line.
-#[derive(Clone, Copy, Debug, PartialEq, Eq)]
+#[derive(Clone, Copy)]
 pub struct Point {
     /// The number of the line.
     pub line: u64,
@@ -17,7 +17,7 @@ pub struct Point {
 }
 
 /// What is told of values that were measured. Each count stays at 2^64 - 1, and each sum at 2^256 - 1.
-#[derive(Clone, Copy, Debug, PartialEq, Eq)]
+#[derive(Clone, Copy)]
 pub struct Series {
     /// How many there are.
     pub count: u64,
@@ -38,7 +38,7 @@ pub struct Series {
 }
 
 /// The least and the greatest of values that were measured.
-#[derive(Clone, Copy, Debug, PartialEq, Eq)]
+#[derive(Clone, Copy)]
 pub struct Spread {
     /// The least, the first of those that are equal.
     pub least: Option<Point>,

@@ -5,7 +5,7 @@ use crate::counting::count_if;
 use crate::series::Point;
 
 /// A value that lies above both of its neighbours, or below both.
-#[derive(Clone, Copy, Debug, PartialEq, Eq)]
+#[derive(Clone, Copy)]
 pub struct Spike {
     /// The value.
     pub at: Point,
@@ -16,7 +16,7 @@ pub struct Spike {
 }
 
 /// Values in their order: how much they change from one to the next, and the greatest spike.
-#[derive(Clone, Copy, Debug, PartialEq, Eq)]
+#[derive(Clone, Copy)]
 pub struct Spikes {
     /// How many values there are, up to 2^64 - 1.
     pub count: u64,

@@ -4,7 +4,7 @@ ghost use Rattle.statistics.specs.Step.{IsStep, AreAlike, greatest, size};
 use crate::series::{Point, Series};
 
 /// A change from one value of a series to the next.
-#[derive(Clone, Copy, Debug, PartialEq, Eq)]
+#[derive(Clone, Copy)]
 pub struct Change {
     /// The value before it.
     pub from: Point,
@@ -15,7 +15,7 @@ pub struct Change {
 }
 
 /// Values in their order, and the greatest change from one to the next.
-#[derive(Clone, Copy, Debug, PartialEq, Eq)]
+#[derive(Clone, Copy)]
 pub struct Step {
     /// All values.
     pub all: Series,

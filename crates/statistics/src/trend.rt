@@ -6,7 +6,7 @@ use crate::wide::Wide;
 
 /// What a line through values over their times is drawn by, in least squares: the sums beside those of a series. Each stays at
 /// 2^256 - 1.
-#[derive(Clone, Copy, Debug, PartialEq, Eq)]
+#[derive(Clone, Copy)]
 pub struct Trend {
     /// The sum of the times.
     pub times: Wide,

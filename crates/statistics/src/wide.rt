@@ -2,7 +2,7 @@ ghost use Rattle.std.specs.Prelude.{◌≡◌, ◌+◌, ◌*◌};
 ghost use Rattle.statistics.specs.Wide.{wide, up_to_wide};
 
 /// A sum of numbers of 128 bits and of their products, exact up to 2^256 - 1, where it stays.
-#[derive(Clone, Copy, Debug, PartialEq, Eq)]
+#[derive(Clone, Copy)]
 pub struct Wide {
     /// Its lower 128 bits.
     pub low: u128,
