@@ -4,7 +4,7 @@ use std::alloc::{AllocError, Global};
 use std::fmt::Display;
 
 /// At which side of its column a cell stands.
-#[derive(Clone, Copy, Debug, PartialEq, Eq)]
+#[derive(Clone, Copy, PartialEq, Eq)]
 enum Side {
     Left,
     Right,

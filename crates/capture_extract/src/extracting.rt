@@ -13,7 +13,7 @@ use std::io::{Read, Write};
 use text_lines::{Counted, LineFault, write_text};
 
 /// What is taken of a capture, and how it is written.
-#[derive(Clone, Copy, Debug, PartialEq, Eq)]
+#[derive(Clone, Copy, PartialEq, Eq)]
 pub struct Extraction {
     /// How a line is written.
     pub form: ExtractForm,

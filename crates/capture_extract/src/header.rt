@@ -12,7 +12,7 @@ const REQUESTING_PLACE: usize = 44;
 const IDENTITY_LENGTH: usize = 10;
 
 /// Why a datagram isn't listed.
-#[derive(Clone, Copy, Debug, PartialEq, Eq)]
+#[derive(Clone, Copy, PartialEq, Eq)]
 pub(crate) enum Unlisted {
     /// Its versionPTP isn't 2.
     OtherVersion,
@@ -21,7 +21,7 @@ pub(crate) enum Unlisted {
 }
 
 /// The fields of a message that are listed.
-#[derive(Clone, Copy, Debug)]
+#[derive(Clone, Copy)]
 pub(crate) struct Listed {
     /// messageType.
     pub(crate) message: MessageType,

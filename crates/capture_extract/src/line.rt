@@ -11,7 +11,7 @@ use std::str;
 use text_lines::LINE_LIMIT;
 
 /// What stands in a line.
-#[derive(Clone, Copy, Debug, PartialEq, Eq)]
+#[derive(Clone, Copy, PartialEq, Eq)]
 pub enum ExtractForm {
     /// The octets of a datagram, as `ptpx show` reads them.
     Octets,

@@ -13,7 +13,7 @@ use std::fmt::{Display, Formatter};
 ///
 /// Rows stand in the order of these fields: all that a port sends in a domain stands together. So one sees a master by its Sync,
 /// Announce and Delay_Resp, and those whom it answers, and a slave by its Delay_Req.
-#[derive(Clone, Copy, Debug, PartialEq, Eq, PartialOrd, Ord)]
+#[derive(Clone, Copy, PartialEq, Eq, PartialOrd, Ord)]
 pub(crate) struct RowKey {
     /// The interface, by its index, where the message was met at one.
     pub(crate) interface: Option<usize>,
@@ -30,7 +30,7 @@ pub(crate) struct RowKey {
 }
 
 /// Which minor versions were met.
-#[derive(Clone, Copy, Debug)]
+#[derive(Clone, Copy)]
 pub(crate) struct Versions {
     met: [bool; 16],
 }
@@ -49,7 +49,7 @@ impl Display for Versions {
 }
 
 /// A correctionField in nanoseconds, exactly, or that it is too big (IEEE 1588-2019, 13.3.2.9).
-#[derive(Clone, Copy, Debug)]
+#[derive(Clone, Copy)]
 pub(crate) struct Correction(pub(crate) Interval);
 
 impl Display for Correction {
@@ -62,7 +62,7 @@ impl Display for Correction {
 }
 
 /// A time: seconds, a point, and nine digits of nanoseconds.
-#[derive(Clone, Copy, Debug)]
+#[derive(Clone, Copy)]
 pub(crate) struct Time(pub(crate) Timestamp);
 
 impl Display for Time {
@@ -78,7 +78,7 @@ const REACH: u16 = 256;
 const TWO_STEP: u8 = 0x02;
 
 /// The messages of a row. Counts stay at 2^64 - 1.
-#[derive(Clone, Copy, Debug)]
+#[derive(Clone, Copy)]
 pub(crate) struct Row {
     pub(crate) count: u64,
     pub(crate) one_step: u64,

@@ -4,7 +4,7 @@ use crate::others::Newcomer;
 use statistics::{Cases, Growth, Point, Shift, Signed, Spike};
 
 /// How many messages are missing, of how many.
-#[derive(Clone, Copy, Debug, PartialEq, Eq)]
+#[derive(Clone, Copy)]
 pub struct Lost {
     /// How many are missing.
     pub missing: u64,

@@ -8,14 +8,14 @@ use std::io::Write;
 const NAMED_MOST: usize = 8;
 
 /// A port, and how many messages it sent.
-#[derive(Clone, Copy, Debug)]
+#[derive(Clone, Copy)]
 struct Caller {
     port: PortIdentity,
     count: u64,
 }
 
 /// The first ports that sent messages of a kind, and how many messages are of others. Counts stay at 2^64 - 1.
-#[derive(Clone, Copy, Debug)]
+#[derive(Clone, Copy)]
 struct Listed {
     callers: [Option<Caller>; NAMED_MOST],
     rest: u64,
@@ -80,7 +80,7 @@ impl Listed {
 }
 
 /// Who sent Syncs, and who sent Delay_Reqs.
-#[derive(Clone, Copy, Debug)]
+#[derive(Clone, Copy)]
 pub struct Callers {
     masters: Listed,
     slaves: Listed,

@@ -34,7 +34,7 @@ impl Display for Counted {
 }
 
 /// How many reports were written, and how many datagrams gave none, by what they are and by why. Each count stays at 2^64 - 1.
-#[derive(Clone, Copy, Debug)]
+#[derive(Clone, Copy)]
 pub struct Counts {
     /// How many reports were written.
     pub reports: u64,

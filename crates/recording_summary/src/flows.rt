@@ -10,7 +10,7 @@ use crate::others::{Meeting, MessageKind, Met};
 use statistics::{Cases, Flow, Point, Sent, count_if};
 
 /// What came of the master and the slave that are watched, each number once. Each count stays at 2^64 - 1.
-#[derive(Clone, Copy, Debug, PartialEq, Eq)]
+#[derive(Clone, Copy)]
 pub struct Flows {
     /// The Syncs.
     pub syncs: Flow,

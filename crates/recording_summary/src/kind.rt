@@ -7,7 +7,7 @@ ghost use Rattle.recording_summary.specs.Counts.{kind_number};
 pub(crate) const KINDS: usize = 10;
 
 /// What a datagram is (IEEE 1588-2019, table 36).
-#[derive(Clone, Copy, Debug, PartialEq, Eq)]
+#[derive(Clone, Copy)]
 pub enum Kind {
     /// A Sync.
     Sync,

@@ -9,7 +9,7 @@ use crate::kind::Kind;
 pub(crate) const REASONS: usize = 14;
 
 /// Why a datagram gave no report.
-#[derive(Clone, Copy, Debug, PartialEq, Eq)]
+#[derive(Clone, Copy)]
 pub enum NoReport {
     /// It waits for the message that it pairs with.
     Held,

@@ -20,7 +20,7 @@ const LISTED_MOST: usize = 8;
 const DOMAINS: usize = 256;
 
 /// Which message of the mechanism one is (IEEE 1588-2019, table 36).
-#[derive(Clone, Copy, Debug, PartialEq, Eq)]
+#[derive(Clone, Copy)]
 pub enum MessageKind {
     /// A Sync.
     Sync,
@@ -33,7 +33,7 @@ pub enum MessageKind {
 }
 
 /// Of whom a message is.
-#[derive(Clone, Copy, Debug, PartialEq, Eq)]
+#[derive(Clone, Copy)]
 pub enum Met {
     /// It is of the master and the slave that are watched, and the first with its number.
     First(MessageKind, Seq),
@@ -48,7 +48,7 @@ pub enum Met {
 }
 
 /// A message that says who is there.
-#[derive(Clone, Copy, Debug, PartialEq, Eq)]
+#[derive(Clone, Copy)]
 pub struct Meeting {
     /// The number of its line.
     pub line: u64,
@@ -65,7 +65,7 @@ pub struct Meeting {
 }
 
 /// A port, and how many messages it sent. The count stays at 2^64 - 1.
-#[derive(Clone, Copy, Debug, PartialEq, Eq)]
+#[derive(Clone, Copy)]
 pub struct Sender {
     /// Its portIdentity.
     pub port: PortIdentity,
@@ -74,7 +74,7 @@ pub struct Sender {
 }
 
 /// The first eight ports that sent messages, in this order, and how many messages all others sent. Each count stays at 2^64 - 1.
-#[derive(Clone, Copy, Debug, PartialEq, Eq)]
+#[derive(Clone, Copy)]
 pub struct Senders {
     /// The first eight.
     pub listed: [Option<Sender>; LISTED_MOST],
@@ -83,7 +83,7 @@ pub struct Senders {
 }
 
 /// The first Sync of another master since the last one of the master.
-#[derive(Clone, Copy, Debug, PartialEq, Eq)]
+#[derive(Clone, Copy)]
 pub struct Newcomer {
     /// The other master.
     pub port: PortIdentity,
@@ -94,7 +94,7 @@ pub struct Newcomer {
 }
 
 /// Until when the master sends Syncs, and who does from then on.
-#[derive(Clone, Copy, Debug, PartialEq, Eq)]
+#[derive(Clone, Copy)]
 pub struct Turn {
     /// The time of its last Sync.
     pub last: Option<ScaledTime>,
@@ -103,7 +103,7 @@ pub struct Turn {
 }
 
 /// The number of a message, and its time.
-#[derive(Clone, Copy, Debug, PartialEq, Eq)]
+#[derive(Clone, Copy)]
 pub struct Numbered {
     /// Its sequenceId.
     pub number: Seq,
@@ -112,7 +112,7 @@ pub struct Numbered {
 }
 
 /// How much later messages came that repeat the last number of their kind, in 2^-16 ns; 0 where the time is before that of the first.
-#[derive(Clone, Copy, Debug, PartialEq, Eq)]
+#[derive(Clone, Copy)]
 pub struct Repeats {
     /// The last Sync that is the first of its number.
     pub sync: Option<Numbered>,
@@ -129,7 +129,7 @@ pub struct Repeats {
 }
 
 /// Who else is there.
-#[derive(Clone, Copy, Debug, PartialEq, Eq)]
+#[derive(Clone, Copy)]
 pub struct Others {
     /// Other masters of the domain, by their Syncs, Follow_Ups and Delay_Resps.
     pub masters: Senders,

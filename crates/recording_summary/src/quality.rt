@@ -19,7 +19,7 @@ const STALE: i128 = 655_360_000_000_000;
 /// What is told of the reports of a recording. Offsets and path delays are in 2^-17 ns, as reports have them, and times in
 /// 2^-16 ns. Each count stays
 /// at 2^64 - 1.
-#[derive(Clone, Copy, Debug, PartialEq, Eq)]
+#[derive(Clone, Copy)]
 pub struct Statistics {
     /// The offsets of the reports that a Sync completed, at the time of the line that did.
     pub offsets: Step,
@@ -51,7 +51,7 @@ pub struct Statistics {
 }
 
 /// What is told of the times of a recording. Each count stays at 2^64 - 1.
-#[derive(Clone, Copy, Debug, PartialEq, Eq)]
+#[derive(Clone, Copy)]
 pub struct Times {
     /// How many aren't of whole microseconds.
     pub finer: u64,
@@ -64,7 +64,7 @@ pub struct Times {
 }
 
 /// What the numbers of a recording are worth.
-#[derive(Clone, Copy, Debug, PartialEq, Eq)]
+#[derive(Clone, Copy)]
 pub struct Quality {
     /// What is told of its reports.
     pub statistics: Statistics,

@@ -7,7 +7,7 @@ use std::fmt::{Display, Formatter};
 use std::io::Write;
 
 /// What is known, and by which line or packet; by none where it was asked for.
-#[derive(Clone, Copy, Debug, PartialEq, Eq)]
+#[derive(Clone, Copy)]
 pub struct Known<T> {
     /// What is known.
     pub value: T,
@@ -16,7 +16,7 @@ pub struct Known<T> {
 }
 
 /// Whom an input is of, as far as that is known.
-#[derive(Clone, Copy, Debug, PartialEq, Eq)]
+#[derive(Clone, Copy)]
 pub struct Whom {
     /// The domain of both.
     pub domain: Option<Known<u8>>,

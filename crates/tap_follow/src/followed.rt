@@ -8,7 +8,7 @@ use tap_choice::{Met, Side, TapName};
 use tap_crossing::{Tap, Watched};
 
 /// Whose messages are followed, and between which taps.
-#[derive(Clone, Copy, Debug, PartialEq, Eq)]
+#[derive(Clone, Copy)]
 pub struct Followed {
     /// Whose messages.
     pub watched: Watched,

@@ -29,7 +29,7 @@ const KEPT_MOST: u64 = 1024;
 const SYNCS_MOST: usize = 256;
 
 /// What a tap is.
-#[derive(Clone, Copy, Debug, PartialEq, Eq)]
+#[derive(Clone, Copy)]
 pub enum Arrival {
     /// One of the two.
     At(Side),

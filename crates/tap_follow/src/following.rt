@@ -29,7 +29,7 @@ use tap_sums::{Crossed, Figures, Sums, Untold, push_json, push_row};
 const RECORDS_MOST: usize = 256;
 
 /// How crossings are written.
-#[derive(Clone, Copy, Debug, PartialEq, Eq)]
+#[derive(Clone, Copy)]
 pub enum Form {
     /// JSON, one object a line.
     Json,

@@ -66,7 +66,7 @@ pub struct Ways {
 }
 
 /// Crossings of a kind that are as most should not be.
-#[derive(Clone, Copy, Debug, PartialEq, Eq)]
+#[derive(Clone, Copy)]
 pub struct Below {
     /// The kind.
     pub kind: Kind,

@@ -7,7 +7,7 @@ use statistics::count_if;
 use tap_crossing::Changes;
 
 /// How many messages of crossings had a field changed between the taps, each as far as 2^64 - 1; corrections are none of these.
-#[derive(Clone, Copy, Debug, PartialEq, Eq)]
+#[derive(Clone, Copy)]
 pub struct Changed {
     /// Any of those below.
     pub messages: u64,

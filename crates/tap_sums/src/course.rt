@@ -9,7 +9,7 @@ use tap_crossing::Crossing;
 
 /// How the rests of crossings of a kind go over time, and which crossings are as none should be. Each is told by the line of its event
 /// message at its first tap, and by the time there, in 2^-16 ns.
-#[derive(Clone, Copy, Debug, PartialEq, Eq)]
+#[derive(Clone, Copy)]
 pub struct Course {
     /// The rests, in 2^-17 ns, and the greatest change from one to the next.
     pub rests: Step,

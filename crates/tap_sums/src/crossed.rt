@@ -11,7 +11,7 @@ use std::fmt::{Display, Formatter};
 use tap_crossing::{Crossing, Kind};
 
 /// A crossing, with what tells where and when it was.
-#[derive(Clone, Copy, Debug)]
+#[derive(Clone, Copy)]
 pub struct Crossed<'a> {
     /// The crossing.
     pub crossing: Crossing,

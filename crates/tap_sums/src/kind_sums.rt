@@ -9,7 +9,7 @@ use tap_crossing::{Crossing, Kind};
 const MOST: u64 = 9_223_372_036_854_775_807;
 
 /// Sums over crossings of one kind.
-#[derive(Clone, Copy, Debug, PartialEq, Eq)]
+#[derive(Clone, Copy)]
 pub(crate) struct KindSums {
     pub(crate) count: u64,
     pub(crate) taken: Total,

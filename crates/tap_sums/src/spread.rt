@@ -1,7 +1,7 @@
 use tap_crossing::Kind;
 
 /// What a crossing has.
-#[derive(Clone, Copy, Debug, PartialEq, Eq)]
+#[derive(Clone, Copy)]
 pub enum Quantity {
     /// What it took from tap to tap.
     Taken,
@@ -12,7 +12,7 @@ pub enum Quantity {
 }
 
 /// The least, the greatest and the mean of values, in units of 2^-16 ns.
-#[derive(Clone, Copy, Debug, PartialEq, Eq)]
+#[derive(Clone, Copy)]
 pub struct Spread {
     /// The least.
     pub least: i128,
@@ -23,7 +23,7 @@ pub struct Spread {
 }
 
 /// What the crossings of a kind come to, where there are any.
-#[derive(Clone, Copy, Debug, PartialEq, Eq)]
+#[derive(Clone, Copy)]
 pub struct Statistics {
     /// The kind.
     pub kind: Kind,
@@ -41,7 +41,7 @@ pub struct Statistics {
 
 /// What the mean rests of both kinds come to, in units of 2^-16 ns, each rounded to a whole unit, half to even; where there are
 /// crossings of both.
-#[derive(Clone, Copy, Debug, PartialEq, Eq)]
+#[derive(Clone, Copy)]
 pub struct BothWays {
     /// That of Syncs less that of Delay_Reqs.
     pub asymmetry: Option<i128>,

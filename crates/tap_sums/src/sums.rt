@@ -16,7 +16,7 @@ use tap_crossing::{Crossing, Kind};
 const SECOND: u128 = 1_000_000_000;
 
 /// Sums over crossings of both kinds. Of each kind the first 2^63 - 1 count.
-#[derive(Clone, Copy, Debug, PartialEq, Eq)]
+#[derive(Clone, Copy)]
 pub struct Sums {
     pub(crate) syncs: KindSums,
     pub(crate) requests: KindSums,

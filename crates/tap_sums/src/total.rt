@@ -12,7 +12,7 @@ pub(crate) const RAISED: i128 = 1 << 97;
 const LIMB: u128 = 1 << 64;
 
 /// A sum of values, each raised, and the least and the greatest of them.
-#[derive(Clone, Copy, Debug, PartialEq, Eq)]
+#[derive(Clone, Copy)]
 pub(crate) struct Total {
     /// The sum of what each has from 2^64 on.
     pub(crate) high: u128,

@@ -7,7 +7,7 @@ use statistics::count_if;
 use tap_crossing::{MessageOutcome, NoCrossing};
 
 /// Of how many records nothing is told, by why, each as far as 2^64 - 1.
-#[derive(Clone, Copy, Debug, PartialEq, Eq)]
+#[derive(Clone, Copy)]
 pub struct Untold {
     /// A message of theirs came twice at a tap.
     pub spoiled: u64,
