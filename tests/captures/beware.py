@@ -253,6 +253,7 @@ BENT = {
     'without reports in the end': (lambda it: half_way(it, lambda rest: of_kinds(rest, SYNC, None)),
                                    [r'no report is of the last \d+\.\d s: the slave went away', UNFOLLOWED % (31, 58)]),
     # answers or requests stop, and Syncs go on
+    'without Delay_Reqs after 10 s': (lambda it: until(it, 10, REQUEST, RESPONSE), [OLD % (42, 99, r'51\.041', 268)]),
     'without Delay_Reqs after 20 s': (lambda it: until(it, 20, REQUEST, RESPONSE), [OLD % (31, 161, r'40\.999', 284)]),
     'without Delay_Resps after 20 s': (lambda it: until(it, 20, RESPONSE), [OLD % (31, 170, r'40\.999', 320), UNANSWERED % (36, 51)]),
     'with one in 10 Follow_Ups lost': (lambda it: without(it, FOLLOW_UP, 10), [UNFOLLOWED % (6, 58)]),
