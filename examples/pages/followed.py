@@ -51,8 +51,8 @@ class Crossings:
     HEAD = 'time,kind,number,taken_ns,corrected_ns,rest_ns'
     EMPTY = 'There is no crossing: no Sync and no Delay_Req was met at both taps with all that belongs to it.'
     ABOUT = ('<p id="words">Taken is how long a message was on its way from tap to tap, corrected is what its corrections tell of that, and rest is taken less '
-             'corrected: the cables between the taps, what a clock there told wrong, by how much the taps\' own clocks differ, and what their stamps are '
-             'wrong.</p>')
+             'corrected: the cables between the taps, what a clock there told wrong, by how much the taps\' own clocks differ, and the errors of their '
+             'stamps.</p>')
 
     def __init__(self):
         self.rows, self.taps = {'sync': [], 'delay_req': []}, None
@@ -126,7 +126,7 @@ def asymmetry_part(taps, said, without, asymmetry, mean_rest):
     if without:
         return f'{title}<p id="meaning">No {without[0]} crossed, so the asymmetry isn\'t known.</p>'
     rows = [('asymmetry', f'{rounded_length(asymmetry)} ns', 'mean rest of Syncs less that of Delay_Reqs'),
-            ('mean rest', f'{rounded_length(mean_rest)} ns', 'half of the sum of both, in which the clocks of the taps don\'t stand')]
+            ('mean rest', f'{rounded_length(mean_rest)} ns', 'half of the sum of both, in which the difference of the taps\' clocks cancels')]
     second = 'the second tap' if taps is None else taps[1]
     half = rounded_length(abs(asymmetry) / 2)
     meaning = (f'Asymmetry {rounded_length(asymmetry)} ns. If both taps share a clock, a slave behind {second} reads offsets {half} ns too '
