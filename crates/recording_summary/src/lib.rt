@@ -17,6 +17,7 @@ mod others_text;
 mod quality;
 mod report_bewares;
 mod statistics_text;
+mod sums;
 mod time_text;
 mod whom;
 mod worth;
@@ -31,4 +32,5 @@ pub use others::{
     Meeting, MessageKind, Met, Newcomer, Numbered, Others, Repeats, Sender, Senders, Turn,
 };
 pub use quality::{Quality, Statistics, Times};
+pub use sums::Sums;
 pub use whom::{Known, Whom};
