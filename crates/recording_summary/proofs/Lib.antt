@@ -1,3 +1,4 @@
+mod Announcing
 mod Meetings
 mod Noting
 mod Worked

@@ -1,11 +1,14 @@
--- Worked cases: who else is there by a few messages.
-use Rattle.std.proofs.Common.{◌≡◌, ℕ, ◌*◌, pos, false, [], ◌∷◌, replicate, Some, None, refl}
+-- Worked cases: who else is there by a few messages, and what a few Announces tell.
+use Rattle.std.proofs.Common.{◌≡◌, ℕ, ◌*◌, pos, true, false, List, [], ◌∷◌, replicate, Some, None, refl}
 use Rattle.event_codec.specs.declared.message.Header.{Header}
 use Rattle.event_codec.specs.declared.port.PortIdentity.{PortIdentity}
+use Rattle.recording_summary.specs.declared.announces.Announced.{Announced}
+use Rattle.recording_summary.specs.declared.announces.Announcement.{Announcement}
 use Rattle.recording_summary.specs.declared.others.Meeting.{Meeting}
 use Rattle.recording_summary.specs.declared.others.MessageKind.TheVariants.{Sync, FollowUp}
 use Rattle.recording_summary.specs.declared.others.Met.{Met}
 use Rattle.recording_summary.specs.declared.others.Met.TheVariants.{First, Repeat, Master}
+use Rattle.recording_summary.specs.Announces.{told_by, changes_in}
 use Rattle.recording_summary.specs.Others.{other_master, senders, newcomer, least_lag}
 
 -- another master, of this portNumber
@@ -48,3 +51,28 @@ taken_over = refl
 repeated : least_lag (at 6 (Repeat Sync (record { 0 = 5 })) ∷ at 5 (First FollowUp (record { 0 = 5 })) ∷ at 4 (First Sync (record { 0 = 5 })) ∷ [])
     ≡ Some 200
 repeated = refl
+
+-- what is told with this clockClass
+abbrev of_class : ℕ → Announced
+of_class clock_class = record {
+  grandmaster = 0 ∷ 17 ∷ 34 ∷ 255 ∷ 254 ∷ 51 ∷ 68 ∷ 85 ∷ [];
+  clock_class = clock_class;
+  steps_removed = 0;
+  utc_offset = pos 37;
+  is_utc_offset_valid = true;
+  is_ptp_timescale = true;
+}
+
+abbrev announced_at : (line clock_class : ℕ) → Announcement
+announced_at line clock_class = record { line = line; announced = of_class clock_class }
+
+-- the second of five tells another clockClass, and so does the fourth
+abbrev five : List Announcement
+five = announced_at 9 248 ∷ announced_at 7 248 ∷ announced_at 5 7 ∷ announced_at 4 7 ∷ announced_at 2 6 ∷ []
+
+told_since : told_by five ≡ Some (announced_at 7 248)
+told_since = refl
+
+two_changes : changes_in five
+    ≡ record { line = 7; before = of_class 7; after = of_class 248 } ∷ record { line = 4; before = of_class 6; after = of_class 7 } ∷ []
+two_changes = refl

@@ -1,5 +1,6 @@
 -- Where counts of datagrams that gave no report stand, and what one more makes of them.
 use Rattle.std.specs.Prelude.{◌≡◌, ℕ, ◌+◌, ◌-◌, ◌*◌, ◌^◌, min, [], replicate, slice_index, slice_set}
+use Rattle.recording_summary.specs.Announces.{AreAnnounces}
 use Rattle.recording_summary.specs.Others.{AreOthers}
 use Rattle.recording_summary.specs.Quality.{IsQuality}
 use Rattle.recording_summary.specs.declared.counts.Counts.{Counts}
@@ -51,6 +52,7 @@ pub record AreNone (counts : Counts) : Type 0 where
   pub unreported : counts.unreported ≡ replicate 140 0
   pub quality : IsQuality [] counts.quality
   pub others : AreOthers [] counts.others
+  pub announces : AreAnnounces [] counts.announces
 
 -- one more, as far as is counted
 abbrev pub with_one : ℕ → ℕ

@@ -3,6 +3,7 @@
 ghost use Rattle.std.specs.Prelude.{◌≡◌, ◌<◌};
 ghost use Rattle.recording_summary.specs.Counts.{place_of, count_at, AreNone, with_unreported};
 
+use crate::announces::Announces;
 use crate::kind::{ALL_KINDS, KINDS, Kind};
 use crate::no_report::{ALL_REASONS, NoReport, REASONS};
 use crate::others::Others;
@@ -45,6 +46,8 @@ pub struct Counts {
     pub quality: Quality,
     /// Who else is there.
     pub others: Others,
+    /// What the Announces of the master tell.
+    pub announces: Announces,
 }
 
 /// Where the count of a kind and a reason stands.
@@ -74,6 +77,7 @@ impl Counts {
             unreported: [0; PLACES],
             quality: Quality::new(),
             others: Others::new(),
+            announces: Announces::new(),
         }
     }
 
@@ -101,6 +105,7 @@ impl Counts {
                 self.tell_count(kind, why, errors);
             }
         }
+        self.announces.tell(unit, errors);
         self.tell_flows(unit, errors);
         self.tell_statistics(unit, errors);
     }

@@ -1,7 +1,9 @@
-//! What is told of what was measured: whom the input is of, how many datagrams gave no report and why, who else is there, what reports,
-//! times and datagrams say of what the numbers are worth, and what speaks against them.
+//! What is told of what was measured: whom the input is of, how many datagrams gave no report and why, who else is there, what the
+//! master announces, what reports, times and datagrams say of what the numbers are worth, and what speaks against them.
 #![tactic(auto)]
 
+mod announces;
+mod announces_text;
 mod beware;
 mod beware_words;
 mod callers;
@@ -22,6 +24,7 @@ mod time_text;
 mod whom;
 mod worth;
 
+pub use announces::{Announced, Announcement, Announces, Change};
 pub use beware::{Beware, Jump, Lost, Rounded, SetBack};
 pub use callers::Callers;
 pub use counts::Counts;
