@@ -18,7 +18,7 @@ const UTC_OFFSET_VALID: u8 = 4;
 const PTP_TIMESCALE: u8 = 8;
 
 /// What an Announce tells of the clock from which the time comes (IEEE 1588-2019, 13.5).
-#[derive(Clone, Copy, Debug, PartialEq, Eq)]
+#[derive(Clone, Copy, PartialEq, Eq)]
 pub struct Announced {
     /// grandmasterIdentity.
     pub grandmaster: [u8; 8],
@@ -35,7 +35,7 @@ pub struct Announced {
 }
 
 /// An Announce, by its line or packet.
-#[derive(Clone, Copy, Debug, PartialEq, Eq)]
+#[derive(Clone, Copy)]
 pub struct Announcement {
     /// The line or packet.
     pub line: u64,
@@ -44,7 +44,7 @@ pub struct Announcement {
 }
 
 /// An Announce that tells another thing than the one before it.
-#[derive(Clone, Copy, Debug, PartialEq, Eq)]
+#[derive(Clone, Copy)]
 pub struct Change {
     /// Its line or packet.
     pub line: u64,
@@ -55,7 +55,7 @@ pub struct Change {
 }
 
 /// What Announces tell. Each count stays at 2^64 - 1.
-#[derive(Clone, Copy, Debug, PartialEq, Eq)]
+#[derive(Clone, Copy)]
 pub struct Announces {
     /// How many there are.
     pub count: u64,

@@ -7,7 +7,7 @@ use std::io::Write;
 
 /// clockIdentity in hexadecimal.
 #[derive(Clone, Copy)]
-struct Clock([u8; 8]);
+pub(crate) struct Clock(pub(crate) [u8; 8]);
 
 impl Display for Clock {
     fn fmt<W: fmt::Write>(&self, f: &mut Formatter<W>) -> fmt::Result {

@@ -140,6 +140,7 @@ impl Beware {
             Beware::PathsZero { .. } => "paths_zero",
             Beware::WholeSeconds { .. } => "whole_seconds",
             Beware::OffsetSteps(_) => "offset_steps",
+            Beware::OffsetIsSetBack(_) => "offset_is_set_back",
             Beware::OffsetRunsAway(_) => "offset_runs_away",
             Beware::PathSteps(_) => "path_steps",
             Beware::SyncsEnd { .. } => "syncs_end",

@@ -1,6 +1,8 @@
 //! What was measured, in one line of JSON. Keys are in the order of their octets. Times are nanoseconds: with all their decimals, but for
 //! means, medians and deviations, which are rounded to a thousandth.
 
+use crate::announces::{Announcement, Announces};
+use crate::announces_text::Clock;
 use crate::counts::Counts;
 use crate::flows::Flows;
 use crate::others::{Others, Sender, Senders};
@@ -229,6 +231,33 @@ impl Display for Syncs<'_> {
     }
 }
 
+/// What the Announces of the master tell last; null where none came.
+#[derive(Clone, Copy)]
+struct Announced<'a>(&'a Announces);
+
+impl Display for Announced<'_> {
+    fn fmt<W: fmt::Write>(&self, f: &mut Formatter<W>) -> fmt::Result {
+        let announces = self.0;
+        let Some(Announcement { line, announced }) = &announces.told else {
+            return f.write_str("null");
+        };
+        write!(
+            f,
+            "{{\"changes\":{},\"clock_class\":{},\"count\":{},\"grandmaster\":\"{}\",\"line\":{line},\"ptp_timescale\":{},",
+            announces.changes,
+            announced.clock_class,
+            announces.count,
+            Clock(announced.grandmaster),
+            announced.is_ptp_timescale
+        )?;
+        write!(
+            f,
+            "\"steps_removed\":{},\"utc_offset\":{},\"utc_offset_valid\":{}}}",
+            announced.steps_removed, announced.utc_offset, announced.is_utc_offset_valid
+        )
+    }
+}
+
 /// What stands in front of an element of an array.
 fn comma(is_first: bool) -> &'static str {
     if is_first { "" } else { "," }
@@ -346,11 +375,11 @@ impl<P: Display> Sums<'_, P> {
     fn write_front<W: fmt::Write>(&self, f: &mut Formatter<W>) -> fmt::Result {
         let statistics = &self.counts.quality.statistics;
         let others = &self.counts.others;
-        // what Announces tell isn't read
         write!(
             f,
-            "\"age\":{{{}}},\"announce\":null,\"bewares\":{},",
+            "\"age\":{{{}}},\"announce\":{},\"bewares\":{},",
             Ends::of_spread(&statistics.ages),
+            Announced(&self.counts.announces),
             Bewares(self.counts)
         )?;
         write!(
