@@ -17,6 +17,9 @@ use Rattle.recording_measure.specs.Made.{Measured}
 use Rattle.recording_summary.specs.declared.quality.Quality.{Quality}
 use Rattle.recording_summary.specs.Noted.{Noted, Reported}
 use Rattle.recording_summary.specs.declared.others.Others.{Others}
+use Rattle.recording_summary.specs.declared.announces.Announcement.{Announcement}
+use Rattle.recording_summary.specs.declared.announces.Announces.{Announces}
+use Rattle.recording_summary.specs.Announces.{AreAnnounces}
 use Rattle.recording_summary.specs.Others.{AreOthers}
 use Rattle.recording_summary.specs.Quality.{IsQuality}
 use Rattle.recording_measure.specs.declared.listener.Became.{Became}
@@ -28,6 +31,7 @@ use Rattle.recording_summary.specs.declared.no_report.NoReport.TheVariants as wh
 use Rattle.recording_summary.specs.Counts.{AreNone, kind_number, why_number, place_of, with_one, with_unreported}
 use Rattle.recording_measure.specs.Counts.{kind_of, kind_of_refused, why_refused, at_most}
 use Rattle.recording_measure.specs.Counts.{Fate, fate_in, early_fate, noted_of, meeting_of, is_so, IsCounts}
+use Rattle.recording_measure.specs.Announced.{announcement_said}
 use Rattle.recording_measure.specs.Meetings.{meeting_at}
 use Rattle.recording_measure.specs.Inner.Counting.{with_why, why_by, is_slave_anew, is_master_anew, is_anew}
 use Rattle.recording_measure.specs.Inner.Became.{became_of}
@@ -66,6 +70,10 @@ pub why_same : (kind : Kind) (why : Option NoReport) (counts : Counts) → (with
 why_same kind None counts = refl
 why_same kind (Some why) counts = refl
 
+announces_same : (kind : Kind) (why : Option NoReport) (counts : Counts) → (with_why kind why counts).announces ≡ counts.announces
+announces_same kind None counts = refl
+announces_same kind (Some why) counts = refl
+
 -- the counts of those that gave no report
 abbrev Table : List Fate → List ℕ → Type 0
 Table all there = (kind : Kind) (why : NoReport) → get_or there (place_of kind why) 0 ≡ at_most (count_by (is_so kind why) all)
@@ -103,6 +111,10 @@ module _ (fate : Fate) (all : List Fate) (there : List ℕ) (many : length there
           (counted ∙ ne_eqb mine (place_of kind why) other) (so kind why)
 
 -- ---- what is counted of a datagram, but for its report
+-- what the master announces by these
+abbrev pub announcements : List Fate → List Announcement
+announcements all = filter_map (λ fate. fate.announced) all
+
 -- a datagram was noted, and isn't counted yet
 pub record IsNoted (fate : Fate) (all : List Fate) (counts : Counts) : Type 0 where
   pub reports : counts.reports ≡ at_most (count_by (λ f. is_some f.measured) all)
@@ -110,6 +122,7 @@ pub record IsNoted (fate : Fate) (all : List Fate) (counts : Counts) : Type 0 wh
   pub places : length counts.unreported ≡ 140
   pub quality : IsQuality (map noted_of (fate ∷ all)) counts.quality
   pub others : AreOthers (filter_map meeting_of all) counts.others
+  pub announces : AreAnnounces (announcements all) counts.announces
 
 -- what is noted of it
 pub unreported_noted : (fate : Fate) → fate.measured ≡ None → (noted_of fate).reported ≡ None
@@ -125,35 +138,38 @@ noted_counts fate all counts later so others better = record {
   places = ap (λ (c : Counts). length c.unreported) others ∙ so.places;
   quality = better;
   others = subst (AreOthers (filter_map meeting_of all)) (sym (ap (λ (c : Counts). c.others) others)) so.others;
+  announces = subst (AreAnnounces (announcements all)) (sym (ap (λ (c : Counts). c.announces) others)) so.announces;
 }
 
-more_by : (why : Option NoReport) (fate : Fate) (all : List Fate) (counts : Counts) (others : Others) → fate.why ≡ why
+more_by : (why : Option NoReport) (fate : Fate) (all : List Fate) (counts : Counts) (others : Others) (announces : Announces) → fate.why ≡ why
     → fate.measured ≡ None → IsNoted fate all counts
-    → AreOthers (filter_map meeting_of (fate ∷ all)) others
-    → IsCounts (fate ∷ all) (record (with_why fate.kind why counts) { others = others })
-more_by None fate all counts others is unmeasured so met = record {
+    → AreOthers (filter_map meeting_of (fate ∷ all)) others → AreAnnounces (announcements (fate ∷ all)) announces
+    → IsCounts (fate ∷ all) (record (with_why fate.kind why counts) { others = others; announces = announces })
+more_by None fate all counts others announces is unmeasured so met told = record {
   reports = count_no (λ f. is_some f.measured) fate all counts.reports (ap is_some unmeasured) so.reports;
   unreported = table_none fate all counts.unreported so.places so.unreported is;
   places = so.places;
   quality = so.quality;
   others = met;
+  announces = told;
 }
-more_by (Some own) fate all counts others is unmeasured so met = record {
+more_by (Some own) fate all counts others announces is unmeasured so met told = record {
   reports = count_no (λ f. is_some f.measured) fate all counts.reports (ap is_some unmeasured) so.reports;
   unreported = table_more fate all counts.unreported so.places so.unreported own is;
   places = length-set counts.unreported (place_of fate.kind own) _ ∙ so.places;
   quality = so.quality;
   others = met;
+  announces = told;
 }
 
 -- of one that a port hears in this state
-pub heard_counts : (w : Watched) (d : Recorded) (m : Contents) (l : Listening) (b : Became) (all : List Fate) (counts : Counts)
-    (others : Others) → d.said ≡ Ok m → b ≡ became_of w d.line d.time m m.body l → IsNoted (fate_in w d l) all counts
+pub heard_counts : (w : Watched) (d : Recorded) (octets : List ℕ) (m : Contents) (l : Listening) (b : Became) (all : List Fate) (counts : Counts)
+    (others : Others) → d.said ≡ Ok m → b ≡ became_of w d.line d.time m m.body l → IsNoted (fate_in w d octets l) all counts
     → AreOthers (cons_option (meeting_at d.line d.time m.body m.header (why_by w.domain m.header b) (is_anew b)) (filter_map meeting_of all))
     others
-    → IsCounts (fate_in w d l ∷ all)
+    → IsCounts (fate_in w d octets l ∷ all)
     (record (with_why (kind_of m.body) (why_by w.domain m.header b) counts) { others = others })
-heard_counts w d m l b all counts others said is so met =
+heard_counts w d octets m l b all counts others said is so met =
     let own : Recorded = record d { said = Ok m } in
     let why = ap (why_by w.domain m.header) is ∙ why-became w d.line d.time m m.body l in
     let slave = ap is_slave_anew is ∙ slave-became w d.line d.time m m.body l in
@@ -161,23 +177,29 @@ heard_counts w d m l b all counts others said is so met =
     let met_at : Option NoReport → Bool → Bool → Type 0 =
     λ (y : Option NoReport) (s t : Bool). AreOthers (cons_option (meeting_at d.line d.time m.body m.header y (s || t)) (filter_map meeting_of all))
     others in
-    subst (λ (s : Reading). IsCounts (fate_in w (record d { said = s }) l ∷ all)
+    let noted : IsNoted (fate_in w own octets l) all counts =
+    subst (λ (s : Reading). IsNoted (fate_in w (record d { said = s }) octets l) all counts) said so in
+    subst (λ (s : Reading). IsCounts (fate_in w (record d { said = s }) octets l ∷ all)
     (record (with_why (kind_of m.body) (why_by w.domain m.header b) counts) { others = others })) (sym said)
-    (more_by (why_by w.domain m.header b) (fate_in w own l) all counts others (sym why) refl
-    (subst (λ (s : Reading). IsNoted (fate_in w (record d { said = s }) l) all counts) said so)
-    (subst (λ (it : Option NoReport × (Bool × Bool)). met_at it.0 it.1.0 it.1.1) (λ i. (why i, (slave i, master i))) met))
+    (subst (λ (a : Announces). IsCounts (fate_in w own octets l ∷ all)
+    (record (with_why (kind_of m.body) (why_by w.domain m.header b) counts) { others = others; announces = a }))
+    (sym (announces_same (kind_of m.body) (why_by w.domain m.header b) counts))
+    (more_by (why_by w.domain m.header b) (fate_in w own octets l) all counts others counts.announces (sym why) refl noted
+    (subst (λ (it : Option NoReport × (Bool × Bool)). met_at it.0 it.1.0 it.1.1) (λ i. (why i, (slave i, master i))) met)
+    noted.announces))
 
 -- of one that isn't one of the four messages
-pub refused_counts : (w : Watched) (d : Recorded) (refusal : DecodeRefusal) (l : Listening) (all : List Fate) (counts : Counts)
-    → d.said ≡ Err refusal → IsNoted (fate_in w d l) all counts
-    → IsCounts (fate_in w d l ∷ all)
-    (with_unreported (kind_of_refused refusal) (why_refused (kind_of_refused refusal)) counts)
-refused_counts w d refusal l all counts said so =
+pub refused_counts : (w : Watched) (d : Recorded) (octets : List ℕ) (refusal : DecodeRefusal) (l : Listening) (all : List Fate) (counts : Counts)
+    (announces : Announces) → d.said ≡ Err refusal → IsNoted (fate_in w d octets l) all counts
+    → AreAnnounces (cons_option (announcement_said w d.line (Err refusal) octets) (announcements all)) announces
+    → IsCounts (fate_in w d octets l ∷ all)
+    (record (with_unreported (kind_of_refused refusal) (why_refused (kind_of_refused refusal)) counts) { announces = announces })
+refused_counts w d octets refusal l all counts announces said so told =
     let own : Recorded = record d { said = Err refusal } in
-    subst (λ (s : Reading). IsCounts (fate_in w (record d { said = s }) l ∷ all)
-    (with_unreported (kind_of_refused refusal) (why_refused (kind_of_refused refusal)) counts)) (sym said)
-    (more_by (Some (why_refused (kind_of_refused refusal))) (fate_in w own l) all counts counts.others refl refl
-    (subst (λ (s : Reading). IsNoted (fate_in w (record d { said = s }) l) all counts) said so) so.others)
+    subst (λ (s : Reading). IsCounts (fate_in w (record d { said = s }) octets l ∷ all)
+    (record (with_unreported (kind_of_refused refusal) (why_refused (kind_of_refused refusal)) counts) { announces = announces })) (sym said)
+    (more_by (Some (why_refused (kind_of_refused refusal))) (fate_in w own octets l) all counts counts.others announces refl refl
+    (subst (λ (s : Reading). IsNoted (fate_in w (record d { said = s }) octets l) all counts) said so) so.others told)
 
 -- of one that came too early
 pub early_counts : (d : Recorded) (m : Contents) (all : List Fate) (counts : Counts) → d.said ≡ Ok m → IsNoted (early_fate d) all counts
@@ -186,8 +208,8 @@ early_counts d m all counts said so =
     let own : Recorded = record d { said = Ok m } in
     subst (λ (s : Reading). IsCounts (early_fate (record d { said = s }) ∷ all)
     (with_unreported (kind_of m.body) whys.TooEarly counts)) (sym said)
-    (more_by (Some whys.TooEarly) (early_fate own) all counts counts.others refl refl
-    (subst (λ (s : Reading). IsNoted (early_fate (record d { said = s })) all counts) said so) so.others)
+    (more_by (Some whys.TooEarly) (early_fate own) all counts counts.others counts.announces refl refl
+    (subst (λ (s : Reading). IsNoted (early_fate (record d { said = s })) all counts) said so) so.others so.announces)
 
 pub early_refused_counts : (d : Recorded) (refusal : DecodeRefusal) (all : List Fate) (counts : Counts) → d.said ≡ Err refusal
     → IsNoted (early_fate d) all counts
@@ -196,8 +218,8 @@ early_refused_counts d refusal all counts said so =
     let own : Recorded = record d { said = Err refusal } in
     subst (λ (s : Reading). IsCounts (early_fate (record d { said = s }) ∷ all)
     (with_unreported (kind_of_refused refusal) (why_refused (kind_of_refused refusal)) counts)) (sym said)
-    (more_by (Some (why_refused (kind_of_refused refusal))) (early_fate own) all counts counts.others refl refl
-    (subst (λ (s : Reading). IsNoted (early_fate (record d { said = s })) all counts) said so) so.others)
+    (more_by (Some (why_refused (kind_of_refused refusal))) (early_fate own) all counts counts.others counts.announces refl refl
+    (subst (λ (s : Reading). IsNoted (early_fate (record d { said = s })) all counts) said so) so.others so.announces)
 
 -- ---- of a report that was written
 same_head : (f g : Fate) (all : List Fate) (p : Fate → Bool) → p f ≡ p g → count_by p (f ∷ all) ≡ count_by p (g ∷ all)
@@ -220,6 +242,7 @@ written_counts fate all counts quality m unmeasured so better =
       places = so.places;
       quality = better;
       others = so.others;
+      announces = so.announces;
     }
 
 -- the report of a datagram is noted beside it
@@ -251,4 +274,5 @@ no_counts counts none = record {
   places = ap length none.unreported ∙ length-replicate {A = ℕ} 140 0;
   quality = none.quality;
   others = none.others;
+  announces = none.announces;
 }

@@ -1,5 +1,5 @@
 -- What comes of rows, with one more.
-use Rattle.std.proofs.Common.{◌≡◌, List, [], ◌∷◌, Option, Some, None, refl, sym, ap}
+use Rattle.std.proofs.Common.{◌≡◌, ℕ, List, [], ◌∷◌, Option, Some, None, refl, sym, ap}
 use Rattle.std.specs.Prelude.{option_to_list}
 use Rattle.recording_model.specs.declared.watched.Watched.{Watched}
 use Rattle.recording_model.specs.Listening.{after_all}
@@ -22,8 +22,8 @@ pub none_there : {T : Type 0} (o : Option T) → option_to_list o ≡ [] → o �
 none_there None is = refl
 none_there (Some y) is = cc
 
-pub fate-measured : (watched : Watched) (earlier : List Row) (row : Row) (d : Recorded) (m : Option Measured)
-    → row.datagram ≡ d → measured_at watched earlier row ≡ m
-    → record (fate_in watched d (after_all watched (datagrams earlier))) { measured = m } ≡ fate_at watched earlier row
-fate-measured watched earlier row d m same is = λ i.
-    record (fate_in watched (sym same i) (after_all watched (datagrams earlier))) { measured = sym is i }
+pub fate-measured : (watched : Watched) (earlier : List Row) (row : Row) (d : Recorded) (octets : List ℕ) (m : Option Measured)
+    → row.datagram ≡ d → row.octets ≡ octets → measured_at watched earlier row ≡ m
+    → record (fate_in watched d octets (after_all watched (datagrams earlier))) { measured = m } ≡ fate_at watched earlier row
+fate-measured watched earlier row d octets m same alike is = λ i.
+    record (fate_in watched (sym same i) (sym alike i) (after_all watched (datagrams earlier))) { measured = sym is i }

@@ -21,5 +21,6 @@ pub mod Told
 pub mod Watches
 pub mod Worked
 pub mod WorkedCapture
+pub mod WorkedAnnounce
 pub mod Places
 pub mod Settled

@@ -285,16 +285,19 @@ keeps_row rows old new d (k, more, copy) reads are =
     subst (λ (kept : List Kept). AreKeptRows [] kept (row_of (datagram_of d) ∷ rows)) (sym more)
     (AreKeptRows-more [] rows old k (row_of (datagram_of d)) are (record {
       written = sym copy.written;
+      octets = sym copy.octets;
       numbered = sym copy.numbered;
       moment_is = sym copy.moment_is;
       said = subst (λ (o : List ℕ). IsReading o (reading_of d.said)) (sym copy.octets) reads;
     }))
 
 -- what was kept of a datagram has one row
-pub kept_row : (k : Kept) (written : List ℕ) (said : Reading) (row : Row) → string_bytes k.written ≡ written → IsReading k.octets.items said
-    → IsRowOf k row → row ≡ record { time = written; datagram = record { line = k.number; time = k.time; said = said } }
-kept_row k written said row same reads is = λ i. record {
+pub kept_row : (k : Kept) (written octets : List ℕ) (said : Reading) (row : Row) → string_bytes k.written ≡ written
+    → k.octets.items ≡ octets → IsReading k.octets.items said
+    → IsRowOf k row → row ≡ record { time = written; octets = octets; datagram = record { line = k.number; time = k.time; said = said } }
+kept_row k written octets said row same alike reads is = λ i. record {
   time = (is.written ∙ same) i;
+  octets = (is.octets ∙ alike) i;
   datagram = record {
     line = is.numbered i;
     time = is.moment_is i;

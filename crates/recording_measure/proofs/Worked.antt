@@ -35,10 +35,11 @@ said config number body = Ok (record {
   suffix = [];
 })
 
--- a line with a time of so many seconds and microseconds
+-- a line with a time of so many seconds and microseconds; nothing is asked of its octets
 abbrev pub a_line : (number : ℕ) → List ℕ → (nanoseconds : ℕ) → Reading → Row
 a_line number time nanoseconds reading = record {
   time = time;
+  octets = [];
   datagram = record { line = number; time = nanoseconds * 65536; said = reading };
 }
 

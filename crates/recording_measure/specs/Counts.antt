@@ -22,8 +22,11 @@ use Rattle.slave_port.specs.History.{next_number}
 use Rattle.recording_model.specs.declared.watched.Watched.{Watched}
 use Rattle.recording_model.specs.Recorded.{Recorded}
 use Rattle.recording_model.specs.Listening.{Listening, setup_in, table_capacity, is_of, answered, after_all}
+use Rattle.recording_measure.specs.Announced.{announcement_said}
 use Rattle.recording_measure.specs.Begins.{sync_begins}
 use Rattle.recording_measure.specs.Made.{Measured}
+use Rattle.recording_summary.specs.declared.announces.Announcement.{Announcement}
+use Rattle.recording_summary.specs.Announces.{AreAnnounces}
 use Rattle.recording_summary.specs.Noted.{Noted}
 use Rattle.recording_summary.specs.declared.others.Meeting.{Meeting}
 use Rattle.recording_summary.specs.Others.{AreOthers}
@@ -146,7 +149,8 @@ master_begins w line time m (bodies.Sync origin) l = sync_begins w time m l
 master_begins w line time m body l = false
 
 -- ---- what came of each datagram
--- a datagram, what it is, why it gave no report or what was measured at it, and whether it says that one began anew
+-- a datagram, what it is, why it gave no report or what was measured at it, whether it says that one began anew, and what the master
+-- announces by it
 pub record Fate : Type 0 where
   pub datagram : Recorded
   pub kind : Kind
@@ -154,6 +158,7 @@ pub record Fate : Type 0 where
   pub measured : Option Measured
   pub slave_anew : Bool
   pub master_anew : Bool
+  pub announced : Option Announcement
 
 -- who began anew, by what octets say
 abbrev pub slave_said : Watched → Reading → Listening → Bool
@@ -164,21 +169,22 @@ abbrev pub master_said : Watched → (line time : ℕ) → Reading → Listening
 master_said w line time (Ok m) l = master_begins w line time m m.body l
 master_said w line time (Err refusal) l = false
 
--- what comes of a datagram that a port hears in this state, but for what is measured
-abbrev pub fate_in : Watched → Recorded → Listening → Fate
-fate_in w d l = record {
+-- what comes of a datagram of these octets that a port hears in this state, but for what is measured
+abbrev pub fate_in : Watched → Recorded → (octets : List ℕ) → Listening → Fate
+fate_in w d octets l = record {
   datagram = d;
   kind = kind_said d.said;
   why = why_said w d.line d.time d.said l;
   measured = None;
   slave_anew = slave_said w d.said l;
   master_anew = master_said w d.line d.time d.said l;
+  announced = announcement_said w d.line d.said octets;
 }
 
 -- what comes of a row, after these that were heard
 abbrev pub fate_at : Watched → (earlier : List Row) → Row → Fate
 fate_at w earlier row =
-    record (fate_in w row.datagram (after_all w (datagrams earlier))) { measured = measured_at w earlier row }
+    record (fate_in w row.datagram row.octets (after_all w (datagrams earlier))) { measured = measured_at w earlier row }
 
 -- what comes of rows that are heard
 abbrev pub fates : Watched → List Row → List Fate
@@ -194,6 +200,7 @@ early_fate d = record {
   measured = None;
   slave_anew = false;
   master_anew = false;
+  announced = None;
 }
 
 -- the same of rows
@@ -255,10 +262,11 @@ at_most count = min count (2 ^ 64 - 1)
 abbrev pub is_so : Kind → NoReport → Fate → Bool
 is_so kind why fate = option_map_or (λ own. place_of fate.kind own == place_of kind why) fate.why false
 
--- how many of these there are of each, what they are worth, and who else is there by them
+-- how many of these there are of each, what they are worth, who else is there by them, and what the master announces
 pub record IsCounts (all : List Fate) (counts : Counts) : Type 0 where
   pub reports : counts.reports ≡ at_most (count_by (λ fate. is_some fate.measured) all)
   pub unreported : (kind : Kind) (why : NoReport) → count_at counts kind why ≡ at_most (count_by (is_so kind why) all)
   pub places : length counts.unreported ≡ 140
   pub quality : IsQuality (map noted_of all) counts.quality
   pub others : AreOthers (filter_map meeting_of all) counts.others
+  pub announces : AreAnnounces (filter_map (λ fate. fate.announced) all) counts.announces

@@ -11,6 +11,7 @@ pub mod Places
 pub mod Chosen
 pub mod Summary
 pub mod Meetings
+pub mod Announced
 pub mod Counts
 pub mod Told
 pub mod Inner

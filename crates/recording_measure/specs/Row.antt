@@ -5,13 +5,15 @@ use Rattle.recording_model.specs.Recorded.{Recorded}
 use Rattle.recording_measure.specs.declared.watch.WantedPorts.{WantedPorts}
 use Rattle.recording_measure.specs.Watch.{watched_in}
 
--- a datagram of a recording: its time as it is written, and what a port takes of it
+-- a datagram of a recording: its time as it is written, its octets, and what a port takes of it
 pub record Row : Type 0 where
   pub time : List ℕ
+  pub octets : List ℕ
   pub datagram : Recorded
 
 abbrev pub row_of : DatagramOf → Row
-row_of d = record { time = d.written; datagram = record { line = d.number; time = d.time; said = d.said } }
+row_of d =
+    record { time = d.written; octets = d.octets; datagram = record { line = d.number; time = d.time; said = d.said } }
 
 -- what a port takes of rows
 abbrev pub datagrams : List Row → List Recorded

@@ -15,15 +15,17 @@ ghost use Rattle.recording_model.specs.Listening.{Listening, setup_with, table_c
 ghost use Rattle.recording_model.specs.Listening.{is_unicast, arrival_of, with_count, ready_sync};
 ghost use Rattle.recording_model.specs.Listening.{ready_follow_up, ready_response, hears_ready, asks, anew};
 ghost use Rattle.recording_model.specs.Listening.{hears_request, hears};
+ghost use Rattle.recording_measure.specs.Announced.{announcement_in};
 ghost use Rattle.recording_measure.specs.Begins.{sync_begins};
 ghost use Rattle.recording_measure.specs.Inner.Became.{reply_by, became_own_request, became_request, became_called, became_of};
 ghost use Rattle.recording_measure.specs.Inner.StandsFor.{StandsFor, Listens, Becomes, IsAnswered, IsExchanged};
 ghost use Rattle.recording_measure.specs.Inner.Steps.{Replies, Says, with_sync, with_follow_up, with_response, told_again};
 
-use event_codec::{Body, Header, Message, PortConfig, PortIdentity};
+use event_codec::{Body, Header, Message, PortConfig, PortIdentity, decode_announce};
 use pairing::RingTable;
 use ptp_units::{ScaledTime, Seq};
 use recording_model::Watched;
+use recording_summary::{Announced, Announcement};
 use slave_port::{Heard, HeldFollow, HeldRequest, HeldSync, LastExchange, SlavePort};
 use sync_watch::{Arrival, Judgement, ResponseWatch, SyncWatch};
 
@@ -165,6 +167,21 @@ impl Listener {
         ensures { result ≡ is_of self.now.watched port header.now }
     {
         header.domain == self.watched.domain && header.source == port
+    }
+
+    /// What the octets of this line or packet announce, if they are an Announce of the master.
+    pub(crate) fn announcement(&self, line: u64, octets: &[u8]) -> Option<Announcement>
+        ensures { result ≡ announcement_in self.now.watched line octets.now }
+    {
+        match decode_announce(octets) {
+            Some(announce) if self.is_of(self.watched.master, &announce.header) => {
+                Some(Announcement {
+                    line,
+                    announced: Announced::of(&announce),
+                })
+            }
+            _ => None,
+        }
     }
 
     /// Whether this is the header of a Delay_Resp of the master, where it is to this port.

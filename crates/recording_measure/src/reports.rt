@@ -144,7 +144,8 @@ impl Reports {
             × (result ≡ completion watched earlier (recorded_of datagram.now)) }
         ensures counted { (watched : Watched) (earlier : List Recorded) (all : List Fate)
             → StandsFor watched listener.old (after_all watched earlier) → IsCounts all self.old.tally.counts
-            → IsCounts (fate_in watched (recorded_of datagram.now) (after_all watched earlier) ∷ all) self.new.tally.counts }
+            → IsCounts (fate_in watched (recorded_of datagram.now) datagram.now.octets.now (after_all watched earlier) ∷ all)
+            self.new.tally.counts }
         ensures form { self.new.form ≡ self.old.form }
     {
         self.tally.note(datagram);
@@ -152,6 +153,8 @@ impl Reports {
             Ok(message) => message,
             Err(refusal) => {
                 self.tally.count_refused(*refusal);
+                self.tally
+                    .count_announcement(listener.announcement(datagram.number, datagram.octets));
                 return None;
             }
         };

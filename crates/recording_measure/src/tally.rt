@@ -1,6 +1,8 @@
 //! What each datagram counts as: what it is, why it gave no report if it gave none, and who began anew by it.
 
 ghost use Rattle.std.specs.Prelude.{◌≡◌, List, [], ◌∷◌, map, Some, None};
+ghost use Rattle.recording_summary.specs.Announces.{AreAnnounces};
+ghost use Rattle.recording_summary.specs.declared.announces.Announcement.{Announcement};
 ghost use Rattle.recording_summary.specs.Counts.{with_one, with_unreported};
 ghost use Rattle.recording_measure.specs.Counts.{kind_of, kind_of_refused, why_answered, why_refused};
 ghost use Rattle.std.specs.Result.{result_err};
@@ -20,7 +22,7 @@ use crate::reports::Made;
 use datagram_source::Datagram;
 use event_codec::{Body, DecodeRefusal, Header, Message};
 use ptp_units::ScaledTime;
-use recording_summary::{Counts, Kind, NoReport};
+use recording_summary::{Announcement, Counts, Kind, NoReport};
 use slave_port::{Heard, Reason};
 
 fn kind_of(body: &Body) -> Kind
@@ -203,6 +205,15 @@ impl Tally {
                 .count(kind_of(&message.body), NoReport::TooEarly),
             Err(refusal) => self.count_refused(*refusal),
         }
+    }
+
+    /// Counts an Announce of the master, if there is one.
+    pub(crate) fn count_announcement(&mut self, announcement: Option<Announcement>)
+        ensures announced { (all : List Announcement) → AreAnnounces all self.old.counts.announces
+            → AreAnnounces (cons_option announcement all) self.new.counts.announces }
+        ensures others { self.new.counts ≡ record self.old.counts { announces = self.new.counts.announces } }
+    {
+        self.counts.announces.take_some(announcement);
     }
 
     /// Counts what isn't one of the four messages.

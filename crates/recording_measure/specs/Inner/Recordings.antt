@@ -22,6 +22,7 @@ use Rattle.recording_measure.specs.Inner.Watching.{IsWatch}
 -- a row is that of what was kept of its datagram
 pub record IsRowOf (k : Kept) (row : Row) : Type 0 where
   pub written : row.time ≡ string_bytes k.written
+  pub octets : row.octets ≡ k.octets.items
   pub numbered : row.datagram.line ≡ k.number
   pub moment_is : row.datagram.time ≡ k.time
   pub said : IsReading k.octets.items row.datagram.said

@@ -56,7 +56,7 @@ returns-in_default-clause-counted g c = λ watched earlier all listens so.
     let none = none_there (measured_at watched earlier row)
     (nothing_said watched earlier row d refl c.listen.result heard.1 c.in_default.is) in
     subst (λ (f : Fate). IsCounts (f ∷ all) c.listen.new.self.tally.counts)
-    (fate-measured watched earlier row d None refl none) (c.listen.ensures.counted watched (datagrams earlier) all listens so)
+    (fate-measured watched earlier row d row.octets None refl refl none) (c.listen.ensures.counted watched (datagrams earlier) all listens so)
 
 pub returns-clause-counted : goal.returns-clause-counted
 returns-clause-counted g c = λ watched earlier all listens so.
@@ -64,11 +64,11 @@ returns-clause-counted g c = λ watched earlier all listens so.
     let row : Row = row_of (datagram_of c.args.datagram.now) in
     let heard = c.listen.ensures.heard watched (datagrams earlier) listens in
     let m : Measured = measured_by c.in-Some.completed row.time d.line in
-    let fate : Fate = fate_in watched d (after_all watched (datagrams earlier)) in
+    let fate : Fate = fate_in watched d row.octets (after_all watched (datagrams earlier)) in
     let is = one_there (measured_at watched earlier row) m
     (said_at watched earlier row d refl c.listen.result c.in-Some.completed row.time heard.1 c.in-Some.is refl) in
     subst (λ (f : Fate). OnOk c.write.result (IsCounts (f ∷ all) c.write.new.self.tally.counts))
-    (fate-measured watched earlier row d (Some m) refl is)
+    (fate-measured watched earlier row d row.octets (Some m) refl refl is)
     ((rw (c.at.ensures, c.as_str.ensures.value, c.in_ok-push.ensures ∙ ap (λ (b : List ℕ). b ++ row.time) c.clear.ensures.bytes)
     at c.write.ensures.counted) fate all refl
     (sym (ap (λ (x : Measured). x.line) c.at.ensures)) refl
