@@ -302,7 +302,7 @@ def reads_of(packets):
     """The datagrams of PTP, each with its packet."""
     for place, it in enumerate(packets, 1):
         if message(it):
-            yield measured.Read(place, texts.seconds(it.time), it.time * 2**16, said_by(it))
+            yield measured.Read(place, texts.seconds(it.time), it.time * 2**16, said_by(it), message(it))
 
 
 def doubts(said):

@@ -27,16 +27,17 @@ class Wanted(typing.NamedTuple):
 
 
 class Datagram(typing.NamedTuple):
-    """A datagram: the number and the time of its packet, and the message that it is, or the refusal in words."""
+    """A datagram: the number and the time of its packet, the message that it is, or the refusal in words, and its octets."""
     number: int
     time: int
     said: shown.Message | str
+    octets: bytes
 
     def is_message(self):
         return not isinstance(self.said, str)
 
     def read(self):
-        return measured.Read(self.number, seconds(self.time), self.time * 2**16, self.said)
+        return measured.Read(self.number, seconds(self.time), self.time * 2**16, self.said, self.octets)
 
 
 def called(place):
@@ -68,7 +69,7 @@ class Choice:
         # how many datagrams came before the one by which it was known whom to watch, with that one
         self.count = 0
         for row in rows:
-            datagram = Datagram(row.number, row.time, shown.message(row.datagram))
+            datagram = Datagram(row.number, row.time, shown.message(row.datagram), row.datagram)
             self.take((row.interface.name, self.settled(row)), datagram)
 
     def settled(self, row):
@@ -140,4 +141,4 @@ def summary(watched, early, heard):
     counts = measurer.counts
     counts.update(f'{it.said.kind} too early' if it.is_message() else it.said for it in early)
     reads = [(it.time * 2**16, it.said) for it in [*early, *heard]]
-    yield from measured.summary(counts, reads, measurer.reports, measurer.became, 'packet')
+    yield from measured.summary(counts, reads, measurer.reports, measurer.became, measurer.announced, 'packet')

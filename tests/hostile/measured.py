@@ -7,6 +7,7 @@ import re
 import typing
 from fractions import Fraction
 
+import announces
 import shown
 import texts
 import worth
@@ -35,8 +36,8 @@ LINE = re.compile(rb'(0|[1-9][0-9]{0,14})(?:\.([0-9]{1,9}))? ((?:[0-9a-fA-F]{2})
 IDENTITIES = [re.compile(form) for form in (
     r'([0-9a-fA-F]{16})/([0-9]{1,5})', r'([0-9a-fA-F]{6}\.[0-9a-fA-F]{4}\.[0-9a-fA-F]{6})-([0-9]{1,5})')]
 
-# A line with what it said; and what completed on either side, with the tick at which it did, when it left and came, and its corrections.
-Read = collections.namedtuple('Read', 'place time units said')
+# A line with what it said, and its octets; and what completed on either side, with the tick at which it did, when it left and came, and its corrections.
+Read = collections.namedtuple('Read', 'place time units said octets')
 Completed = collections.namedtuple('Completed', 'tick bracket tags sequence left came correction')
 
 # The columns of a row, and those of it in full.
@@ -300,6 +301,8 @@ class Measurer:
         self.life, self.responses = Life(), collections.deque(maxlen=KNOWN)
         self.syncs = 0
         self.counts, self.reports = collections.Counter(), []
+        # The Announces of the master, each with its place.
+        self.announced = []
         # What became of each message, in order; and whether the master begins its numbers anew with the one that is being heard.
         self.became, self.begins = [], False
 
@@ -308,6 +311,9 @@ class Measurer:
         said = read.said
         if isinstance(said, str):
             self.counts[said] += 1
+            announce = announces.read(read.octets)
+            if announce and [announce.domain, announce.source] == [self.watched[0], self.watched[2]]:
+                self.announced.append((read.place, announce.told))
             return ''
         answer = self.request(read) if said.kind == 'Delay_Req' else self.answer(read)
         is_report = isinstance(answer, tuple)
@@ -405,7 +411,8 @@ def read(place, line):
     decimals = (said[2] or b'').decode().ljust(9, '0')
     time = said[0].split(b' ')[0].decode()
     units = (int(said[1]) * 10**9 + int(decimals)) * 2**16
-    return Read(place, time, units, message(bytes.fromhex(said[3].decode()))), None
+    octets = bytes.fromhex(said[3].decode())
+    return Read(place, time, units, message(octets), octets), None
 
 
 def kind_of(said):
@@ -453,14 +460,16 @@ def callers(given, said):
         yield f'{kind}s of others: {texts.listed(sources)}' if sources else f'nobody sent a {kind}'
 
 
-def summary(counts, reads, written, became, unit='line'):
-    """What is told at the end: of reads the times, in order, and what was said; of reports what they are of; of messages what became of them."""
+def summary(counts, reads, written, became, announced, unit='line'):
+    """What is told at the end: of reads the times, in order, and what was said; of reports what they are of; of messages what became of them; and the
+    Announces of the master."""
     for sentence in worth.beware(unit, counts, reads, written, became):
         yield f'beware: {sentence}'
     reports = counts.pop('reports', 0)
     counts.pop('master anew', 0)
     yield f'{reports or "no"} report{"s" if reports > 1 else ""}'
     yield from datagrams(counts)
+    yield from announces.sentences(unit, announced)
     yield from worth.flows(unit, written, became)
     yield from worth.statistics(unit, written)
 
@@ -493,8 +502,8 @@ def reckoned(lines, given=Options(), unit='line'):
         kept = []
     counts = measurer.counts if measurer else collections.Counter()
     counts.update(one.said if isinstance(one.said, str) else f'{one.said.kind} too early' for one in early + kept)
-    reports, became = (measurer.reports, measurer.became) if measurer else ([], [])
-    those, told = list(whom(watch, unit)), list(summary(counts.copy(), reads, reports, became, unit))
+    reports, became, announced = (measurer.reports, measurer.became, measurer.announced) if measurer else ([], [], [])
+    those, told = list(whom(watch, unit)), list(summary(counts.copy(), reads, reports, became, announced, unit))
     if measurer and reads:
         return Reckoned(written, counts, those, told)
     messages = [said for _, said in reads if not isinstance(said, str)]

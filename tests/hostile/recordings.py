@@ -2,6 +2,7 @@
 that jump and begin anew, Syncs that aren't newer, steps and slopes, and lines at the edges of what is a line."""
 import random
 
+import announces
 import inputs
 import shown
 import texts
@@ -21,6 +22,10 @@ CORRECTIONS = [0, 0, 0, 0, 1, -1, 65536, 22515 * 2**16, 2**62, 2**63 - 2, -2**63
 
 # Types of messages that have no use here.
 OTHERS = [0x02, 0x03, 0x0a, 0x0b, 0x0c, 0x0d]
+
+# What Announces tell, at the edges of each field.
+TOLD = [announces.Told(MASTERS[0][:8]), announces.Told(MASTERS[0][:8], clock_class=248), announces.Told(MASTERS[0][:8], is_valid=False),
+        announces.Told(SLAVES[1][:8], 255, 65535, -32768, is_ptp=False), announces.Told(bytes(8), 0, 256, 32767), announces.Told(bytes([255] * 8), 7, 1, 0)]
 
 # Times that are one and that are none.
 TIMES = ['0', '0.0', '0.000000001', '1.5', '281474976710655.999999999', '281474976710655', '9.100000000']
@@ -214,6 +219,14 @@ def fill(rng, tape):
     complete((first + 2) % 2**16)
 
 
+def announce(rng, tape):
+    """An Announce of the master or of another one, whole or cut short."""
+    octets = announces.made(rng.choice([tape.master, tape.master, *MASTERS]), rng.choice([TOLD[0], *TOLD]), tape.sync, rng.choice([tape.domain, tape.domain, 1]),
+                            rng.choice([0, announces.OTHER_FLAGS]), rng.choice([0, 0, 255]), rng.choice([b'', b'', bytes(4)]))
+    end = rng.choice([len(octets)] * 8 + [54, 63, 64])
+    return octets[:end] + bytes(rng.choice([0, 0, 0, 2]))
+
+
 def stranger(rng, tape):
     """A message of another master, slave or domain, to another slave, of another type, or none."""
     was = tape.master, tape.slave, tape.domain, tape.request
@@ -230,7 +243,8 @@ def stranger(rng, tape):
     elif what == 3:
         tape.delay_resp(tape.request, rng.choice([SLAVES[1], MASTERS[0], SLAVES[0][:9] + b'\0', bytes(10)]))
     elif what == 4:
-        tape.put(datagram(rng.choice(OTHERS), tape.master, tape.sync, requesting=tape.slave))
+        kind = rng.choice(OTHERS)
+        tape.put(datagram(kind, tape.master, tape.sync, requesting=tape.slave) if kind != announces.ANNOUNCE else announce(rng, tape))
     else:
         answer = datagram(9, tape.master, tape.request, requesting=tape.slave)
         tape.put(rng.choice([b'', bytes(33), bytes(34), bytes(44), answer[:53], datagram(9, tape.master, tape.request),
