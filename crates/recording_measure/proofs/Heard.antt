@@ -31,6 +31,10 @@ pub on_ok_both : {T E P Q S : Type 0} (r : Result T E) → (P → Q → S) → O
 on_ok_both (Ok x) f p q = f p q
 on_ok_both (Err e) f p q = tt
 
+pub on_ok_all : {T E P Q R S : Type 0} (r : Result T E) → (P → Q → R → S) → OnOk r P → OnOk r Q → OnOk r R → OnOk r S
+on_ok_all (Ok x) f p q s = f p q s
+on_ok_all (Err e) f p q s = tt
+
 -- what is measured at a row by its report, and by the exchange that it was made of
 abbrev pub measured_with : Half → (line : ℕ) → (time : List ℕ) → Option LastExchange → Option Report → List Measured
 measured_with by line time exchange report = option_to_list

@@ -37,6 +37,7 @@ use Rattle.recording_measure.specs.Inner.StandsFor.{StandsFor}
 use Rattle.recording_measure.specs.Inner.Recordings.{AreKeptRows, AreRecordings, BeginsWith, IsFoundAt, IsNoticed}
 use Rattle.recording_measure.specs.Told.{place_in}
 use Rattle.recording_measure.specs.Counts.{early_at, IsCounts}
+use Rattle.recording_measure.specs.Recents.{AreRecents}
 use Rattle.recording_measure.proofs.InputFates.{none_so_far}
 use Rattle.recording_measure.proofs.KeptRows.{one_there}
 use Rattle.recording_measure.proofs.Chosen.{chosen-stays, input-stays, heard-known, measured-more, measured-other}
@@ -47,14 +48,16 @@ use Rattle.recording_measure.proofs.Goes.{texts-append, until_whole}
 pub still_looking : (task : Measuring) (k : Read) (r : PlacedRow) (count : ℕ) → task.reports.reports.form ≡ k.form
     → task.wanted ≡ k.wanted → task.stage ≡ Looking count → count ≡ min (length k.rows + 1) kept_most
     → chosen k.wanted (r ∷ k.rows) ≡ None → AreRecordings k.wanted (r ∷ k.rows) task.recordings.recordings.items
-    → IsCounts [] task.reports.reports.tally.counts → IsMeasuring task (with_row r k)
-still_looking task k r count form wanted stage counted none are nothing = record {
+    → IsCounts [] task.reports.reports.tally.counts → AreRecents [] task.reports.reports.recents → IsMeasuring task (with_row r k)
+still_looking task k r count form wanted stage counted none are nothing recents = record {
   form = form;
   wanted = wanted;
   stage = subst (IsStage k.wanted (r ∷ k.rows) task.recordings.recordings.items) (sym stage) (none, are, omega (arith, counted));
   whom = ap (λ (s : Stage). whom_at s task.recordings.recordings.items) stage
       ∙ sym (ap (option_map (λ i. whom_in k.wanted (datagrams (rows_at i (r ∷ k.rows))))) none);
   counts = none_so_far k.wanted (r ∷ k.rows) task.reports.reports.tally.counts none nothing;
+  recents = subst (λ (ms : List Measured). AreRecents ms task.reports.reports.recents)
+      (sym (measured-unknown k.wanted (r ∷ k.rows) none)) recents;
 }
 
 -- what one more row adds, whatever it is

@@ -6,10 +6,12 @@ pub mod Watch
 pub mod Row
 pub mod Made
 pub mod Measured
+pub mod Recents
 pub mod Measure
 pub mod Places
 pub mod Chosen
 pub mod Summary
+pub mod Summed
 pub mod Meetings
 pub mod Announced
 pub mod Counts

@@ -10,7 +10,7 @@ use Rattle.datagram_source.specs.Datagram.{DatagramOf}
 use Rattle.datagram_source.specs.Rules.{DatagramRules, is_field}
 use Rattle.recording_measure.specs.Made.{Measured}
 use Rattle.recording_measure.specs.declared.form.Form.{Form}
-use Rattle.recording_measure.specs.declared.form.Form.TheVariants.{Json, Table, FullJson, FullTable}
+use Rattle.recording_measure.specs.declared.form.Form.TheVariants.{Json, Table, FullJson, FullTable, Sums}
 use Rattle.recording_measure.specs.declared.watch.WantedPorts.{WantedPorts}
 use Rattle.recording_measure.specs.Places.{PlacedRow, placed}
 use Rattle.recording_measure.specs.Measured.{GoesWhole}
@@ -75,3 +75,4 @@ head_text Json = []
 head_text Table = table_head
 head_text FullJson = []
 head_text FullTable = full.table_head
+head_text Sums = []

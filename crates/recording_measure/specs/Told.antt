@@ -9,7 +9,9 @@ use Rattle.recording_measure.specs.declared.place.Place.{Place}
 use Rattle.recording_measure.specs.declared.recording.Recording.{Recording as Known}
 use Rattle.recording_measure.specs.Places.{PlaceName}
 use Rattle.recording_measure.specs.Chosen.{chosen}
-use Rattle.recording_measure.specs.Measure.{Recording}
+use Rattle.recording_measure.specs.Measure.{Recording, measured_so_far}
+use Rattle.recording_measure.specs.declared.recents.Recents.{Recents}
+use Rattle.recording_measure.specs.Recents.{AreRecents}
 use Rattle.recording_measure.specs.Summary.{told_whom}
 use Rattle.recording_measure.specs.Counts.{told_fates, IsCounts}
 
@@ -19,6 +21,9 @@ whom_told summary = summary.whom
 
 abbrev pub counts_told : Summary → Counts
 counts_told summary = summary.counts
+
+abbrev pub recents_told : Summary → Recents
+recents_told summary = summary.task.reports.reports.recents
 
 -- what a place is called that is kept
 abbrev pub kept_name : Place → PlaceName
@@ -44,3 +49,4 @@ pub record IsSummary (summary : Summary) (r : Recording) : Type 0 where
   pub whom : whom_told summary ≡ told_whom r.wanted r.rows
   pub interface : interface_told summary ≡ called (chosen r.wanted r.rows)
   pub counts : IsCounts (told_fates r.wanted r.rows) (counts_told summary)
+  pub recents : AreRecents (measured_so_far r) (recents_told summary)

@@ -16,6 +16,8 @@ pub enum Form {
     FullJson,
     /// Rows of a table with the exchange that each was made of.
     FullTable,
+    /// Not at all: what they come to is asked for.
+    Sums,
 }
 
 impl Form {
@@ -24,7 +26,7 @@ impl Form {
         ensures { result.now ≡ head_text self }
     {
         match self {
-            Form::Json | Form::FullJson => "",
+            Form::Json | Form::FullJson | Form::Sums => "",
             Form::Table => table_head(),
             Form::FullTable => crate::exchange::table_head(),
         }

@@ -1,21 +1,30 @@
 //! An input that is measured.
 
-ghost use Rattle.std.specs.Prelude.{◌≡◌, option_map};
+ghost use Rattle.std.specs.Prelude.{◌≡◌, ⊤, List, MatchResult, option_map};
 ghost use Rattle.std.specs.Option.{ForSome};
-ghost use Rattle.text_lines.specs.Counted.{device_of};
+ghost use Rattle.text_lines.specs.Counted.{device_of, HasNotFailed, HasFailedIf};
+ghost use Rattle.text_lines.specs.Fault.{is_write};
 ghost use Rattle.datagram_source.specs.Input.{AnswersInput, OutcomeFailed};
 ghost use Rattle.datagram_source.specs.Left.{LeavesInput};
 ghost use Rattle.recording_measure.specs.Measure.{begun, head_text, measure_rules};
-ghost use Rattle.recording_measure.specs.Told.{whom_told, counts_told, interface_told, IsSummary};
+ghost use Rattle.recording_measure.specs.Summed.{WritesLine};
+ghost use Rattle.recording_measure.specs.Told.{whom_told, counts_told, interface_told, recents_told, IsSummary};
+ghost use Rattle.recording_measure.specs.Made.{Measured};
+ghost use Rattle.recording_measure.specs.Recents.{AreRecents, offsets, paths};
+ghost use Rattle.statistics.specs.Median.{last};
+ghost use Rattle.statistics.specs.Percentile.{AreRanks};
 
 use crate::form::Form;
 use crate::measuring::Measuring;
+use crate::places_text::PlacesText;
 use crate::watch::WantedPorts;
 use datagram_source::{InputOutcome, PacketCounts, answer_datagrams};
-use recording_summary::{Counts, Whom};
-use std::alloc::Global;
+use recording_summary::{Counts, Sums, Whom};
+use statistics::Ranks;
+use std::alloc::{AllocError, Global};
+use std::fmt::Write as _;
 use std::io::{Read, Write};
-use text_lines::{Counted, LineFault};
+use text_lines::{Counted, LineFault, write_text};
 
 /// What is told of an input beside its reports.
 #[derive(Drop)]
@@ -48,6 +57,46 @@ impl Summary {
         ensures { option_map (λ name. name.now) result ≡ interface_told self.now }
     {
         self.task.interface()
+    }
+
+    /// Ranks of the last 4,096 offsets of reports that a Sync completed, in 2^-17 ns, if there are any.
+    pub fn offset_ranks(&self, alloc: Global) -> Result<Option<Ranks>, AllocError>
+        ensures { (all : List Measured) → AreRecents all (recents_told self.now)
+            → MatchResult result (AreRanks (last (offsets all))) (λ _. ⊤) }
+    {
+        self.task.recents().offset_ranks(alloc)
+    }
+
+    /// Ranks of the last 4,096 path delays of reports that a Delay_Resp completed, in 2^-17 ns, if there are any.
+    pub fn path_ranks(&self, alloc: Global) -> Result<Option<Ranks>, AllocError>
+        ensures { (all : List Measured) → AreRecents all (recents_told self.now)
+            → MatchResult result (AreRanks (last (paths all))) (λ _. ⊤) }
+    {
+        self.task.recents().path_ranks(alloc)
+    }
+
+    /// Writes what was measured, in one line of JSON and in one write.
+    pub fn write_sums<W: Write>(
+        &self,
+        alloc: Global,
+        output: &mut Counted<W>,
+    ) -> Result<(), LineFault>
+        ensures written { WritesLine result (W.contents (device_of output.old)) (W.contents (device_of output.new)) }
+        ensures failures { MatchResult result
+            (λ _. HasNotFailed output.old output.new)
+            (λ fault. HasFailedIf (is_write fault) output.old output.new) }
+    {
+        let sums = Sums {
+            whom: self.whom,
+            counts: &self.counts,
+            offsets: self.offset_ranks(alloc)?,
+            paths: self.path_ranks(alloc)?,
+            places: PlacesText(&self.task),
+        };
+        let mut text = String::new(alloc);
+        write!(text, "{sums}")?;
+        text.push('\n')?;
+        write_text(text.as_str(), output)
     }
 
     /// Tells the summary, in lines; of whom the input is only what is known, if not all is. What can't be written is lost.

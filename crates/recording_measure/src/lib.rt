@@ -12,6 +12,8 @@ mod meetings;
 mod moment;
 mod place;
 mod place_counts;
+mod places_text;
+mod recents;
 mod recording;
 mod reports;
 mod tally;

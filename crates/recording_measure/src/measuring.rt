@@ -10,6 +10,7 @@ ghost use Rattle.recording_measure.specs.Row.{Row, row_of};
 ghost use Rattle.recording_measure.specs.Places.{name_in};
 ghost use Rattle.recording_measure.specs.Chosen.{stays_at, settled};
 ghost use Rattle.recording_measure.specs.Measured.{measurements};
+ghost use Rattle.recording_measure.specs.Recents.{AreRecents};
 ghost use Rattle.recording_measure.specs.Measure.{Recording as Read, begun, measure_rules};
 ghost use Rattle.recording_measure.specs.Summary.{told_whom};
 ghost use Rattle.recording_measure.specs.Counts.{Fate, fates, told_fates, IsCounts};
@@ -21,6 +22,7 @@ ghost use Rattle.recording_measure.specs.Inner.Measuring.{IsMeasuring, IsLooking
 use crate::form::Form;
 use crate::listener::Listener;
 use crate::place_counts::PlaceCounts;
+use crate::recents::Recents;
 use crate::recording::{Recording, Recordings};
 use crate::reports::TimedReports;
 use crate::tally::Tally;
@@ -234,6 +236,10 @@ impl Measuring {
             → IsCounts [] self.old.reports.reports.tally.counts
             → ((d : Recording) → IsCounts early (get_or self.old.recordings.recordings.items index d).early.counts)
             → OnOk result (IsCounts (fates watched rows ++ (if is_kept then [] else early)) self.new.reports.reports.tally.counts) }
+        ensures recents { (rows : List Row)
+            → BeginsWith is_kept self.old.recordings.recordings.items index (row_of (datagram_of datagram.now)) rows
+            → AreRecents [] self.old.reports.reports.recents
+            → OnOk result (AreRecents (measurements watched rows) self.new.reports.reports.recents) }
         ensures wanted { self.new.wanted ≡ self.old.wanted }
         ensures recordings { self.new.recordings ≡ self.old.recordings }
         ensures failures { MatchResult result
@@ -291,6 +297,36 @@ impl Measuring {
             Stage::Looking(_) => None,
             Stage::Hearing(index, _) => self.recordings.name(*index),
         }
+    }
+
+    /// The last numbers of the reports.
+    pub(crate) fn recents(&self) -> &Recents
+        ensures { result.now ≡ self.now.reports.reports.recents }
+    {
+        &self.reports.reports.recents
+    }
+
+    /// The places that are looked at, and what is known at each.
+    pub(crate) fn places(&self) -> &[Recording] {
+        self.recordings.all()
+    }
+
+    /// The index of the place that is measured, once one is.
+    pub(crate) fn measured(&self) -> Option<usize> {
+        match &self.stage {
+            Stage::Looking(_) => None,
+            Stage::Hearing(index, _) => Some(*index),
+        }
+    }
+
+    /// How many datagrams were met at the place of an index, which isn't measured.
+    pub(crate) fn count_at(&self, index: usize) -> u64 {
+        self.at_places.at(index)
+    }
+
+    /// How many datagrams were met at places that weren't looked at.
+    pub(crate) fn count_elsewhere(&self) -> u64 {
+        self.at_places.others()
     }
 
     /// Whether no place was met.

@@ -90,3 +90,30 @@ impl Display for Place {
         write!(f, "{}", self.stream)
     }
 }
+
+/// What a place is called, as a text of JSON; null for one that has no name.
+#[derive(Clone, Copy)]
+pub(crate) struct InQuotes<'a>(pub(crate) &'a Place);
+
+/// What JSON wants before an octet as it shows, where that has `\` or `"`.
+fn escape_before(octet: u8) -> &'static str {
+    match octet {
+        // these show as `\"` and `\\`
+        b'"' | b'\\' => "\\\\",
+        b' '..=b'&' | b'('..=b'~' => "",
+        _ => "\\",
+    }
+}
+
+impl Display for InQuotes<'_> {
+    fn fmt<W: fmt::Write>(&self, f: &mut Formatter<W>) -> fmt::Result {
+        let Some(name) = &self.0.name else {
+            return f.write_str("null");
+        };
+        f.write_str("\"")?;
+        for octet in name {
+            write!(f, "{}{}", escape_before(*octet), octet.escape_ascii())?;
+        }
+        write!(f, "{}\"", self.0.stream)
+    }
+}

@@ -8,7 +8,9 @@ ghost use Rattle.recording_model.specs.Listening.{after_all};
 ghost use Rattle.recording_model.specs.Recorded.{Recorded};
 ghost use Rattle.datagram_source.specs.Datagram.{datagram_of};
 ghost use Rattle.recording_measure.specs.Row.{Row, row_of, datagrams};
+ghost use Rattle.recording_measure.specs.Made.{Measured};
 ghost use Rattle.recording_measure.specs.Measured.{half_of, text_as, measured_at, measurements};
+ghost use Rattle.recording_measure.specs.Recents.{AreRecents};
 ghost use Rattle.recording_measure.specs.Counts.{Fate, fate_in, fate_at, fates, IsCounts};
 ghost use Rattle.recording_measure.specs.Inner.Recordings.{AreKeptRows};
 ghost use Rattle.recording_measure.specs.Inner.Became.{exchange_by};
@@ -18,6 +20,7 @@ ghost use Rattle.recording_measure.specs.Inner.Hearing.{recorded_of, completion,
 
 use crate::form::Form;
 use crate::listener::{Became, Listener};
+use crate::recents::Recents;
 use crate::recording::Kept;
 use crate::tally::Tally;
 use datagram_source::Datagram;
@@ -106,7 +109,7 @@ fn push_as(form: Form, text: &mut String, made: &Made<'_>) -> Result<(), AllocEr
         (Form::Table, _) => push_row(text, measured),
         (Form::FullJson, Some(exchange)) => crate::exchange::push_json(text, measured, exchange),
         (Form::FullTable, Some(exchange)) => crate::exchange::push_row(text, measured, exchange),
-        (Form::FullJson | Form::FullTable, None) => Ok(()),
+        (Form::FullJson | Form::FullTable, None) | (Form::Sums, _) => Ok(()),
     }
 }
 
@@ -117,6 +120,7 @@ pub(crate) struct Reports {
     /// The line of the last one, in the one text that all share.
     text: String,
     pub(crate) tally: Tally,
+    pub(crate) recents: Recents,
 }
 
 impl Reports {
@@ -124,11 +128,13 @@ impl Reports {
     pub(crate) fn new(alloc: Global, form: Form) -> Reports
         ensures form { result.form ≡ form }
         ensures counted { IsCounts [] result.tally.counts }
+        ensures recents { AreRecents [] result.recents }
     {
         Reports {
             form,
             text: String::new(alloc),
             tally: Tally::new(),
+            recents: Recents::new(alloc),
         }
     }
 
@@ -146,6 +152,7 @@ impl Reports {
             → StandsFor watched listener.old (after_all watched earlier) → IsCounts all self.old.tally.counts
             → IsCounts (fate_in watched (recorded_of datagram.now) datagram.now.octets.now (after_all watched earlier) ∷ all)
             self.new.tally.counts }
+        ensures recents { self.new.recents ≡ self.old.recents }
         ensures form { self.new.form ≡ self.old.form }
     {
         self.tally.note(datagram);
@@ -185,6 +192,8 @@ impl Reports {
         ensures counted { (fate : Fate) (all : List Fate) → fate.measured ≡ None → fate.datagram.line ≡ made.now.measured.line
             → fate.datagram.time ≡ time → IsCounts (fate ∷ all) self.old.tally.counts
             → OnOk result (IsCounts (record fate { measured = Some (made_of made.now) } ∷ all) self.new.tally.counts) }
+        ensures recents { (earlier : List Measured) → AreRecents earlier self.old.recents
+            → OnOk result (AreRecents (made_of made.now ∷ earlier) self.new.recents) }
         ensures form { self.new.form ≡ self.old.form }
         ensures failures { MatchResult result
             (λ _. HasNotFailed output.old output.new)
@@ -192,6 +201,7 @@ impl Reports {
     {
         self.text.clear();
         push_as(self.form, &mut self.text, made)?;
+        self.recents.take(made)?;
         write_text::<W, LineFault>(self.text.as_str(), output)?;
         self.tally.count_report(time, made);
         Ok(())
@@ -211,6 +221,7 @@ impl TimedReports {
     pub(crate) fn new(alloc: Global, form: Form) -> TimedReports
         ensures form { result.reports.form ≡ form }
         ensures counted { IsCounts [] result.reports.tally.counts }
+        ensures recents { AreRecents [] result.reports.recents }
     {
         TimedReports {
             reports: Reports::new(alloc, form),
@@ -233,6 +244,10 @@ impl TimedReports {
         ensures counted { (watched : Watched) (earlier : List Row) (all : List Fate)
             → StandsFor watched listener.old (after_all watched (datagrams earlier)) → IsCounts all self.old.reports.tally.counts
             → OnOk result (IsCounts (fate_at watched earlier (row_of (datagram_of datagram.now)) ∷ all) self.new.reports.tally.counts) }
+        ensures recents { (watched : Watched) (earlier : List Row) (all : List Measured)
+            → StandsFor watched listener.old (after_all watched (datagrams earlier)) → AreRecents all self.old.reports.recents
+            → OnOk result (AreRecents (option_to_list (measured_at watched earlier (row_of (datagram_of datagram.now))) ++ all)
+            self.new.reports.recents) }
         ensures of_output { MatchResult result (λ _. ⊤) IsOfOutput }
         ensures form { self.new.reports.form ≡ self.old.reports.form }
         ensures failures { MatchResult result
@@ -266,6 +281,9 @@ impl TimedReports {
         ensures counted { (watched : Watched) (rows : List Row) → AreKeptRows [] kept.now rows
             → StandsFor watched listener.old (after_all watched []) → IsCounts [] self.old.reports.tally.counts
             → OnOk result (IsCounts (fates watched rows) self.new.reports.tally.counts) }
+        ensures recents { (watched : Watched) (rows : List Row) → AreKeptRows [] kept.now rows
+            → StandsFor watched listener.old (after_all watched []) → AreRecents [] self.old.reports.recents
+            → OnOk result (AreRecents (measurements watched rows) self.new.reports.recents) }
         ensures of_output { MatchResult result (λ _. ⊤) IsOfOutput }
         ensures form { self.new.reports.form ≡ self.old.reports.form }
         ensures failures { MatchResult result

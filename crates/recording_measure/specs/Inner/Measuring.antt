@@ -18,6 +18,7 @@ use Rattle.recording_measure.specs.Places.{PlacedRow, placed}
 use Rattle.recording_measure.specs.Chosen.{chosen, heard_at, input_watched}
 use Rattle.recording_measure.specs.Measure.{Recording, measured_so_far, with_row}
 use Rattle.recording_measure.specs.Counts.{IsCounts}
+use Rattle.recording_measure.specs.Recents.{AreRecents}
 use Rattle.recording_measure.specs.Told.{place_in}
 use Rattle.recording_measure.specs.Inner.Counting.{CountsSoFar}
 use Rattle.recording_measure.specs.Inner.Stages.{whom_at, input_whom}
@@ -47,6 +48,7 @@ pub record IsMeasuring (task : Measuring) (r : Recording) : Type 0 where
   pub stage : IsStage r.wanted r.rows task.recordings.recordings.items task.stage
   pub whom : whom_at task.stage task.recordings.recordings.items ≡ input_whom r.wanted r.rows
   pub counts : CountsSoFar r.wanted (chosen r.wanted r.rows) r.rows task.reports.reports.tally.counts
+  pub recents : AreRecents (measured_so_far r) task.reports.reports.recents
 
 -- A datagram comes by which it isn't known yet whom to watch. It was counted, and is kept where few came before.
 pub record IsLooking (task : Measuring) (r : Recording) (is_kept : Bool) : Type 0 where
@@ -56,6 +58,7 @@ pub record IsLooking (task : Measuring) (r : Recording) (is_kept : Bool) : Type 
   pub recordings : AreRecordings r.wanted r.rows task.recordings.recordings.items
   pub kept : is_kept ≡ nat_lt (length r.rows) kept_most
   pub nothing : IsCounts [] task.reports.reports.tally.counts
+  pub recents : AreRecents [] task.reports.reports.recents
   pub counted : (count : ℕ) × (task.stage ≡ Looking count) × (count ≡ min (length r.rows + 1) kept_most)
 
 -- a datagram was taken, which belongs here, and the reports that it brings went out, or some of them before a fault

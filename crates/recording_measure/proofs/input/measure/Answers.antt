@@ -30,4 +30,5 @@ returns-clause-summary g c = λ octets known.
       interface = ap called
           (place_chosen r.wanted r.rows outcome.result.1.recordings.recordings.items outcome.result.1.stage at.stage);
       counts = c.counts.ensures r at;
+      recents = at.recents;
     }) outcome.result.0 (outcome.ensures.left (begun c.args.form c.args.wanted.now) c.new-task.ensures octets known)

@@ -82,3 +82,18 @@ returns-clause-counted g c = λ rows early begins so there.
           rw (w.self-is, w.if-is_kept.false, same)
           (w.in_ok-hear.ensures.counted c.args.watched [] early c.new-listener.ensures own)
     ]
+
+pub returns-clause-recents : goal.returns-clause-recents
+returns-clause-recents g c = λ rows begins none.
+    let recordings = c.args.self.now.recordings.recordings.items in
+    let row : Row = row_of (datagram_of c.args.datagram.now) in
+    elim c.if-is_kept.branch [
+      | then-is_kept+in_ok-hear_kept w ↦
+          let kept = those_kept c.args.is_kept recordings c.args.index row rows w.if-is_kept.true begins in
+          rw w.self-is (w.in_ok-hear_kept.ensures.recents c.args.watched rows
+          (one_there recordings c.args.index c.requires.index
+          (λ d. subst (λ (k : List Kept). AreKeptRows [] k rows) (sym (w.kept.ensures d)) (kept d))) c.new-listener.ensures none)
+      | else-is_kept+in_ok-hear w ↦
+          let same : rows ≡ row ∷ [] = alone c.args.is_kept recordings c.args.index row rows w.if-is_kept.false begins in
+          rw (w.self-is, same) (w.in_ok-hear.ensures.recents c.args.watched [] [] c.new-listener.ensures none)
+    ]

@@ -8,13 +8,15 @@ use Rattle.recording_measure.specs.declared.form.Form.{Form}
 use Rattle.recording_measure.specs.declared.recording.Recordings.{Recordings}
 use Rattle.recording_measure.specs.declared.watch.WantedPorts.{WantedPorts}
 use Rattle.recording_measure.specs.Row.{Row, datagrams}
+use Rattle.recording_measure.specs.Made.{Measured}
 use Rattle.recording_measure.specs.Measured.{measurements}
+use Rattle.recording_measure.specs.Recents.{AreRecents}
 use Rattle.recording_measure.specs.Places.{PlaceName, PlacedRow, placed, places_in, rows_at}
 use Rattle.recording_measure.specs.Chosen.{chosen, watched_at}
 use Rattle.recording_measure.specs.Inner.Measuring.{IsStage}
 use Rattle.recording_measure.specs.Inner.Hearing.{Goes}
 use Rattle.recording_measure.specs.Inner.Recordings.{AreRecordings, IsFoundAt}
-use Rattle.recording_measure.proofs.Chosen.{input-first, measured-first, measured-still}
+use Rattle.recording_measure.proofs.Chosen.{input-first, measured-first, measured-known, measured-still}
 use Rattle.recording_measure.proofs.Goes.{GoesUntil-none}
 use Rattle.recording_measure.proofs.KeptRows.{one_there}
 use Rattle.recording_measure.proofs.Looking.{still_looking, adds_all, unlooked_still, unknown_still, noticed_there, begins_with, chosen_now, not_found}
@@ -24,7 +26,7 @@ use Rattle.recording_measure.specs.Counts.{Fate, early_at, IsCounts}
 use Rattle.recording_measure.proofs.InputFates.{so_far, first-fates}
 use Rattle.recording_measure.proofs.Places.{same_place}
 use Rattle.recording_measure.proofs.Looking.{early_there}
-use Rattle.recording_measure.proofs.Heard.{on_ok_both}
+use Rattle.recording_measure.proofs.Heard.{on_ok_all}
 use Rattle.recording_measure.proofs.measuring.Measuring.look.Goals as goal
 
 pub returns-in_err-found-clause-taken : goal.returns-in_err-found-clause-taken
@@ -42,7 +44,7 @@ returns-in_default-clause-taken g c = λ k at.
     let none : chosen k.wanted (r ∷ k.rows) ≡ None = unlooked_still k.wanted k.rows r at.unchosen
     (not_found r.place (places_in (r ∷ k.rows)) c.in_ok-found.found c.take.new.self.recordings.items found c.in_default.not-Some) in (
       still_looking _ k r at.counted.0 at.form at.wanted at.counted.1 at.counted.2 none
-          (subst (λ (w : WantedPorts). AreRecordings w (r ∷ k.rows) c.take.new.self.recordings.items) at.wanted are) at.nothing,
+          (subst (λ (w : WantedPorts). AreRecordings w (r ∷ k.rows) c.take.new.self.recordings.items) at.wanted are) at.nothing at.recents,
       [],
       measured-still k.wanted k.rows r at.unchosen none,
       Appends-nil _,
@@ -70,8 +72,12 @@ returns-in-Some-watched-clause-taken g c = λ k at.
     (begins_with k.wanted k.rows r recordings c.in-Some.index are within there c.args.is_kept r.row at.kept refl) in
     let counts = c.begin.ensures.counted heard (early_at k.wanted r.place (rows_at r.place (r ∷ k.rows)))
     (begins_with k.wanted k.rows r recordings c.in-Some.index are within there c.args.is_kept r.row at.kept refl) at.nothing
-    (early_there k.wanted k.rows r recordings c.in-Some.index are within there) in (
-      on_ok_both c.begin.result (λ hearing counted. record {
+    (early_there k.wanted k.rows r recordings c.in-Some.index are within there) in
+    let recents = c.begin.ensures.recents heard
+    (begins_with k.wanted k.rows r recordings c.in-Some.index are within there c.args.is_kept r.row at.kept refl) at.recents in
+    let measured = measured-known k.wanted (r ∷ k.rows) c.in-Some-watched.watched
+    (input-first k.wanted k.rows r c.in-Some-watched.watched is known) ∙ ap (measurements c.in-Some-watched.watched) same in (
+      on_ok_all c.begin.result (λ hearing counted last. record {
         form = c.begin.ensures.form ∙ at.form;
         wanted = c.begin.ensures.wanted ∙ at.wanted;
         stage = subst (λ (it : Recordings). IsStage k.wanted (r ∷ k.rows) it.recordings.items c.begin.new.self.stage)
@@ -87,7 +93,8 @@ returns-in-Some-watched-clause-taken g c = λ k at.
             (sym (first-fates k.wanted r.place k.rows r c.args.is_kept c.in-Some-watched.watched heard
             ((same_place r.place r.place).1 refl) known
             (input-first k.wanted k.rows r c.in-Some-watched.watched is known) refl same)) counted);
-      }) begun.0 counts,
+        recents = subst (λ (ms : List Measured). AreRecents ms c.begin.new.self.reports.reports.recents) (sym measured) last;
+      }) begun.0 counts recents,
       measurements c.in-Some-watched.watched heard,
       measured-first k.wanted k.rows r c.in-Some-watched.watched heard at.unchosen
           (input-first k.wanted k.rows r c.in-Some-watched.watched is known) same,
@@ -111,7 +118,7 @@ returns-in-None-clause-taken g c = λ k at.
     ∙ sym (c.watched.ensures k.wanted (datagrams (rows_at r.place (r ∷ k.rows))) d
     (noticed_there k.wanted k.rows r recordings c.in-Some.index are within there d)) ∙ c.in-None.is) in
     let none : chosen k.wanted (r ∷ k.rows) ≡ None = unknown_still k.wanted k.rows r at.unchosen not_known in (
-      still_looking _ k r at.counted.0 at.form at.wanted at.counted.1 at.counted.2 none are at.nothing,
+      still_looking _ k r at.counted.0 at.form at.wanted at.counted.1 at.counted.2 none are at.nothing at.recents,
       [],
       measured-still k.wanted k.rows r at.unchosen none,
       Appends-nil _,

@@ -8,4 +8,5 @@ returns c = record {
   stage = (refl, c.new.ensures c.args.wanted.now, refl);
   whom = refl;
   counts = c.new-2.ensures.counted;
+  recents = c.new-2.ensures.recents;
 }

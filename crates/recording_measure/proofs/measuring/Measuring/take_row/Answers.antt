@@ -7,8 +7,10 @@ use Rattle.recording_measure.specs.declared.form.Form.{Form}
 use Rattle.recording_measure.specs.declared.recording.Recording.{Recording}
 use Rattle.recording_measure.specs.Places.{PlacedRow, placed, is_same_place}
 use Rattle.recording_measure.specs.Row.{kept_most}
+use Rattle.recording_measure.specs.Made.{Measured}
 use Rattle.recording_measure.specs.Measured.{measured_at}
-use Rattle.recording_measure.specs.Chosen.{heard_at}
+use Rattle.recording_measure.specs.Recents.{AreRecents}
+use Rattle.recording_measure.specs.Chosen.{heard_at, input_measured}
 use Rattle.recording_measure.specs.Inner.Measuring.{IsStage}
 use Rattle.recording_measure.specs.Inner.Hearing.{Goes}
 use Rattle.recording_measure.specs.Told.{place_in}
@@ -18,8 +20,8 @@ use Rattle.recording_measure.specs.declared.measuring.Stage.{Stage}
 use Rattle.recording_measure.specs.Inner.Stages.{whom_at, input_whom}
 use Rattle.recording_measure.specs.Counts.{Fate, input_fates, IsCounts}
 use Rattle.recording_measure.proofs.InputFates.{so_far, so_far_known, none_known, more-fates, other-fates}
-use Rattle.recording_measure.proofs.Chosen.{chosen-stays}
-use Rattle.recording_measure.proofs.Heard.{on_ok_then, on_ok_both}
+use Rattle.recording_measure.proofs.Chosen.{chosen-stays, measured-unknown}
+use Rattle.recording_measure.proofs.Heard.{on_ok_then, on_ok_all}
 use Rattle.recording_measure.proofs.measuring.Measuring.take_row.Goals as goal
 use Rattle.recording_measure.proofs.measuring.Measuring.take_row.Goals.{then-is_kept, else-is_kept}
 
@@ -36,6 +38,8 @@ returns-after-is_kept-clause-taken g c = λ k at.
         recordings = are;
         kept = few;
         nothing = none_known k.wanted k.rows c.args.self.now.reports.reports.tally.counts none at.counts;
+        recents = subst (λ (ms : List Measured). AreRecents ms c.args.self.now.reports.reports.recents)
+            (measured-unknown k.wanted k.rows none) at.recents;
         counted = (c.in-Looking.count + 1, refl, omega (arith, counted, w.if-is_kept.true));
       })
       | else-is_kept w ↦ rw w.self-is (record {
@@ -45,6 +49,8 @@ returns-after-is_kept-clause-taken g c = λ k at.
         recordings = are;
         kept = few;
         nothing = none_known k.wanted k.rows c.args.self.now.reports.reports.tally.counts none at.counts;
+        recents = subst (λ (ms : List Measured). AreRecents ms c.args.self.now.reports.reports.recents)
+            (measured-unknown k.wanted k.rows none) at.recents;
         counted = (c.in-Looking.count, refl, omega (arith, counted, w.if-is_kept.false));
       })
     ])
@@ -73,8 +79,10 @@ returns-then-is_at-clause-taken g c = λ k at.
     (subst (λ (all : List Fate). IsCounts all c.hear.new.self.reports.tally.counts)
     (sym (more-fates k.wanted (place_in (get_or recordings c.in-Hearing.index d)) k.rows r watched (is d) known (same d))) so))
     (c.hear.ensures.counted watched (heard_at k.wanted k.rows)
-    (input_fates k.wanted (place_in (get_or recordings c.in-Hearing.index d)) k.rows) listens (before d))) in (
-      on_ok_both c.hear.result (λ listens so. record {
+    (input_fates k.wanted (place_in (get_or recordings c.in-Hearing.index d)) k.rows) listens (before d))) in
+    let more = measures_more k.wanted k.rows r recordings c.in-Hearing.index watched within is known same in
+    let recents = c.hear.ensures.recents watched (heard_at k.wanted k.rows) (input_measured k.wanted k.rows) listens at.recents in (
+      on_ok_all c.hear.result (λ listens so last. record {
         form = c.hear.ensures.form ∙ at.form;
         wanted = at.wanted;
         stage = hears_more k.wanted k.rows r recordings c.in-Hearing.index watched within is known c.hear.new.listener same listens;
@@ -82,9 +90,10 @@ returns-then-is_at-clause-taken g c = λ k at.
             ∙ sym (one_there recordings c.in-Hearing.index within (λ d. input_whom_stays k.wanted k.rows r
             (place_in (get_or recordings c.in-Hearing.index d)) watched (is d) known));
         counts = so;
-      }) heard.0 counted,
+        recents = subst (λ (ms : List Measured). AreRecents ms c.hear.new.self.reports.recents) (sym more) last;
+      }) heard.0 counted recents,
       option_to_list (measured_at watched (heard_at k.wanted k.rows) r.row),
-      measures_more k.wanted k.rows r recordings c.in-Hearing.index watched within is known same,
+      more,
       subst (λ (f : Form). Goes f c.hear.result (option_to_list (measured_at watched (heard_at k.wanted k.rows) r.row))
           (g.W.Write.contents (device_of c.args.output.now)) (g.W.Write.contents (device_of c.hear.new.output))) at.form heard.1,
     )
@@ -95,7 +104,8 @@ returns-else-is_at-clause-taken g c = λ k at.
     let recordings = c.args.self.now.recordings.recordings.items in
     let (watched, within, is, known, listens) = subst (IsStage k.wanted k.rows recordings) c.in-Hearing.is at.stage in
     let other : (d : Recording) → is_same_place (place_in (get_or recordings c.in-Hearing.index d)) r.place ≡ false =
-    λ d. sym (c.is_at.ensures d) ∙ c.if-is_at.false in (
+    λ d. sym (c.is_at.ensures d) ∙ c.if-is_at.false in
+    let none = measures_nothing k.wanted k.rows r recordings c.in-Hearing.index watched within is known other in (
       record {
         form = at.form;
         wanted = at.wanted;
@@ -111,8 +121,9 @@ returns-else-is_at-clause-taken g c = λ k at.
             (sym (other-fates k.wanted (place_in (get_or recordings c.in-Hearing.index d)) k.rows r watched (is d) known (other d)))
             (so_far_known k.wanted k.rows (place_in (get_or recordings c.in-Hearing.index d))
             c.args.self.now.reports.reports.tally.counts (is d) at.counts)));
+        recents = subst (λ (ms : List Measured). AreRecents ms c.args.self.now.reports.reports.recents) (sym none) at.recents;
       },
       [],
-      measures_nothing k.wanted k.rows r recordings c.in-Hearing.index watched within is known other,
+      none,
       Appends-nil _,
     )

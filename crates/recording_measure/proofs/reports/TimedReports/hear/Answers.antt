@@ -9,6 +9,7 @@ use Rattle.recording_model.specs.Recorded.{Recorded}
 use Rattle.recording_measure.specs.Row.{Row, row_of, datagrams}
 use Rattle.datagram_source.specs.Datagram.{datagram_of}
 use Rattle.recording_measure.specs.Measured.{measured_at, texts_as}
+use Rattle.recording_measure.specs.Recents.{AreRecents}
 use Rattle.recording_model.specs.Listening.{after_all}
 use Rattle.recording_measure.specs.Counts.{Fate, fate_in, IsCounts}
 use Rattle.recording_measure.proofs.Fates.{one_there, none_there, fate-measured}
@@ -73,3 +74,22 @@ returns-clause-counted g c = λ watched earlier all listens so.
     at c.write.ensures.counted) fate all refl
     (sym (ap (λ (x : Measured). x.line) c.at.ensures)) refl
     (c.listen.ensures.counted watched (datagrams earlier) all listens so))
+
+pub returns-in_default-clause-recents : goal.returns-in_default-clause-recents
+returns-in_default-clause-recents g c = λ watched earlier all listens so.
+    let d : Recorded = recorded_of c.args.datagram.now in
+    let row : Row = row_of (datagram_of c.args.datagram.now) in
+    let heard = c.listen.ensures.heard watched (datagrams earlier) listens in
+    subst (λ (ms : List Measured). AreRecents (ms ++ all) c.listen.new.self.recents)
+    (sym (nothing_said watched earlier row d refl c.listen.result heard.1 c.in_default.is))
+    (subst (AreRecents all) (sym c.listen.ensures.recents) so)
+
+pub returns-clause-recents : goal.returns-clause-recents
+returns-clause-recents g c = λ watched earlier all listens so.
+    let d : Recorded = recorded_of c.args.datagram.now in
+    let row : Row = row_of (datagram_of c.args.datagram.now) in
+    let heard = c.listen.ensures.heard watched (datagrams earlier) listens in
+    subst (λ (ms : List Measured). OnOk c.write.result (AreRecents (ms ++ all) c.write.new.self.recents))
+    (sym (said_at watched earlier row d refl c.listen.result c.in-Some.completed row.time heard.1 c.in-Some.is refl))
+    ((rw (c.at.ensures, c.as_str.ensures.value, c.in_ok-push.ensures ∙ ap (λ (b : List ℕ). b ++ row.time) c.clear.ensures.bytes)
+    at c.write.ensures.recents) all (subst (AreRecents all) (sym c.listen.ensures.recents) so))

@@ -8,6 +8,7 @@ use Rattle.recording_model.specs.Listening.{after_all}
 use Rattle.recording_measure.specs.Row.{Row, datagrams}
 use Rattle.recording_measure.specs.Measured.{texts_as, measured_at, measurements}
 use Rattle.recording_measure.specs.Counts.{fates, IsCounts}
+use Rattle.recording_measure.specs.Recents.{AreRecents}
 use Rattle.recording_measure.specs.Inner.StandsFor.{StandsFor}
 use Rattle.recording_measure.proofs.Goes.{texts-after}
 use Rattle.recording_measure.proofs.KeptRows.{are_next, kept_until}
@@ -16,7 +17,7 @@ use Rattle.recording_measure.proofs.reports.TimedReports.hear_kept.Goals as goal
 pub returns-in_err-hear-clause-heard : goal.returns-in_err-hear-clause-heard
 returns-in_err-hear-clause-heard g c = λ watched rows are begun.
     let e = err_from_is_err_and c.from_residual.result c.from_residual.ensures.1 in
-    let (earlier, left, listens, appended, counts) = c.loop-it.invariant.heard watched rows are begun in
+    let (earlier, left, listens, appended, counts, recents) = c.loop-it.invariant.heard watched rows are begun in
     let within : c.loop-it.it-index < length c.args.kept.now = omega arith in
     let next = are_next earlier rows c.args.kept.now c.loop-it.it-index c.it-item.result within c.it-item.is left in
     let same = c.datagram.ensures.only next.0 next.1 in
@@ -30,7 +31,7 @@ returns-in_err-hear-clause-heard g c = λ watched rows are begun.
 pub loop-it-preserved : goal.loop-it-preserved
 loop-it-preserved g c = record {
   heard = λ watched rows are begun.
-      let (earlier, left, listens, appended, counts) = c.loop-it.invariant.heard watched rows are begun in
+      let (earlier, left, listens, appended, counts, recents) = c.loop-it.invariant.heard watched rows are begun in
       let within : c.loop-it.it-index < length c.args.kept.now = omega arith in
       let next = are_next earlier rows c.args.kept.now c.loop-it.it-index c.it-item.result within c.it-item.is left in
       let same = c.datagram.ensures.only next.0 next.1 in
@@ -45,6 +46,8 @@ loop-it-preserved g c = record {
             (rw c.loop-it.invariant.form at heard.1)),
         λ so. subst (λ (row : Row). IsCounts (fates watched (row ∷ earlier)) c.hear.new.self.reports.tally.counts) (sym same)
             (c.in_ok-hear.ensures.counted watched earlier (fates watched earlier) listens (counts so)),
+        λ so. subst (λ (row : Row). AreRecents (measurements watched (row ∷ earlier)) c.hear.new.self.reports.recents) (sym same)
+            (c.in_ok-hear.ensures.recents watched earlier (measurements watched earlier) listens (recents so)),
       );
   form = c.in_ok-hear.ensures.form ∙ c.loop-it.invariant.form;
   writer = search rules;
@@ -52,14 +55,21 @@ loop-it-preserved g c = record {
 
 pub returns-clause-heard : goal.returns-clause-heard
 returns-clause-heard g c = λ watched rows are begun.
-    let (earlier, left, listens, appended, counts) = c.loop-it.invariant.heard watched rows are begun in
+    let (earlier, left, listens, appended, counts, recents) = c.loop-it.invariant.heard watched rows are begun in
     let past : length c.args.kept.now ≤ c.loop-it.it-index = omega arith in
     let all : rows ≡ earlier = rw (drop_of_length-le c.args.kept.now past) at left in
     rw all (listens, appended)
 
 pub returns-clause-counted : goal.returns-clause-counted
 returns-clause-counted g c = λ watched rows are begun so.
-    let (earlier, left, listens, appended, counts) = c.loop-it.invariant.heard watched rows are begun in
+    let (earlier, left, listens, appended, counts, recents) = c.loop-it.invariant.heard watched rows are begun in
     let past : length c.args.kept.now ≤ c.loop-it.it-index = omega arith in
     let all : rows ≡ earlier = rw (drop_of_length-le c.args.kept.now past) at left in
     rw all (counts so)
+
+pub returns-clause-recents : goal.returns-clause-recents
+returns-clause-recents g c = λ watched rows are begun so.
+    let (earlier, left, listens, appended, counts, recents) = c.loop-it.invariant.heard watched rows are begun in
+    let past : length c.args.kept.now ≤ c.loop-it.it-index = omega arith in
+    let all : rows ≡ earlier = rw (drop_of_length-le c.args.kept.now past) at left in
+    rw all (recents so)

@@ -7,6 +7,7 @@ use Rattle.recording_model.specs.Listening.{after_all}
 use Rattle.recording_measure.specs.Row.{Row, datagrams}
 use Rattle.recording_measure.specs.Measured.{texts_as, measurements}
 use Rattle.recording_measure.specs.Counts.{fates, IsCounts}
+use Rattle.recording_measure.specs.Recents.{AreRecents}
 use Rattle.recording_measure.specs.Inner.StandsFor.{StandsFor}
 use Rattle.recording_measure.specs.Inner.Recordings.{AreKeptRows}
 use Rattle.recording_measure.proofs.reports.TimedReports.hear_kept.Given as goal
@@ -19,7 +20,8 @@ invariant-loop-it g l = record {
       × StandsFor watched l.listener (after_all watched (datagrams earlier))
       × Appends (g.W.Write.contents (device_of l.fn.output)) (g.W.Write.contents (device_of l.output))
       (texts_as l.fn.self.reports.form (measurements watched earlier))
-      × (IsCounts [] l.fn.self.reports.tally.counts → IsCounts (fates watched earlier) l.self.reports.tally.counts);
+      × (IsCounts [] l.fn.self.reports.tally.counts → IsCounts (fates watched earlier) l.self.reports.tally.counts)
+      × (AreRecents [] l.fn.self.reports.recents → AreRecents (measurements watched earlier) l.self.reports.recents);
   form : l.self.reports.form ≡ l.fn.self.reports.form;
   writer : HasNotFailed l.fn.output l.output;
 }
