@@ -36,6 +36,8 @@ pub struct MeasureOptions {
     pub full: bool,
     /// Whether the exit status tells that there is no report, or that anything speaks against the numbers.
     pub strict: bool,
+    /// Whether the output is what the reports come to, in place of these, and neither CSV nor full.
+    pub sum: bool,
 }
 
 /// The options of `follow`.

@@ -2,18 +2,20 @@
 #![tactic(auto)]
 
 ghost use Rattle.measure_command.specs.Run.{RunsMeasure, form_of, outcome_status, is_beyond_limit, are_refused, is_refused, judged};
+ghost use Rattle.measure_command.specs.Run.{is_field, leaves_sums, EndsAs, EndsWithSums};
 ghost use Rattle.recording_summary.specs.declared.beware.Rounded.{Rounded};
-ghost use Rattle.std.specs.Prelude.{◌≡◌};
+ghost use Rattle.std.specs.Prelude.{◌≡◌, ◌&&◌};
 
+use capture_file::CaptureCause;
 use capture_report::finish_capture;
 use command_options::MeasureOptions;
 use datagram_source::InputOutcome;
 use fault_report::finish;
 use ptp_units::ScaledTime;
-use recording_measure::{Counts, Form, WantedPorts, measure};
+use recording_measure::{Counts, Form, Summary, WantedPorts, measure};
 use std::alloc::Global;
 use std::io::{Read, Write};
-use text_lines::{Counted, LineFault, Stopped};
+use text_lines::{Cause, Counted, LineFault, Numbered, Stopped};
 
 /// What is told where the packets of an interface are asked for, and there are lines.
 const LINES_HAVE_NO_INTERFACE: &[u8] =
@@ -22,7 +24,7 @@ const LINES_HAVE_NO_INTERFACE: &[u8] =
 /// What is told of an input of no octet.
 const EMPTY: &[u8] = b"ptpx: the input is empty\n";
 
-/// Measures a recording or a capture, tells what came of it beside the reports, and answers the exit status.
+/// Measures a recording or a capture, writes and tells what came of it beside the reports, and answers the exit status.
 pub fn run_measure<R: Read, W: Write, E: Write>(
     alloc: Global,
     options: MeasureOptions,
@@ -41,6 +43,8 @@ pub fn run_measure<R: Read, W: Write, E: Write>(
     let form = form_of(&options);
     let (outcome, summary) = measure(alloc, &wanted, form, input, output, errors);
     let status = finish_outcome(errors, outcome);
+    let is_asked = asks_sums(&options, &outcome);
+    let status = end_with_sums(alloc, is_asked, &summary, status, output, errors);
     tell_lines(&outcome, options.interface.is_some(), errors);
     summary.tell(errors);
     judged(status, is_refused(&options, &summary.counts()))
@@ -85,7 +89,9 @@ fn judged(status: u8, is_refused: bool) -> u8
 fn form_of(options: &MeasureOptions) -> Form
     ensures { result ≡ form_of options.now }
 {
-    if options.full {
+    if options.sum {
+        Form::Sums
+    } else if options.full {
         if options.csv {
             Form::FullTable
         } else {
@@ -95,6 +101,82 @@ fn form_of(options: &MeasureOptions) -> Form
         Form::Table
     } else {
         Form::Json
+    }
+}
+
+/// Whether a fault says that a line isn't what is asked for.
+fn is_field(fault: LineFault) -> bool
+    ensures { result ≡ is_field fault }
+{
+    match fault {
+        LineFault::Field => true,
+        LineFault::Write | LineFault::Memory => false,
+    }
+}
+
+/// Whether sums are written after this outcome: at the end, and after a fault of reading or of the input.
+fn leaves_sums(outcome: &InputOutcome<LineFault>) -> bool
+    ensures { result ≡ leaves_sums outcome.now }
+{
+    match outcome {
+        InputOutcome::Lines(Ok(_)) | InputOutcome::Capture(Ok(_)) => true,
+        InputOutcome::Lines(Err(stop)) => match stop.what {
+            Cause::Reading(_) => true,
+            Cause::Task(fault) => is_field(fault),
+        },
+        InputOutcome::Capture(Err(stop)) => match stop.what {
+            CaptureCause::Read | CaptureCause::Capture(_) => true,
+            CaptureCause::Memory => false,
+            CaptureCause::Task(fault) => is_field(fault),
+        },
+    }
+}
+
+/// Whether sums are asked for, and written after this outcome.
+fn asks_sums(options: &MeasureOptions, outcome: &InputOutcome<LineFault>) -> bool
+    ensures { result ≡ (options.now.sum && leaves_sums outcome.now) }
+{
+    options.sum && leaves_sums(outcome)
+}
+
+/// Writes the sums, where they are asked for, and answers the exit status.
+fn end_with_sums<W: Write, E: Write>(
+    alloc: Global,
+    is_asked: bool,
+    summary: &Summary,
+    status: u8,
+    output: &mut Counted<W>,
+    errors: &mut E,
+) -> u8
+    ensures { EndsAs W.contents is_asked status result output.old output.new }
+{
+    if is_asked {
+        finish_sums(alloc, summary, status, output, errors)
+    } else {
+        status
+    }
+}
+
+/// Writes the sums. Answers the exit status, and says the fault where they can't be written.
+fn finish_sums<W: Write, E: Write>(
+    alloc: Global,
+    summary: &Summary,
+    status: u8,
+    output: &mut Counted<W>,
+    errors: &mut E,
+) -> u8
+    ensures { EndsWithSums W.contents status result output.old output.new }
+{
+    match summary.write_sums(alloc, output) {
+        Ok(()) => status,
+        Err(fault) => {
+            let _ = writeln!(
+                errors,
+                "ptpx: fault {}: the sums can't be written",
+                fault.number()
+            );
+            3
+        }
     }
 }
 
