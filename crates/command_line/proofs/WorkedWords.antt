@@ -45,6 +45,7 @@ measured : Names (codes "ptpx" ∷ codes "measure" ∷ codes "--csv" ∷ codes "
       csv = true;
       full = false;
       strict = false;
+      sum = false;
     }))
 unfolding clap_on_literals walk_fault walked hex_on_literals chars faults_in named_in
 measured = (refl, refl)
@@ -80,6 +81,25 @@ summed : Names (codes "ptpx" ∷ codes "follow" ∷ codes "--limit=12.5" ∷ cod
     }))
 unfolding clap_on_literals walk_fault walked hex_on_literals chars faults_in named_in
 summed = (refl, refl)
+
+measured_sums : Names (codes "ptpx" ∷ codes "measure" ∷ codes "--sum" ∷ codes "--strict" ∷ [])
+    (Measure (record {
+      slave = None;
+      master = None;
+      domain = None;
+      interface = None;
+      limit = None;
+      csv = false;
+      full = false;
+      strict = true;
+      sum = true;
+    }))
+unfolding clap_on_literals walk_fault walked hex_on_literals chars faults_in named_in
+measured_sums = (refl, refl)
+
+sums_in_full : NamesNothing (codes "ptpx" ∷ codes "measure" ∷ codes "--sum" ∷ codes "--full" ∷ [])
+unfolding clap_on_literals walk_fault walked hex_on_literals chars faults_in named_in
+sums_in_full = no_options (codes "ptpx" ∷ codes "measure" ∷ codes "--sum" ∷ codes "--full" ∷ []) refl
 
 rows_of_sums : NamesNothing (codes "ptpx" ∷ codes "follow" ∷ codes "--sum" ∷ codes "--csv" ∷ [])
 unfolding clap_on_literals walk_fault walked hex_on_literals chars faults_in named_in
@@ -136,7 +156,7 @@ unfolding clap_on_literals walk_fault walked hex_on_literals chars faults_in nam
 values_behind_both = (refl, refl)
 
 mark_behind_option : Names (codes "ptpx" ∷ codes "measure" ∷ codes "--csv" ∷ codes "--" ∷ [])
-    (Measure (record { slave = None; master = None; domain = None; interface = None; limit = None; csv = true; full = false; strict = false }))
+    (Measure (record { slave = None; master = None; domain = None; interface = None; limit = None; csv = true; full = false; strict = false; sum = false }))
 unfolding clap_on_literals walk_fault walked hex_on_literals chars faults_in named_in
 mark_behind_option = (refl, refl)
 
@@ -155,7 +175,7 @@ unfolding clap_on_literals walk_fault walked hex_on_literals chars faults_in nam
 strictly = (refl, refl)
 
 in_full : Names (codes "ptpx" ∷ codes "measure" ∷ codes "--full" ∷ [])
-    (Measure (record { slave = None; master = None; domain = None; interface = None; limit = None; csv = false; full = true; strict = false }))
+    (Measure (record { slave = None; master = None; domain = None; interface = None; limit = None; csv = false; full = true; strict = false; sum = false }))
 unfolding clap_on_literals walk_fault walked hex_on_literals chars faults_in named_in
 in_full = (refl, refl)
 

@@ -1,5 +1,5 @@
 -- The subcommands of `ptpx`: their names and options, and what is asked for by the rows that clap's matches have of these.
-use Rattle.std.specs.Prelude.{◌&&◌, Bool, List, [], ◌∷◌, Option, Some, None, codes, if◌then◌else◌, option_and_then, option_map}
+use Rattle.std.specs.Prelude.{◌&&◌, ◌||◌, Bool, List, [], ◌∷◌, Option, Some, None, codes, if◌then◌else◌, option_and_then, option_map}
 use Rattle.std.specs.Str.{bytes_eq}
 use Rattle.clap.specs.Simple.{App}
 use Rattle.clap.specs.Walk as matches
@@ -28,7 +28,7 @@ subcommands =
     ∷ (
       codes "measure",
       with_value (codes "slave") ∷ with_value (codes "master") ∷ with_value (codes "domain") ∷ with_value (codes "interface")
-          ∷ with_value (codes "limit") ∷ flag (codes "csv") ∷ flag (codes "full") ∷ flag (codes "strict") ∷ [],
+          ∷ with_value (codes "limit") ∷ flag (codes "csv") ∷ flag (codes "full") ∷ flag (codes "strict") ∷ flag (codes "sum") ∷ [],
     )
     ∷ (
       codes "follow",
@@ -44,10 +44,14 @@ extract_options_of rows = option_map (λ interface.
     record { interface = interface; octets = is_used (codes "octets") rows; list = is_used (codes "list") rows })
     (said interface_name (codes "interface") rows)
 
--- the options of `measure`, where each value is one
+-- whether sums are asked for, unless CSV or what reports were made of is, too
+abbrev pub sum_alone : (csv full sum : Bool) → Option Bool
+sum_alone csv full sum = if (csv || full) && sum then None else Some sum
+
+-- the options of `measure`, where each value is one, and sums are asked for alone
 abbrev pub measure_options_of : List matches.Row → Option MeasureOptions
 measure_options_of rows = option_and_then (λ slave. option_and_then (λ master. option_and_then (λ domain.
-    option_and_then (λ interface. option_map (λ limit. record {
+    option_and_then (λ interface. option_and_then (λ limit. option_map (λ sum. record {
       slave = slave;
       master = master;
       domain = domain;
@@ -56,7 +60,9 @@ measure_options_of rows = option_and_then (λ slave. option_and_then (λ master.
       csv = is_used (codes "csv") rows;
       full = is_used (codes "full") rows;
       strict = is_used (codes "strict") rows;
+      sum = sum;
     })
+    (sum_alone (is_used (codes "csv") rows) (is_used (codes "full") rows) (is_used (codes "sum") rows)))
     (said limit_of (codes "limit") rows))
     (said interface_name (codes "interface") rows))
     (said domain_of (codes "domain") rows))

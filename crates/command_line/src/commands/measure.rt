@@ -3,7 +3,7 @@ ghost use Rattle.std.specs.Prelude.{◌≡◌};
 ghost use Rattle.std.specs.Result.{result_ok};
 ghost use Rattle.clap.specs.Matches.{found_of};
 ghost use Rattle.clap.specs.Walk.{rows_of};
-ghost use Rattle.command_line.specs.Commands.{measure_options_of};
+ghost use Rattle.command_line.specs.Commands.{measure_options_of, sum_alone};
 
 use crate::commands::Help;
 use crate::options::{
@@ -14,7 +14,7 @@ use clap::ArgMatches;
 use command_options::MeasureOptions;
 
 /// The options of `measure`.
-const OPTIONS: [OptionRow; 8] = [
+const OPTIONS: [OptionRow; 9] = [
     OptionRow {
         name: "slave",
         value: Some("PORT"),
@@ -55,6 +55,11 @@ const OPTIONS: [OptionRow; 8] = [
         value: None,
         about: "Answer 1 where anything speaks against the numbers, or there is no report",
     },
+    OptionRow {
+        name: "sum",
+        value: None,
+        about: "Write what the reports come to at the end, in place of these",
+    },
 ];
 
 /// The row of `measure`.
@@ -64,6 +69,22 @@ pub(crate) const ROW: SubcommandRow = SubcommandRow {
     help: Help::Measure,
     options: &OPTIONS,
 };
+
+/// Whether sums are asked for, unless CSV or what reports were made of is, too.
+fn sum_alone<'a>(csv: bool, full: bool, sum: bool) -> Result<bool, WrongValue<'a>>
+    ensures { result_ok result ≡ sum_alone csv full sum }
+{
+    if (csv || full) && sum {
+        Err(WrongValue {
+            option: "sum",
+            value: "",
+            name: "",
+            wanted: "--sum without --csv and --full",
+        })
+    } else {
+        Ok(sum)
+    }
+}
 
 /// The options that were met.
 pub(crate) fn measure_options<'a>(
@@ -84,6 +105,11 @@ pub(crate) fn measure_options<'a>(
         csv: is_used(matches, "csv"),
         full: is_used(matches, "full"),
         strict: is_used(matches, "strict"),
+        sum: sum_alone(
+            is_used(matches, "csv"),
+            is_used(matches, "full"),
+            is_used(matches, "sum"),
+        )?,
     })
 }
 
@@ -103,6 +129,10 @@ units of 2^-16 ns. These four are exact for the times in the input. by says whic
 sync or response, line which line or packet did, and time is the time of that one, of a packet with nine
 decimals. tags are the lines or packets of Sync, Follow_Up, Delay_Req and Delay_Resp; that of Follow_Up is
 null where the Sync is a one-step one. Lines count from 1, and so do packets, those without PTP, too.
+
+With --sum one line of JSON stands in their place at the end, or after a fault but 808: of offsets and paths
+the mean, the standard deviation, the least, the greatest, and of the last 4096 the median and the 95th and the
+99th percentile; what came and what is missing, names of what speaks against the numbers, and whom they are of.
 
 With --full each has also t1 to t4 in seconds (t1 and t4 as the master says, t2 and t3 as the input does),
 sync_correction (of Sync and Follow_Up), delay_correction and t2_to_t3, the time between t2 and t3, whichever

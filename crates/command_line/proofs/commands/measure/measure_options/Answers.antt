@@ -5,6 +5,7 @@ use Rattle.clap.specs.Matches.{found_of}
 use Rattle.clap.specs.Walk.{Row, rows_of}
 use Rattle.capture_file.specs.declared.name.InterfaceName.{InterfaceName}
 use Rattle.capture_file.specs.Name.{interface_name}
+use Rattle.command_line.specs.Commands.{sum_alone}
 use Rattle.command_line.specs.Limit.{limit_of}
 use Rattle.command_line.specs.Number.{domain_of}
 use Rattle.command_line.specs.Options.{is_used, said}
@@ -15,9 +16,10 @@ use Rattle.command_line.proofs.commands.measure.measure_options.Goals as goal
 
 -- the options of `measure`, of what each says
 abbrev measure_made : Option (Option PortIdentity) → Option (Option PortIdentity) → Option (Option ℕ)
-    → Option (Option InterfaceName) → Option (Option ℕ) → (csv full strict : Bool) → Option MeasureOptions
-measure_made slaves masters domains interfaces limits csv full strict =
-    option_and_then (λ slave. option_and_then (λ master. option_and_then (λ domain. option_and_then (λ interface. option_map (λ limit. record {
+    → Option (Option InterfaceName) → Option (Option ℕ) → (csv full strict : Bool) → (sums : Option Bool) → Option MeasureOptions
+measure_made slaves masters domains interfaces limits csv full strict sums =
+    option_and_then (λ slave. option_and_then (λ master. option_and_then (λ domain. option_and_then (λ interface.
+    option_and_then (λ limit. option_map (λ sum. record {
       slave = slave;
       master = master;
       domain = domain;
@@ -26,13 +28,18 @@ measure_made slaves masters domains interfaces limits csv full strict =
       csv = csv;
       full = full;
       strict = strict;
-    }) limits) interfaces) domains) masters) slaves
+      sum = sum;
+    }) sums) limits) interfaces) domains) masters) slaves
+
+-- whether sums are asked for, by the rows
+abbrev sums_of : List Row → Option Bool
+sums_of rows = sum_alone (is_used (codes "csv") rows) (is_used (codes "full") rows) (is_used (codes "sum") rows)
 
 -- the same, where what the options say that have no value is of the rows
 abbrev made_of_rows : List Row → Option (Option PortIdentity) → Option (Option PortIdentity) → Option (Option ℕ)
     → Option (Option InterfaceName) → Option (Option ℕ) → Option MeasureOptions
 made_of_rows rows slaves masters domains interfaces limits = measure_made slaves masters domains interfaces limits
-    (is_used (codes "csv") rows) (is_used (codes "full") rows) (is_used (codes "strict") rows)
+    (is_used (codes "csv") rows) (is_used (codes "full") rows) (is_used (codes "strict") rows) (sums_of rows)
 
 module _ (rows : List Row) where
   no_master : (slaves : Option (Option PortIdentity)) (domains : Option (Option ℕ)) (interfaces : Option (Option InterfaceName))
@@ -60,6 +67,17 @@ module _ (rows : List Row) where
   no_limit (Some slave) (Some master) None interfaces = refl
   no_limit (Some slave) (Some master) (Some domain) None = refl
   no_limit (Some slave) (Some master) (Some domain) (Some interface) = refl
+
+  no_sum : (slaves masters : Option (Option PortIdentity)) (domains : Option (Option ℕ)) (interfaces : Option (Option InterfaceName))
+      (limits : Option (Option ℕ))
+      → measure_made slaves masters domains interfaces limits
+      (is_used (codes "csv") rows) (is_used (codes "full") rows) (is_used (codes "strict") rows) None ≡ None
+  no_sum None masters domains interfaces limits = refl
+  no_sum (Some slave) None domains interfaces limits = refl
+  no_sum (Some slave) (Some master) None interfaces limits = refl
+  no_sum (Some slave) (Some master) (Some domain) None limits = refl
+  no_sum (Some slave) (Some master) (Some domain) (Some interface) None = refl
+  no_sum (Some slave) (Some master) (Some domain) (Some interface) (Some limit) = refl
 
 pub returns-in-Err : goal.returns-in-Err
 returns-in-Err c =
@@ -123,6 +141,24 @@ returns-in_err-interface_option c =
     ∙ ap (λ interfaces. made_of_rows rows slaves masters domains interfaces limits)
     (value_read interface_name found (codes "interface") None c.in_err-interface_option.ensures)
 
+pub returns-in_err-sum_alone : goal.returns-in_err-sum_alone
+returns-in_err-sum_alone c =
+    let found = found_of c.args.matches.now in
+    let rows = rows_of found in
+    let slaves = said port_identity_of (codes "slave") rows in
+    let masters = said port_identity_of (codes "master") rows in
+    let domains = said domain_of (codes "domain") rows in
+    let interfaces = said interface_name (codes "interface") rows in
+    let limits = said limit_of (codes "limit") rows in
+    no_answer c.from_residual-in_err-sum_alone.result c.from_residual-in_err-sum_alone.ensures.0
+    ∙ sym (no_sum rows slaves masters domains interfaces limits)
+    ∙ ap (measure_made slaves masters domains interfaces limits (is_used (codes "csv") rows) (is_used (codes "full") rows)
+    (is_used (codes "strict") rows))
+    (c.in_err-sum_alone.ensures
+    ∙ λ i. sum_alone (is_read found (codes "csv") c.is_used-4.result c.is_used-4.ensures i)
+    (is_read found (codes "full") c.is_used-5.result c.is_used-5.ensures i)
+    (is_read found (codes "sum") c.is_used-6.result c.is_used-6.ensures i))
+
 pub returns : goal.returns
 returns c =
     let found = found_of c.args.matches.now in
@@ -139,7 +175,14 @@ returns c =
     (λ i. measure_made (Some slave) (Some master) (Some domain) (Some interface) (Some limit)
     (is_read found (codes "csv") c.is_used.result c.is_used.ensures i)
     (is_read found (codes "full") c.is_used-2.result c.is_used-2.ensures i)
-    (is_read found (codes "strict") c.is_used-3.result c.is_used-3.ensures i))
+    (is_read found (codes "strict") c.is_used-3.result c.is_used-3.ensures i)
+    (Some c.in_ok-sum_alone.field-0))
+    ∙ ap (measure_made (Some slave) (Some master) (Some domain) (Some interface) (Some limit)
+    (is_used (codes "csv") rows) (is_used (codes "full") rows) (is_used (codes "strict") rows))
+    (c.in_ok-sum_alone.ensures
+    ∙ λ i. sum_alone (is_read found (codes "csv") c.is_used-4.result c.is_used-4.ensures i)
+    (is_read found (codes "full") c.is_used-5.result c.is_used-5.ensures i)
+    (is_read found (codes "sum") c.is_used-6.result c.is_used-6.ensures i))
     ∙ ap (made_of_rows rows (Some slave) (Some master) (Some domain) (Some interface))
     (value_read limit_of found (codes "limit") (Some limit) c.in-Ok.ensures)
     ∙ ap (λ said. made_of_rows rows (Some slave) (Some master) (Some domain) said limits)
