@@ -21,7 +21,7 @@ RECENT = 4096
 NAMES = {
     'requests_at_once': 'all [0-9]+ requests', 'syncs_at_once': 'all [0-9]+ Syncs', 'paths_below': '.* path delays are below 0',
     'paths_zero': '.* path delays are 0 exactly', 'whole_seconds': 'all offsets are next to', 'offset_steps': 'the offset steps',
-    'offset_runs_away': 'the offset runs away', 'path_steps': 'the path delay steps', 'syncs_end': 'the Syncs of the master end',
+    'offset_runs_away': 'the offset runs away', 'offset_is_set_back': '.* offsets are (above|below) the one before', 'path_steps': 'the path delay steps', 'syncs_end': 'the Syncs of the master end',
     'reports_end': 'no report is of the last', 'repeated': 'messages with a number that came before', 'other_masters': 'messages of other masters',
     'other_slaves': 'Delay_Reqs of other slaves', 'other_domains': 'messages of other domains', 'out_of_order': 'times that are before',
     'old_delay': 'offsets that rest on', 'missing_syncs': '.* Syncs are missing', 'missing_follow_ups': '.* two-step Syncs have no',
@@ -73,7 +73,7 @@ def by_reports(reports):
     those = {by: [it for it in reports if it['by'] == by] for by in ('sync', 'response')}
     of = lambda by, name: [(units(it[name]), it['line']) for it in those[by]]
     return {'reports': len(reports), 'offset': measured(of('sync', 'offset')), 'path': measured(of('response', 'path')),
-            'age': ends(of('sync', 't2_to_t3')), 'announce': None,
+            'age': ends(of('sync', 't2_to_t3')),
             'corrections': {'sync': ends(of('sync', 'sync_correction')), 'response': ends(of('response', 'delay_correction'))}}
 
 
@@ -94,8 +94,21 @@ def interval_sentence(names, interval):
     yield f'from one of the {names} to the next: mean {milliseconds(interval["mean"])} ms{deviation or ""}, {least}, {greatest}{told}'
 
 
+def announce_sentences(announce):
+    """What standard error says of the Announces of the master, of which some came."""
+    validity, timescale = '' if announce['utc_offset_valid'] else 'not ', 'PTP' if announce['ptp_timescale'] else 'ARB'
+    yield (f'Announces: {announce["count"]}; grandmaster {announce["grandmaster"]}, clockClass {announce["clock_class"]}, '
+           f'stepsRemoved {announce["steps_removed"]}, currentUtcOffset {announce["utc_offset"]} s ({validity}valid), timescale {timescale}, '
+           f'from UNIT {announce["line"]} on')
+    if announce['changes']:
+        times = 'once, at' if announce['changes'] == 1 else f'{announce["changes"]} times, first at'
+        yield f'what Announces tell changed {times} '
+
+
 def sentences(line):
     """What standard error says beside, of what the line says."""
+    if line['announce'] is not None:
+        yield from announce_sentences(line['announce'])
     syncs, follow_ups, requests, responses = (line[it] for it in ('syncs', 'follow_ups', 'delay_reqs', 'delay_resps'))
     if syncs['count']:
         yield (f'Syncs: {syncs["count"]}, {syncs["missing"]} missing; of these two-step: {syncs["two_step"]}, '
@@ -139,6 +152,8 @@ def try_one(name, octets, options, seconds=None):
         form = re.escape(owed).replace('UNIT', '(packet|line)')
         if not any(re.match(form, it) for it in said):
             fail(f'{name}: the line says {owed!r}, and standard error has {said}')
+    if line['announce'] is None and any(it.startswith('Announces: ') for it in said) and line['place'] is not None:
+        fail(f'{name}: standard error has Announces, and the line none: {said}')
     # while no place of a capture is measured, standard error tells of each, and the line of none
     found = [it for it in said if it.startswith('beware: ')]
     if line['place'] is not None or all(it['name'] is None for it in line['places']):

@@ -6,7 +6,7 @@ ghost use Rattle.recording_measure.specs.Measure.{head_text};
 use recording_lines::table_head;
 
 /// How measurements are written.
-#[derive(Clone, Copy, Debug, PartialEq, Eq)]
+#[derive(Clone, Copy)]
 pub enum Form {
     /// JSON, one object a line.
     Json,

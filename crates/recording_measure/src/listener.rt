@@ -47,7 +47,7 @@ type Port = SlavePort<
 type Times = RingTable<ScaledTime, CAPACITY>;
 
 /// What the port answered to a message that it heard, and the exchange of its last report then.
-#[derive(Clone, Copy, Debug, PartialEq, Eq)]
+#[derive(Clone, Copy)]
 pub(crate) struct Reply {
     /// What the port answered.
     pub(crate) heard: Heard,
@@ -57,7 +57,7 @@ pub(crate) struct Reply {
 }
 
 /// What became of a message.
-#[derive(Clone, Copy, Debug, PartialEq, Eq)]
+#[derive(Clone, Copy)]
 pub(crate) enum Became {
     /// The port heard it, and replied so.
     Heard(Reply),

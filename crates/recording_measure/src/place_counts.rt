@@ -3,7 +3,7 @@
 use crate::recording::PLACES_MOST;
 
 /// The datagrams at each of the places that are looked at, by their indices, and at all others. Counts stay at 2^64 - 1.
-#[derive(Clone, Copy, Debug)]
+#[derive(Clone, Copy)]
 pub(crate) struct PlaceCounts {
     counts: [u64; PLACES_MOST],
     others: u64,

@@ -118,7 +118,7 @@ fn is_anew(became: &Became) -> bool
 }
 
 /// What is counted of datagrams.
-#[derive(Clone, Copy, Debug)]
+#[derive(Clone, Copy)]
 pub(crate) struct Tally {
     pub(crate) counts: Counts,
 }

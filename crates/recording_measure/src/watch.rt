@@ -14,7 +14,7 @@ use recording_model::Watched;
 use recording_summary::{Known, Whom};
 
 /// Whom to watch, as far as it is asked for.
-#[derive(Clone, Copy, Debug, PartialEq, Eq)]
+#[derive(Clone, Copy)]
 pub struct WantedPorts {
     /// The portIdentity of the slave.
     pub slave: Option<PortIdentity>,
