@@ -151,6 +151,7 @@ values_behind_both : Names (codes "ptpx" ∷ codes "measure" ∷ codes "--master
       csv = false;
       full = false;
       strict = false;
+      sum = false;
     }))
 unfolding clap_on_literals walk_fault walked hex_on_literals chars faults_in named_in
 values_behind_both = (refl, refl)
@@ -170,6 +171,7 @@ strictly : Names (codes "ptpx" ∷ codes "measure" ∷ codes "--limit" ∷ codes
       csv = false;
       full = false;
       strict = true;
+      sum = false;
     }))
 unfolding clap_on_literals walk_fault walked hex_on_literals chars faults_in named_in
 strictly = (refl, refl)
