@@ -130,13 +130,14 @@ sync or response, line which line or packet did, and time is the time of that on
 decimals. tags are the lines or packets of Sync, Follow_Up, Delay_Req and Delay_Resp; that of Follow_Up is
 null where the Sync is a one-step one. Lines count from 1, and so do packets, those without PTP, too.
 
-With --sum one line of JSON stands in their place at the end, or after a fault but 808: of offsets and paths
-the mean, the standard deviation, the least, the greatest, and of the last 4096 the median and the 95th and the
-99th percentile; what came and what is missing, names of what speaks against the numbers, and whom they are of.
-
 With --full each has also t1 to t4 in seconds (t1 and t4 as the master says, t2 and t3 as the input does),
 sync_correction (of Sync and Follow_Up), delay_correction and t2_to_t3, the time between t2 and t3, whichever
 is later, in nanoseconds, and the sequenceIds sync_number and request_number.
+
+With --sum one line of JSON stands in place of the reports, at the end or after a fault but 808: of offsets
+and paths the mean, the standard deviation, the least, the greatest, and of the last 4096 the median and the
+95th and the 99th percentile; what came and what is missing, what the master announces, names of what speaks
+against the numbers, and whom they are of.
 
 A PORT is a portIdentity: 16 hexadecimal digits, '/' and the number, as 'ptpx show' writes it, or as pmc
 of linuxptp does, 00aabb.fffe.ccddee-1. Number and domain may have zeros in front. NS is nanoseconds, written
@@ -161,7 +162,8 @@ near 0. A capture in UTC of a master in TAI gives an offset of -37 s. A Sync tak
 up to two ticks, of which there is one after each 4096 Syncs.
 
 Standard error tells the domain, the master and the slave as soon as they are known, and at the end what speaks
-against the numbers, how many reports there are, which datagrams gave none, and why, and statistics.
+against the numbers, how many reports there are, which datagrams gave none, and why, what the master announces,
+and statistics.
 
 Faults, each of which ends the run with 'ptpx: fault 806 at line 3' on standard error, or of a capture with
 'ptpx: fault 1006 at octet 6300, after 41 packets: the capture ends within a packet or a block'. Lines count
