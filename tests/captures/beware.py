@@ -226,7 +226,8 @@ BENT = {
                                              [r'42 of 55 offsets are above the one before, and others far below it, by 121812 ns at most, at packet 336: the '
                                               r'clock drifts, and is set again and again instead of steered$']),
     'of a clock that is set ahead each 7 s': (lambda it: sawtooth(it, -20_000, 141_000),
-                                             [r'42 of 55 offsets are below the one before, and others far above it, by 116230 ns at most, at packet 254: the '
+                                             [r'3 of 51 path delays are below 0, the least -50341\.5 ns at packet 333:',
+                                              r'42 of 55 offsets are below the one before, and others far above it, by 116230 ns at most, at packet 254: the '
                                               r'clock drifts, and is set again and again instead of steered$']),
     # each packet is there twice, as a mirror of both directions writes it
     'mirrored': (lambda it: [copy for one in it for copy in (one, *shifted([one], 4500))],

@@ -244,7 +244,12 @@ def stranger(rng, tape):
         tape.delay_resp(tape.request, rng.choice([SLAVES[1], MASTERS[0], SLAVES[0][:9] + b'\0', bytes(10)]))
     elif what == 4:
         kind = rng.choice(OTHERS)
-        tape.put(datagram(kind, tape.master, tape.sync, requesting=tape.slave) if kind != announces.ANNOUNCE else announce(rng, tape))
+        if kind == announces.ANNOUNCE:
+            # several, each of which may tell another thing than the one before
+            for _ in range(rng.choice([1, 2, 4])):
+                tape.put(announce(rng, tape))
+        else:
+            tape.put(datagram(kind, tape.master, tape.sync, requesting=tape.slave))
     else:
         answer = datagram(9, tape.master, tape.request, requesting=tape.slave)
         tape.put(rng.choice([b'', bytes(33), bytes(34), bytes(44), answer[:53], datagram(9, tape.master, tape.request),
