@@ -229,6 +229,8 @@ BENT = {
                                              [r'3 of 51 path delays are below 0, the least -50341\.5 ns at packet 333:',
                                               r'42 of 55 offsets are below the one before, and others far above it, by 116230 ns at most, at packet 254: the '
                                               r'clock drifts, and is set again and again instead of steered$']),
+    # once isn't again and again
+    'still, with a clock that is set back once': (lambda it: sawtooth(still(it), 100, 3000), [r'the path delay steps by 1472\.360 ns \(rounded\) at packet 354: ']),
     # each packet is there twice, as a mirror of both directions writes it
     'mirrored': (lambda it: [copy for one in it for copy in (one, *shifted([one], 4500))],
                  [r'messages with a number that came before: 218, from 4500 to 4500 ns after the first;']),

@@ -158,7 +158,8 @@ def set_back(unit, values):
     changes = [(here - before, place) for (_, before, _), (_, here, place) in zip(values, values[1:])]
     greatest, place = max(changes, key=lambda it: abs(it[0]))
     against = [change for change, _ in changes if change * greatest < 0]
-    if abs(greatest) >= SET_BACK and 4 * len(against) > 3 * len(changes):
+    # a quarter of all changes together, so that it isn't the only one that sets back what the others go
+    if SET_BACK <= abs(greatest) <= Fraction(sum(abs(it) for it, _ in changes), 4) and 4 * len(against) > 3 * len(changes):
         side, other = ('above', 'below') if greatest < 0 else ('below', 'above')
         yield (f'{len(against)} of {len(changes)} offsets are {side} the one before, and others far {other} it, by {abs(greatest) // NANOSECOND2} ns at most, '
                f'at {unit} {place}: the clock drifts, and is set again and again instead of steered')

@@ -123,10 +123,11 @@ is_fall change = int_lt change.to.value change.from.value
 abbrev pub alike : Spikes → Change → ℕ
 alike spikes change = if is_fall change then spikes.rises else spikes.falls
 
--- of 32 values and more, most change one way, and this change, of 1 us and more, is the other way
+-- Of 32 values and more, most change one way, and this change, of 1 us and more, is the other way. It is at most a quarter of all changes
+-- together: values that come back as far as they went are set back twice, or more often.
 abbrev pub is_set_back : Spikes → Change → Bool
 is_set_back spikes change = not (nat_lt spikes.count 32) && not (nat_lt (size change.from change.to) 131072000)
-    && are_most (alike spikes change) (spikes.count - 1)
+    && not (nat_lt (spikes.changes / 4) (size change.from change.to)) && are_most (alike spikes change) (spikes.count - 1)
 
 abbrev pub set_back_by : Spikes → Change → Option Beware
 set_back_by spikes change = if is_set_back spikes change

@@ -196,12 +196,13 @@ fn alike(spikes: &Spikes, against: &Change) -> u64
     }
 }
 
-/// Whether this change sets values back of which most change the other way.
+/// Whether this change sets values back of which most change the other way, and isn't most of how they are set back.
 fn is_set_back(spikes: &Spikes, change: &Change) -> bool
     ensures { result ≡ is_set_back spikes.now change.now }
 {
     !(spikes.count < TEETH_VALUES)
         && !(change.size() < APART)
+        && !(spikes.changes / 4 < change.size())
         && are_most(alike(spikes, change), spikes.count - 1)
 }
 
