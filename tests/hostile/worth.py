@@ -137,7 +137,8 @@ def stepping(name, why, unit, values):
     if len(values) < VALUES:
         return
     shift, (_, by_line) = step(values), slope(values)
-    if abs(shift.thousandths) >= STEP and 2 * shift.explains > 1 and (by_line is None or shift.explains > by_line):
+    # the program compares the first 63 bits of both, which are alike where one time is far from all others
+    if abs(shift.thousandths) >= STEP and 2 * shift.explains > 1 and (by_line is None or shift.explains > by_line + Fraction(1, 2**60)):
         yield f'the {name} steps by {thousandths(Fraction(shift.thousandths, 1000))} ns (rounded) at {unit} {shift.place}: {why}'
 
 
