@@ -1,0 +1,24 @@
+//! Signaling messages of the Precision Time Protocol as octets, and what a slave tells in them of its own readings: the TLVs
+//! of slave event monitoring (IEEE 1588-2019, 13.12, 14.1 and 16.11.4).
+#![tactic(auto)]
+
+mod decoding;
+mod encoding;
+mod octets;
+mod reading;
+mod readings;
+mod refusal;
+mod signaling;
+mod tlv_type;
+mod tlvs;
+
+pub use decoding::decode_signaling;
+pub use encoding::{Tlv, encode_signaling};
+pub use reading::{DelayReading, OwnReading, Reading, SyncReading};
+pub use readings::Readings;
+pub use refusal::{SignalingEncodeRefusal, SignalingRefusal};
+pub use signaling::Signaling;
+pub use tlvs::Tlvs;
+
+#[cfg(test)]
+mod tests;
