@@ -1,23 +1,27 @@
 -- Octets that begin with a Signaling message: no refusal applies, and they are those of one message, of one length.
-use Rattle.std.proofs.Common.{◌≡◌, ℕ, ◌+◌, ◌%◌, ◌<◌, ◌≤◌, true, ◌&&◌, List, length, take, drop, get_or, slice_range, None, refl, sym, ap, subst, ◌∙◌, arith}
+use Rattle.std.proofs.Common.{◌≡◌, ◌≢◌, ℕ, ◌+◌, ◌-◌, ◌%◌, ◌<◌, ◌≤◌, true, false, ◌&&◌, List, length, take, drop, get_or, slice_range, Some, None, refl, sym, ap, subst, ◌∙◌, arith}
 use Rattle.std.proofs.lemmas.Bool.{le-ltb}
 use Rattle.std.proofs.lemmas.Bool.Decides.{nat_tests}
 use Rattle.std.proofs.lemmas.List.{get_or-take, length-take-le, take-take}
+use Rattle.std.proofs.lemmas.Slice.{between_to_end}
 use Rattle.ptp_units.specs.declared.interval.Interval.{Interval}
 use Rattle.ptp_units.specs.declared.sequence.Seq.{Seq}
 use Rattle.event_codec.specs.declared.message.Header.{Header}
 use Rattle.event_codec.specs.declared.port.PortIdentity.{PortIdentity}
+use Rattle.event_codec.specs.declared.refusal.DecodeRefusal.{DecodeRefusal}
+use Rattle.event_codec.specs.Header.{header_refusal}
 use Rattle.event_codec.specs.Layout.{number}
 use Rattle.event_codec.specs.Packet.{IsHeader, IsIdentityAt}
 use Rattle.event_codec.proofs.Numbers.{number-take}
 use Rattle.event_codec.proofs.Agreement.{IsHeader-agrees}
+use Rattle.signaling_codec.specs.declared.refusal.SignalingRefusal.TheVariants.{NoSignaling}
 use Rattle.signaling_codec.specs.declared.signaling.Signaling.{Signaling}
 use Rattle.signaling_codec.specs.Tlv.{TlvOf, AreTlvs}
 use Rattle.signaling_codec.specs.Packet.{IsSignaling}
 use Rattle.signaling_codec.specs.Refusal.{is_signaling, signaling_refusal, tlvs_refusal}
 use Rattle.signaling_codec.specs.Inner.Parsed.{identity_at, tlvs_in}
 use Rattle.signaling_codec.proofs.Records.{identity_is}
-use Rattle.signaling_codec.proofs.Sound.{tlvs_none, tlvs_only}
+use Rattle.signaling_codec.proofs.Sound.{tlvs_sound, tlvs_none, tlvs_only}
 
 -- octets with a header of Signaling, and as many as it says
 pub refusal_whole : (b : List ℕ) → is_signaling b ≡ true → 44 ≤ number b 2 2 → number b 2 2 ≤ length b
@@ -74,3 +78,42 @@ signaling_none m b n fits p =
     refusal_whole b is (omega arith) (omega arith)
     ∙ ap (λ (k : ℕ). tlvs_refusal 0 (drop 44 (take k b))) front
     ∙ tlvs_none m.tlvs (drop 44 (take n b)) p.tlvs
+
+-- whether a header is one of Signaling
+pub refusal_other : (b : List ℕ) → is_signaling b ≡ false → signaling_refusal b ≡ Some NoSignaling
+unfolding signaling_refusal
+refusal_other b other = rw other refl
+
+pub header_none : (b : List ℕ) (e : DecodeRefusal) → header_refusal b ≡ Some e → is_signaling b ≡ false
+header_none b e refused = grind (arith, nat_tests)
+
+pub header_other : (b : List ℕ) → get_or b 0 0 % 16 ≢ 12 → is_signaling b ≡ false
+header_other b other = grind (arith, nat_tests)
+
+pub header_is : (b : List ℕ) → header_refusal b ≡ None → get_or b 0 0 % 16 ≡ 12 → is_signaling b ≡ true
+header_is b none kind = grind (arith, nat_tests)
+
+-- the TLVs of the message in front
+pub part_is : (b message : List ℕ) → number b 2 2 ≤ length b → message ≡ take (number b 2 2) b
+    → take (length message - 44) (drop 44 message) ≡ drop 44 (take (number b 2 2) b)
+part_is b message fits is = between_to_end message 44 (length message) (omega arith) ∙ ap (drop 44) is
+
+-- and the whole of it
+pub signaling_read : (m : Signaling) (b message : List ℕ) → ((k : ℕ) → get_or b k 0 < 256) → number b 2 2 ≤ length b → message ≡ take (number b 2 2) b
+    → 44 ≤ number b 2 2 → IsHeader m.header 12 (number b 2 2) b → m.target ≡ identity_at message 34
+    → (m.tlvs ≡ tlvs_in 0 (take (length message - 44) (drop 44 message))) × (tlvs_refusal 0 (take (length message - 44) (drop 44 message)) ≡ None)
+    → IsSignaling m (take (number b 2 2) b)
+signaling_read m b message fits whole is long header target tlvs =
+    let n : ℕ = number b 2 2 in
+    let len : length (take n b) ≡ n = length-take-le n b whole in
+    let part = part_is b message whole is in
+    let none : tlvs_refusal 0 (drop 44 (take n b)) ≡ None = sym (ap (tlvs_refusal 0) part) ∙ tlvs.1 in
+    let same : m.tlvs ≡ tlvs_in 0 (drop 44 (take n b)) = tlvs.0 ∙ ap (tlvs_in 0) part in
+    let there : m.target ≡ identity_at (take n b) 34 = target ∙ ap (λ (x : List ℕ). identity_at x 34) is in
+    record {
+      octets = λ k lt. subst (λ (x : ℕ). x < 256) (sym (get_or-take n b k 0 (omega arith))) (fits k);
+      least = omega arith;
+      header = subst (λ (size : ℕ). IsHeader m.header 12 size (take n b)) (sym len) (IsHeader-agrees m.header 12 n (take n b) b (take-take 34 n b (omega arith)) header);
+      target = record { clock = ap (λ (p : PortIdentity). p.clock) there; port = ap (λ (p : PortIdentity). p.port) there };
+      tlvs = subst (λ (ts : List TlvOf). AreTlvs ts (drop 44 (take n b))) (sym same) (tlvs_sound (drop 44 (take n b)) none);
+    }

@@ -1,31 +1,19 @@
+use Rattle.std.proofs.Common.{◌≡◌, ℕ, ◌≤◌, List, length, take, Result, Ok, Err, MatchResult, IfOk, IsOkAnd, None, Some, sym, ◌∙◌, subst}
+use Rattle.event_codec.specs.Layout.{number}
+use Rattle.signaling_codec.specs.declared.refusal.SignalingRefusal.{SignalingRefusal}
+use Rattle.signaling_codec.specs.declared.signaling.Signaling.{Signaling}
+use Rattle.signaling_codec.specs.Packet.{IsSignaling}
+use Rattle.signaling_codec.specs.Refusal.{signaling_refusal}
+use Rattle.signaling_codec.proofs.Front.{signaling_same, front_length, signaling_none}
 use Rattle.signaling_codec.proofs.decoding.decode_signaling.Goals as goal
 
-pub returns-in_default-clause-only : goal.returns-in_default-clause-only
-returns-in_default-clause-only c = ?
-
-pub returns-in_default-clause-refused : goal.returns-in_default-clause-refused
-returns-in_default-clause-refused c = ?
-
-pub returns-then-message_length-lt44-clause-refused : goal.returns-then-message_length-lt44-clause-refused
-returns-then-message_length-lt44-clause-refused c = ?
-
-pub returns-in_err-message-clause-only : goal.returns-in_err-message-clause-only
-returns-in_err-message-clause-only c = ?
-
-pub returns-in_err-message-clause-refused : goal.returns-in_err-message-clause-refused
-returns-in_err-message-clause-refused c = ?
-
-pub returns-in_err-tlvs-clause-only : goal.returns-in_err-tlvs-clause-only
-returns-in_err-tlvs-clause-only c = ?
-
-pub returns-in_err-tlvs-clause-refused : goal.returns-in_err-tlvs-clause-refused
-returns-in_err-tlvs-clause-refused c = ?
-
-pub returns-clause-read : goal.returns-clause-read
-returns-clause-read c = ?
+only : (result : Result Signaling SignalingRefusal) (b : List ℕ)
+    → IfOk result (λ m. (number b 2 2 ≤ length b) × IsSignaling m (take (number b 2 2) b))
+    → MatchResult result (λ _. signaling_refusal b ≡ None) (λ e. signaling_refusal b ≡ Some e)
+    → (m : Signaling) (n : ℕ) → n ≤ length b → IsSignaling m (take n b) → IsOkAnd result (λ it. it ≡ m)
+only (Ok it) b read refused m n fits p =
+    signaling_same it m (take n b) (subst (λ (k : ℕ). IsSignaling it (take k b)) (front_length m b n fits p) read.1) p
+only (Err e) b read refused m n fits p = let none : signaling_refusal b ≡ None = signaling_none m b n fits p in absurd cc
 
 pub returns-clause-only : goal.returns-clause-only
-returns-clause-only c = ?
-
-pub returns-clause-refused : goal.returns-clause-refused
-returns-clause-refused c = ?
+returns-clause-only c = only c.message_at_front.result c.args.octets.now c.message_at_front.ensures.read c.message_at_front.ensures.refused
