@@ -1,5 +1,5 @@
 -- Octets that begin with a Signaling message: no refusal applies, and they are those of one message, of one length.
-use Rattle.std.proofs.Common.{◌≡◌, ◌≢◌, ℕ, ◌+◌, ◌-◌, ◌%◌, ◌<◌, ◌≤◌, true, false, ◌&&◌, List, length, take, drop, get_or, slice_range, Some, None, refl, sym, ap, subst, ◌∙◌, arith}
+use Rattle.std.proofs.Common.{◌≡◌, ◌≢◌, ℕ, ◌-◌, ◌%◌, ◌<◌, ◌≤◌, true, false, List, length, take, drop, get_or, Some, None, refl, sym, ap, subst, ◌∙◌, arith}
 use Rattle.std.proofs.lemmas.Bool.{le-ltb}
 use Rattle.std.proofs.lemmas.Bool.Decides.{nat_tests}
 use Rattle.std.proofs.lemmas.List.{get_or-take, length-take-le, take-take}
@@ -11,7 +11,7 @@ use Rattle.event_codec.specs.declared.port.PortIdentity.{PortIdentity}
 use Rattle.event_codec.specs.declared.refusal.DecodeRefusal.{DecodeRefusal}
 use Rattle.event_codec.specs.Header.{header_refusal}
 use Rattle.event_codec.specs.Layout.{number}
-use Rattle.event_codec.specs.Packet.{IsHeader, IsIdentityAt}
+use Rattle.event_codec.specs.Packet.{IsHeader}
 use Rattle.event_codec.proofs.Numbers.{number-take}
 use Rattle.event_codec.proofs.Agreement.{IsHeader-agrees}
 use Rattle.signaling_codec.specs.declared.refusal.SignalingRefusal.TheVariants.{NoSignaling}

@@ -1,6 +1,5 @@
 -- The readings that are left, as TLVs and records are taken.
-use Rattle.std.proofs.Common.{◌≡◌, ℕ, suc, ◌+◌, ◌-◌, ◌*◌, ◌/◌, ◌%◌, ◌^◌, ◌<◌, ◌≤◌, Bool, true, ◌&&◌, List, [], ◌∷◌, ◌++◌, length, drop, slice_range, Option, Some, None, refl, sym, ap, ◌∙◌, arith, ltb}
-use Rattle.std.specs.Option.{option_or}
+use Rattle.std.proofs.Common.{◌≡◌, ℕ, suc, ◌-◌, ◌/◌, ◌%◌, ◌^◌, ◌<◌, ◌≤◌, true, List, [], ◌∷◌, ◌++◌, length, drop, slice_range, Option, Some, None, refl, sym, ap, ◌∙◌, arith, ltb}
 use Rattle.std.proofs.lemmas.Bool.{ltb-false, ltb-true}
 use Rattle.std.proofs.lemmas.List.{length-drop}
 use Rattle.event_codec.specs.declared.port.PortIdentity.{PortIdentity}
@@ -12,10 +11,10 @@ use Rattle.signaling_codec.specs.declared.refusal.SignalingRefusal.TheVariants.{
 use Rattle.signaling_codec.specs.declared.tlv_type.TlvType.{TlvType}
 use Rattle.signaling_codec.specs.declared.tlv_type.TlvType.TheVariants.{SyncTiming, DelayTiming}
 use Rattle.signaling_codec.specs.Layout.{record_length}
-use Rattle.signaling_codec.specs.Tlv.{TlvOf, type_numbered, tlv_length, readings_in, readings_of}
+use Rattle.signaling_codec.specs.Tlv.{type_numbered, tlv_length, readings_in, readings_of}
 use Rattle.signaling_codec.specs.Refusal.{times_fit, all_times_fit, records_refusal, value_refusal, tlv_refusal, tlvs_refusal}
 use Rattle.signaling_codec.specs.Inner.Left.{left_readings}
-use Rattle.signaling_codec.specs.Inner.Parsed.{identity_at, sync_reading, delay_reading, records_in, tlv_of, tlv_with, tlv_at, tlvs_in}
+use Rattle.signaling_codec.specs.Inner.Parsed.{identity_at, sync_reading, delay_reading, tlv_of, tlv_with, tlv_at, tlvs_in}
 use Rattle.signaling_codec.proofs.Choice.{both, none_if_false, none_of_both}
 use Rattle.signaling_codec.proofs.Records.{times_step}
 use Rattle.signaling_codec.proofs.Sound.{records_none, records_sound, value_none}

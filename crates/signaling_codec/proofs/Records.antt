@@ -1,16 +1,16 @@
 -- Records: what they say is computed from their octets, and their nanoseconds fit.
-use Rattle.std.proofs.Common.{◌≡◌, ℕ, zero, suc, ◌+◌, ◌-◌, ◌*◌, ◌/◌, ◌%◌, ◌^◌, ◌<◌, ◌≤◌, Bool, true, ◌&&◌, List, [], ◌∷◌, length, drop, None, refl, sym, ap, ◌∙◌, arith, cond, ltb}
-use Rattle.std.proofs.lemmas.Bool.{ltb-true, lt-ltb, eqb-true, eq-eqb}
-use Rattle.std.proofs.lemmas.List.{length-drop, drop_all}
+use Rattle.std.proofs.Common.{◌≡◌, ℕ, zero, suc, ◌+◌, ◌-◌, ◌*◌, ◌^◌, ◌<◌, true, ◌&&◌, List, [], ◌∷◌, length, drop, refl, ap, ◌∙◌, arith}
+use Rattle.std.proofs.lemmas.Bool.{ltb-true, lt-ltb}
+use Rattle.std.proofs.lemmas.List.{length-drop}
 use Rattle.event_codec.specs.declared.port.PortIdentity.{PortIdentity}
 use Rattle.event_codec.specs.Layout.{number}
 use Rattle.event_codec.specs.Packet.{IsIdentityAt}
 use Rattle.signaling_codec.specs.declared.reading.SyncReading.{SyncReading}
 use Rattle.signaling_codec.specs.declared.reading.DelayReading.{DelayReading}
 use Rattle.signaling_codec.specs.Record.{IsSyncReading, IsDelayReading, AreRecords}
-use Rattle.signaling_codec.specs.Refusal.{times_fit, all_times_fit, records_refusal}
+use Rattle.signaling_codec.specs.Refusal.{times_fit, all_times_fit}
 use Rattle.signaling_codec.specs.Inner.Parsed.{identity_at, sync_reading, delay_reading, records_in}
-use Rattle.signaling_codec.proofs.Choice.{both, none_if_true, none_then}
+use Rattle.signaling_codec.proofs.Choice.{both}
 
 pub identity_is : (p : PortIdentity) (b : List ℕ) (i : ℕ) → IsIdentityAt p b i → p ≡ identity_at b i
 identity_is p b i h = λ j. record { clock = h.clock j; port = h.port j }

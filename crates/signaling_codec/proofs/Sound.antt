@@ -1,24 +1,21 @@
 -- Octets to which no refusal applies are the TLVs that are computed of them, and no others.
-use Rattle.std.proofs.Common.{◌≡◌, ℕ, zero, suc, ◌+◌, ◌-◌, ◌*◌, ◌/◌, ◌%◌, ◌<◌, ◌≤◌, Bool, true, false, List, [], ◌∷◌, length, drop, slice_range, Option, Some, None, refl, sym, ap, subst, ◌∙◌, arith, cond, ltb, eqb}
+use Rattle.std.proofs.Common.{◌≡◌, ℕ, zero, suc, ◌*◌, ◌/◌, ◌%◌, ◌<◌, ◌≤◌, true, List, [], ◌∷◌, length, drop, slice_range, Option, Some, None, refl, sym, ap, subst, ◌∙◌, arith, cond, ltb, eqb}
 use Rattle.std.specs.Option.{option_or}
 use Rattle.std.proofs.lemmas.Bool.{ltb-false, le-ltb, eqb-true, eq-eqb}
 use Rattle.std.proofs.lemmas.Bool.Decides.{nat_tests}
 use Rattle.std.proofs.lemmas.List.{length-drop}
-use Rattle.event_codec.specs.declared.port.PortIdentity.{PortIdentity}
 use Rattle.event_codec.specs.Layout.{number}
-use Rattle.signaling_codec.specs.declared.reading.SyncReading.{SyncReading}
-use Rattle.signaling_codec.specs.declared.reading.DelayReading.{DelayReading}
 use Rattle.signaling_codec.specs.declared.refusal.SignalingRefusal.{SignalingRefusal}
 use Rattle.signaling_codec.specs.declared.refusal.SignalingRefusal.TheVariants.{TlvLength, Nanoseconds}
 use Rattle.signaling_codec.specs.declared.tlv_type.TlvType.{TlvType}
 use Rattle.signaling_codec.specs.declared.tlv_type.TlvType.TheVariants as types
-use Rattle.signaling_codec.specs.Record.{IsSyncReading, IsDelayReading, AreRecords}
+use Rattle.signaling_codec.specs.Record.{IsSyncReading, IsDelayReading}
 use Rattle.signaling_codec.specs.Layout.{type_number}
 use Rattle.signaling_codec.specs.Tlv.{TlvOf, SyncTiming, DelayTiming, Other, type_numbered, tlv_type, tlv_length, IsValue, IsTlv, AreTlvs}
 use Rattle.signaling_codec.specs.Refusal.{all_times_fit, records_refusal, value_refusal, tlv_refusal, tlvs_refusal}
-use Rattle.signaling_codec.specs.Inner.Parsed.{identity_at, sync_reading, delay_reading, records_in, tlv_of, tlv_with, tlv_at, tlvs_in}
+use Rattle.signaling_codec.specs.Inner.Parsed.{sync_reading, delay_reading, records_in, tlv_of, tlv_with, tlv_at, tlvs_in}
 use Rattle.signaling_codec.proofs.Choice.{none_if_true, none_if_false, none_then, none_of_both}
-use Rattle.signaling_codec.proofs.Records.{identity_is, is_sync, sync_is, sync_fits, is_delay, delay_is, delay_fits, are_records, IsOf, records_are}
+use Rattle.signaling_codec.proofs.Records.{identity_is, is_sync, sync_is, sync_fits, is_delay, delay_is, delay_fits, are_records, records_are}
 use Rattle.signaling_codec.proofs.Walk.{tlvs_refusal-first, tlvs_in-first, tlvs_refusal-end, tlvs_in-end}
 
 -- records

@@ -1,5 +1,5 @@
 -- The numbers of the refusals of octets, and the first one that applies.
-use Rattle.std.specs.Prelude.{ℕ, zero, suc, ◌+◌, ◌-◌, ◌/◌, ◌%◌, ◌^◌, List, [], ◌∷◌, length, take, drop, slice_index, slice_range}
+use Rattle.std.specs.Prelude.{ℕ, zero, suc, ◌-◌, ◌/◌, ◌%◌, ◌^◌, List, [], ◌∷◌, length, take, drop, slice_index, slice_range}
 use Rattle.std.specs.Prelude.{nat_lt, nat_le, ◌==◌, Bool, true, ◌&&◌, if◌then◌else◌, Option, Some, None}
 use Rattle.std.specs.Option.{option_or}
 use Rattle.event_codec.specs.Layout.{number}

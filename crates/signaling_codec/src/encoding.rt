@@ -1,6 +1,9 @@
 ghost use Rattle.std.specs.Prelude.{◌≡◌, ◌≤◌, ◌<◌, ◌+◌, ◌*◌, List, ℕ, length, take, drop, map, IfOk, OnErr, MatchResult, Some, None};
+ghost use Rattle.std.specs.Prelude.{MatchOption};
+ghost use Rattle.std.specs.List.{sum_by};
+ghost use Rattle.event_codec.specs.Layout.{number};
 ghost use Rattle.event_codec.specs.Packet.{IsHeader, IsIdentityAt, IsTimestampAt};
-ghost use Rattle.signaling_codec.specs.Layout.{signaling_type};
+ghost use Rattle.signaling_codec.specs.Layout.{signaling_type, type_number};
 ghost use Rattle.signaling_codec.specs.Record.{IsSyncReading, IsDelayReading, AreRecords};
 ghost use Rattle.signaling_codec.specs.Tlv.{AreTlvs, IsTlv, tlv_length};
 ghost use Rattle.signaling_codec.specs.Packet.{IsSignaling};
@@ -130,7 +133,11 @@ fn put_delay_readings(buffer: &mut [u8], at: usize, readings: &[DelayReading]) -
 }
 
 /// tlvType, lengthField and sourcePortIdentity of the master.
-fn tlv_head(kind: TlvType, length: u16, master: PortIdentity) -> [u8; 14] {
+fn tlv_head(kind: TlvType, length: u16, master: PortIdentity) -> [u8; 14]
+    ensures kind { number result 0 2 ≡ type_number kind }
+    ensures length { number result 2 2 ≡ length }
+    ensures master { IsIdentityAt master result 4 }
+{
     let [k0, k1] = kind.number().to_be_bytes();
     let [l0, l1] = length.to_be_bytes();
     let [m0, m1, m2, m3, m4, m5, m6, m7, m8, m9] = identity_octets(master);
@@ -138,19 +145,40 @@ fn tlv_head(kind: TlvType, length: u16, master: PortIdentity) -> [u8; 14] {
 }
 
 /// The whole TLV.
-fn put_tlv(buffer: &mut [u8], at: usize, tlv: &Tlv<'_>) -> usize {
+fn put_tlv(buffer: &mut [u8], at: usize, tlv: &Tlv<'_>) -> usize
+    requires room { at + octets_of (tlv_written tlv.now) ≤ length buffer.old }
+    requires short { octets_of (tlv_written tlv.now) < 65536 }
+    ensures { (b : List ℕ) × Puts buffer.old buffer.new at result b × IsTlv (tlv_written tlv.now) b
+        × (tlv_length b ≡ length b) × (length b ≡ octets_of (tlv_written tlv.now)) }
+{
     match tlv {
         Tlv::SyncTiming { master, readings } => {
-            let length = (10 + 34 * readings.len()) as u16;
-            let end = put(buffer, at, tlv_head(TlvType::SyncTiming, length, *master));
+            let value_length = (10 + 34 * readings.len()) as u16;
+            let head = tlv_head(TlvType::SyncTiming, value_length, *master);
+            let end = put(buffer, at, head);
             put_sync_readings(buffer, end, readings)
         }
         Tlv::DelayTiming { master, readings } => {
-            let length = (10 + 30 * readings.len()) as u16;
-            let end = put(buffer, at, tlv_head(TlvType::DelayTiming, length, *master));
+            let value_length = (10 + 30 * readings.len()) as u16;
+            let head = tlv_head(TlvType::DelayTiming, value_length, *master);
+            let end = put(buffer, at, head);
             put_delay_readings(buffer, end, readings)
         }
     }
+}
+
+/// The TLVs, one behind the other.
+fn put_tlvs(buffer: &mut [u8], at: usize, tlvs: &[Tlv<'_>]) -> usize
+    requires room { at + sum_by octets_of (map tlv_written tlvs.now) ≤ length buffer.old }
+    requires short { sum_by octets_of (map tlv_written tlvs.now) < 65536 }
+    ensures { (b : List ℕ) × Puts buffer.old buffer.new at result b × AreTlvs (map tlv_written tlvs.now) b
+        × (length b ≡ sum_by octets_of (map tlv_written tlvs.now)) }
+{
+    let mut end = at;
+    for tlv in tlvs {
+        end = put_tlv(buffer, end, tlv);
+    }
+    end
 }
 
 /// The octets that a TLV takes.
@@ -163,37 +191,67 @@ fn octets_of(tlv: &Tlv<'_>) -> usize
     }
 }
 
-/// messageLength of these TLVs, if it doesn't pass 65,535.
-fn length_field(tlvs: &[Tlv<'_>]) -> Option<u16> {
-    let mut length = 44;
+/// messageLength of a message with these TLVs, if it doesn't pass 65,535.
+fn message_length(tlvs: &[Tlv<'_>]) -> Option<u16>
+    ensures { MatchOption result
+        (65536 ≤ 44 + sum_by octets_of (map tlv_written tlvs.now))
+        (λ n. n ≡ 44 + sum_by octets_of (map tlv_written tlvs.now)) }
+{
+    let mut length: u16 = 44;
     for tlv in tlvs {
-        length += octets_of(tlv);
-        if length > 65_535 {
+        let more = octets_of(tlv);
+        if more > usize::from(u16::MAX - length) {
             return None;
         }
+        length += more as u16;
     }
-    Some(length as u16)
+    Some(length)
+}
+
+/// The whole message, of this messageLength.
+fn put_message(
+    buffer: &mut [u8],
+    header: &Header,
+    target: PortIdentity,
+    tlvs: &[Tlv<'_>],
+    length_field: u16,
+) -> usize
+    requires whole { length_field ≡ message_length (message_of header.now target tlvs.now) }
+    requires room { length_field ≤ length buffer.old }
+    ensures whole { result ≡ length_field }
+    ensures written { IsSignaling (message_of header.now target tlvs.now) (take length_field buffer.new) }
+    ensures after { drop length_field buffer.new ≡ drop length_field buffer.old }
+{
+    let end = put(buffer, 0, header_octets(header, length_field));
+    let end = put(buffer, end, identity_octets(target));
+    put_tlvs(buffer, end, tlvs)
 }
 
 /// Writes a Signaling message of this header, this target and these TLVs into the front of the buffer, and gives its
 /// messageLength. The octets after that stay as they are, and on a refusal all octets do. Refused with 231 where messageLength
 /// would pass 65,535, else with 232 where the buffer is shorter than the message.
+///
+/// What is written is read again by [`decode_signaling`](crate::decode_signaling) as it was, whatever follows it: see
+/// [`decode_of_encode`](crate::laws::decode_of_encode).
 pub fn encode_signaling(
     header: &Header,
     target: PortIdentity,
     tlvs: &[Tlv<'_>],
     buffer: &mut [u8],
-) -> Result<usize, SignalingEncodeRefusal> {
-    let Some(message_length) = length_field(tlvs) else {
+) -> Result<usize, SignalingEncodeRefusal>
+    ensures written { IfOk result (λ n. (n ≤ length buffer.old)
+        × IsSignaling (message_of header.now target tlvs.now) (take n buffer.new)
+        × (drop n buffer.new ≡ drop n buffer.old)) }
+    ensures refused { MatchResult result
+        (λ _. encode_refusal (message_of header.now target tlvs.now) (length buffer.old) ≡ None)
+        (λ e. encode_refusal (message_of header.now target tlvs.now) (length buffer.old) ≡ Some e) }
+    ensures unchanged { OnErr result (buffer.new ≡ buffer.old) }
+{
+    let Some(length_field) = message_length(tlvs) else {
         return Err(SignalingEncodeRefusal::TooLong);
     };
-    if buffer.len() < usize::from(message_length) {
+    if buffer.len() < usize::from(length_field) {
         return Err(SignalingEncodeRefusal::NoRoom);
     }
-    let mut end = put(buffer, 0, header_octets(header, message_length));
-    end = put(buffer, end, identity_octets(target));
-    for tlv in tlvs {
-        end = put_tlv(buffer, end, tlv);
-    }
-    Ok(end)
+    Ok(put_message(buffer, header, target, tlvs, length_field))
 }

@@ -4,6 +4,7 @@
 
 mod decoding;
 mod encoding;
+pub mod laws;
 mod octets;
 mod reading;
 mod readings;

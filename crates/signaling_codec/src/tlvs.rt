@@ -63,12 +63,12 @@ pub(crate) fn first_tlv(octets: &[u8]) -> Option<FirstTlv<'_>>
 }
 
 /// Whether the nanoseconds of the record at the front fit.
-fn times_fit(size: usize, record: &[u8]) -> bool
+fn times_fit(size: usize, octets: &[u8]) -> bool
     requires size { 30 ≤ size }
-    requires whole { size ≤ length record.now }
-    ensures { result ≡ times_fit size record.now }
+    requires whole { size ≤ length octets.now }
+    ensures { result ≡ times_fit size octets.now }
 {
-    u32_at(record, 8) < 1_000_000_000 && u32_at(record, size - 4) < 1_000_000_000
+    u32_at(octets, 8) < 1_000_000_000 && u32_at(octets, size - 4) < 1_000_000_000
 }
 
 /// Whether the nanoseconds fit in each of so many records.

@@ -1,4 +1,4 @@
-use Rattle.std.proofs.Common.{◌≡◌, ℕ, ◌≤◌, List, length, take, Result, Ok, Err, MatchResult, IfOk, IsOkAnd, None, Some, sym, ◌∙◌, subst}
+use Rattle.std.proofs.Common.{◌≡◌, ℕ, ◌≤◌, List, length, take, Result, Ok, Err, MatchResult, IfOk, IsOkAnd, None, Some, subst}
 use Rattle.event_codec.specs.Layout.{number}
 use Rattle.signaling_codec.specs.declared.refusal.SignalingRefusal.{SignalingRefusal}
 use Rattle.signaling_codec.specs.declared.signaling.Signaling.{Signaling}

@@ -1,7 +1,5 @@
-use Rattle.std.proofs.Common.{◌≡◌, ℕ, ◌-◌, List, length, take, drop, sym, ap, ◌∙◌, arith, rules}
+use Rattle.std.proofs.Common.{ℕ, List, sym, ap, ◌∙◌, rules}
 use Rattle.std.proofs.lemmas.Result.{err_from_is_err_and}
-use Rattle.std.proofs.lemmas.Slice.{between_to_end}
-use Rattle.event_codec.specs.Layout.{number}
 use Rattle.signaling_codec.specs.Refusal.{tlvs_refusal}
 use Rattle.signaling_codec.proofs.Front.{refusal_whole, signaling_read, part_is}
 use Rattle.signaling_codec.proofs.decoding.message_at_front.Goals as goal

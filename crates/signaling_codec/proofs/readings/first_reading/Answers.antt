@@ -1,7 +1,4 @@
-use Rattle.std.proofs.Common.{subst}
-use Rattle.signaling_codec.specs.declared.tlv_type.TlvType.{TlvType}
-use Rattle.signaling_codec.specs.declared.tlv_type.TlvType.TheVariants.{SyncTiming, DelayTiming}
-use Rattle.signaling_codec.proofs.Left.{HasFirst, has_first, sync_first, delay_first, fits_front}
+use Rattle.signaling_codec.proofs.Left.{has_first, sync_first, delay_first, fits_front}
 use Rattle.signaling_codec.proofs.readings.first_reading.Goals as goal
 
 pub sync_reading-requires-clause-whole : goal.sync_reading-requires-clause-whole

@@ -1,8 +1,8 @@
-use Rattle.std.proofs.Common.{◌≡◌, ◌<◌, ◌++◌, List, [], length, drop, sym, ap, ◌∙◌, arith}
+use Rattle.std.proofs.Common.{◌++◌, List, ap, ◌∙◌, arith}
 use Rattle.signaling_codec.specs.declared.reading.OwnReading.{OwnReading}
 use Rattle.signaling_codec.specs.Tlv.{readings_of}
 use Rattle.signaling_codec.specs.Inner.Parsed.{tlvs_in}
-use Rattle.signaling_codec.proofs.Left.{HasNext, has_next, no_next}
+use Rattle.signaling_codec.proofs.Left.{has_next, no_next}
 use Rattle.signaling_codec.proofs.readings.next_records.Goals as goal
 
 pub records_of-requires : goal.records_of-requires

@@ -1,11 +1,11 @@
-use Rattle.std.proofs.Common.{◌≡◌, ◌<◌, List, ℕ, length, drop, Option, Some, None, sym, ap, ◌∙◌, arith}
+use Rattle.std.proofs.Common.{◌≡◌, ◌<◌, List, ℕ, length, drop, Option, sym, ap, ◌∙◌, arith}
 use Rattle.std.specs.Option.{option_or}
 use Rattle.std.proofs.lemmas.Bool.{eqb-true}
 use Rattle.std.proofs.lemmas.Bool.Decides.{nat_tests}
 use Rattle.std.proofs.lemmas.Result.{err_from_is_err_and}
 use Rattle.signaling_codec.specs.declared.refusal.SignalingRefusal.{SignalingRefusal}
 use Rattle.signaling_codec.specs.Tlv.{tlv_length}
-use Rattle.signaling_codec.specs.Refusal.{tlv_refusal, tlvs_refusal}
+use Rattle.signaling_codec.specs.Refusal.{tlvs_refusal}
 use Rattle.signaling_codec.proofs.Walk.{tlvs_refusal-first, tlvs_refusal-end}
 use Rattle.signaling_codec.proofs.tlvs.check_tlvs.Goals as goal
 
