@@ -1,8 +1,8 @@
 -- The numbers of the refusals of messages, and the first one that applies.
 use Rattle.std.specs.Prelude.{ℕ, ◌+◌, ◌*◌, length, nat_lt, if◌then◌else◌, Option, Some, None}
 use Rattle.std.specs.List.{sum_by}
-use Rattle.signaling_codec.specs.declared.refusal.SignalingEncodeRefusal.{SignalingEncodeRefusal}
-use Rattle.signaling_codec.specs.declared.refusal.SignalingEncodeRefusal.TheVariants.{TooLong, NoRoom}
+use Rattle.signaling_codec.specs.declared.encode_refusal.SignalingEncodeRefusal.{SignalingEncodeRefusal}
+use Rattle.signaling_codec.specs.declared.encode_refusal.SignalingEncodeRefusal.TheVariants.{TooLong, NoRoom}
 use Rattle.signaling_codec.specs.declared.signaling.Signaling.{Signaling}
 use Rattle.signaling_codec.specs.declared.tlv_type.TlvType.TheVariants as types
 use Rattle.signaling_codec.specs.Layout.{fields_length, record_length}

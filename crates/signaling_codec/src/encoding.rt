@@ -11,9 +11,9 @@ ghost use Rattle.signaling_codec.specs.Written.{tlv_written, message_of};
 ghost use Rattle.signaling_codec.specs.EncodeRefusal.{octets_of, message_length, encode_refusal};
 ghost use Rattle.signaling_codec.specs.Inner.Puts.{Puts};
 
+use crate::encode_refusal::SignalingEncodeRefusal;
 use crate::octets::array_at;
 use crate::reading::{DelayReading, SyncReading};
-use crate::refusal::SignalingEncodeRefusal;
 use crate::tlv_type::TlvType;
 use event_codec::{Header, PortIdentity};
 use ptp_units::Timestamp;

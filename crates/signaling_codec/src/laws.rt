@@ -8,8 +8,9 @@ ghost use Rattle.signaling_codec.specs.EncodeRefusal.{encode_refusal};
 ghost use Rattle.signaling_codec.specs.Written.{message_of};
 
 use crate::decoding::decode_signaling;
+use crate::encode_refusal::SignalingEncodeRefusal;
 use crate::encoding::{Tlv, encode_signaling};
-use crate::refusal::{SignalingEncodeRefusal, SignalingRefusal};
+use crate::refusal::SignalingRefusal;
 use crate::signaling::Signaling;
 use event_codec::{Header, PortIdentity};
 

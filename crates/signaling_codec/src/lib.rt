@@ -3,6 +3,7 @@
 #![tactic(auto)]
 
 mod decoding;
+mod encode_refusal;
 mod encoding;
 pub mod laws;
 mod octets;
@@ -14,10 +15,11 @@ mod tlv_type;
 mod tlvs;
 
 pub use decoding::decode_signaling;
+pub use encode_refusal::SignalingEncodeRefusal;
 pub use encoding::{Tlv, encode_signaling};
 pub use reading::{DelayReading, OwnReading, Reading, SyncReading};
 pub use readings::Readings;
-pub use refusal::{SignalingEncodeRefusal, SignalingRefusal};
+pub use refusal::SignalingRefusal;
 pub use signaling::Signaling;
 pub use tlvs::Tlvs;
 

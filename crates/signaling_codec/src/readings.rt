@@ -1,4 +1,5 @@
 ghost use Rattle.std.specs.Prelude.{◌≡◌, ◌∷◌, [], ◌++◌, ◌≤◌, ◌<◌, ◌^◌, ◌+◌, length, drop, MatchOption, None};
+ghost use Rattle.std.specs.Iterator.{YieldsFirst, item_count};
 ghost use Rattle.event_codec.specs.Layout.{number};
 ghost use Rattle.signaling_codec.specs.Layout.{record_length};
 ghost use Rattle.signaling_codec.specs.Tlv.{type_numbered, readings_in, readings_of};
@@ -162,13 +163,16 @@ fn with_record<'a>(left: &Left<'a>) -> Option<Left<'a>>
     })
 }
 
-impl<'a> Readings<'a> {
+impl<'a> Iterator for Readings<'a> {
+    type Item = OwnReading;
+
+    // The first of those that are left, and the others are left.
+    ghost next_gives = { YieldsFirst (λ left. left) };
+
+    ghost remaining = { item_count (λ left. left) };
+
     /// The next reading, or None behind the last one.
-    pub fn next(&mut self) -> Option<OwnReading>
-        ensures { MatchOption result
-            ((self.old ≡ []) × (self.new ≡ []))
-            (λ reading. self.old ≡ reading ∷ self.new) }
-    {
+    fn next(&mut self) -> Option<OwnReading> {
         let Some(
             Left {
                 kind,
