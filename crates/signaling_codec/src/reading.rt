@@ -1,7 +1,7 @@
 use event_codec::PortIdentity;
 use ptp_units::{Interval, Seq, Timestamp};
 
-/// What a slave tells of a Sync that came to it: a record of SLAVE_RX_SYNC_TIMING_DATA (IEEE 1588-2019, 16.11.4.1).
+/// What a slave tells of a Sync that came to it: a record of SLAVE_RX_SYNC_TIMING_DATA (IEEE 1588-2019, 16.11.4).
 #[derive(Clone, Copy, Debug, PartialEq, Eq)]
 pub struct SyncReading {
     /// sequenceId of the Sync.

@@ -1,6 +1,6 @@
 ghost use Rattle.std.specs.Prelude.{◌≡◌, ◌<◌};
 
-/// The types of TLV whose records are read (IEEE 1588-2019, table 52, and linuxptp).
+/// The types of TLV whose records are read (IEEE 1588-2019, 14.1 and 16.11.4; the second is linuxptp's own).
 #[derive(Clone, Copy, Debug)]
 pub(crate) enum TlvType {
     /// SLAVE_RX_SYNC_TIMING_DATA.
