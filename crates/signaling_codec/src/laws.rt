@@ -3,6 +3,7 @@
 
 ghost use Rattle.std.specs.Prelude.{◌≡◌, ℕ, List, length, IfOk, IsOkAnd, MatchResult, Some, None};
 ghost use Rattle.signaling_codec.specs.declared.signaling.Signaling.{Signaling};
+ghost use Rattle.signaling_codec.specs.Tlv.{readings_of};
 ghost use Rattle.signaling_codec.specs.Packet.{IsSignaling};
 ghost use Rattle.signaling_codec.specs.EncodeRefusal.{encode_refusal};
 ghost use Rattle.signaling_codec.specs.Written.{message_of};
@@ -10,9 +11,11 @@ ghost use Rattle.signaling_codec.specs.Written.{message_of};
 use crate::decoding::decode_signaling;
 use crate::encode_refusal::SignalingEncodeRefusal;
 use crate::encoding::{Tlv, encode_signaling};
+use crate::reading::OwnReading;
 use crate::refusal::SignalingRefusal;
 use crate::signaling::Signaling;
 use event_codec::{Header, PortIdentity};
+use std::alloc::{AllocError, Global};
 
 /// Decodes what it encoded into the front of the buffer: the same message, whatever octets follow it there.
 pub fn decode_of_encode<'b>(
@@ -28,6 +31,13 @@ pub fn decode_of_encode<'b>(
 {
     encode_signaling(header, target, tlvs, buffer)?;
     Ok(decode_signaling(buffer))
+}
+
+/// All readings of a message, in order: none is left out, and none comes twice.
+pub fn all_readings(alloc: Global, message: &Signaling<'_>) -> Result<Vec<OwnReading>, AllocError>
+    ensures { IfOk result (λ readings. readings.items ≡ readings_of message.now.tlvs) }
+{
+    message.readings().collect(alloc)
 }
 
 /// The same octets are one message.
