@@ -4,6 +4,7 @@ use super::*;
 use event_codec::{Header, Nibble, PortIdentity};
 use ptp_units::{Interval, Seq, Timestamp};
 use std::alloc::Global;
+use std::error::Error;
 use std::process::Abort;
 use std::test::Fail;
 
@@ -211,17 +212,11 @@ fn refuses_what_is_bent(rt: HostRuntime) -> Result<(), Fail> {
         (47, 43, SignalingRefusal::TlvLength, 224),
         (47, 42, SignalingRefusal::TlvLength, 224),
         (47, 9, SignalingRefusal::TlvLength, 224),
-        (66, 0x3b, SignalingRefusal::Nanoseconds, 225),
+        (66, 0x3c, SignalingRefusal::Nanoseconds, 225),
         (88, 0xff, SignalingRefusal::Nanoseconds, 225),
     ];
     for (at, octet, refusal, code) in rows {
         let bent = changed(alloc, &message, at, octet)?;
-        // 10^9 - 1 is less: the octets behind 0x3b are greater than those of 10^9.
-        let bent = if octet == 0x3b {
-            changed(alloc, &bent, at + 1, 0xff)?
-        } else {
-            bent
-        };
         assert_refused(&rt, &bent, refusal, code);
     }
     let front = message.get(..33).ok_or("33 octets")?;
@@ -357,4 +352,54 @@ fn refuses_what_is_too_long(rt: HostRuntime) -> Result<(), Fail> {
     assert_eq!(rt; SignalingEncodeRefusal::TooLong.code(), 231);
     assert_eq!(rt; SignalingEncodeRefusal::NoRoom.code(), 232);
     Ok(())
+}
+
+/// Each of these errors says its text.
+fn assert_said<E: Error>(
+    rt: &(impl Abort + AllocGlobal),
+    errors: &[(E, &str)],
+) -> Result<(), Fail> {
+    for (error, text) in errors {
+        let said = format!(in rt.alloc(); "{error}")?;
+        assert_eq!(rt; said.as_str(), *text);
+    }
+    Ok(())
+}
+
+#[test]
+fn says_why(rt: HostRuntime) -> Result<(), Fail> {
+    let reading = [
+        (
+            SignalingRefusal::NoSignaling,
+            "there is no header of Signaling: 34 octets, versionPTP 2, messageType 12",
+        ),
+        (
+            SignalingRefusal::LengthField,
+            "messageLength of Signaling is below 44",
+        ),
+        (
+            SignalingRefusal::Truncated,
+            "there are fewer octets than messageLength of Signaling",
+        ),
+        (
+            SignalingRefusal::TlvLength,
+            "a TLV passes messageLength, or its value isn't 10 octets and whole records",
+        ),
+        (
+            SignalingRefusal::Nanoseconds,
+            "the nanoseconds of a timestamp in a TLV are 10^9 or more",
+        ),
+    ];
+    assert_said(&rt, &reading)?;
+    let writing = [
+        (
+            SignalingEncodeRefusal::TooLong,
+            "the TLVs are too long: messageLength would pass 65535",
+        ),
+        (
+            SignalingEncodeRefusal::NoRoom,
+            "the buffer is shorter than the Signaling message",
+        ),
+    ];
+    assert_said(&rt, &writing)
 }
