@@ -1,0 +1,4 @@
+pub mod Parts
+pub mod Division
+pub mod Shown
+pub mod Digits

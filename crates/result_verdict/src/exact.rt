@@ -1,0 +1,77 @@
+ghost use Rattle.std.specs.Prelude.{◌≡◌, ◌+ℤ◌, ◌-ℤ◌, ◌^◌, Some};
+ghost use Rattle.result_verdict.specs.Exact.{IsWithin, of_twice, exact_text, exact_in};
+
+use crate::difference::Difference;
+use crate::spelled::exact_in;
+use std::fmt;
+use std::fmt::{Display, Formatter};
+use std::marker::Model;
+
+/// A signed number of nanoseconds with up to 17 decimals, exactly: less than 2^111 ns from 0.
+#[derive(Clone, Copy, Debug)]
+pub struct Exact {
+    value: Difference,
+}
+
+impl Model for Exact {
+    ghost use Rattle.std.specs.Prelude.{ℤ, ◌^◌};
+    ghost use Rattle.result_verdict.specs.Exact.{IsWithin};
+
+    ghost Value = { ℤ };
+
+    ghost view = { λ e. e.value };
+
+    ghost invariant = { λ e. IsWithin (2 ^ 111) e.value };
+
+    ghost inverse = { λ exact. record { value = exact } };
+}
+
+impl Exact {
+    /// A result, of which this is twice the number of units of 2^-16 ns.
+    pub fn from_twice(twice: i128) -> Exact
+        ensures { result ≡ of_twice twice }
+    {
+        Exact {
+            value: Difference::from_twice(twice),
+        }
+    }
+
+    /// The number that a text is, in nanoseconds: 1 to 24 digits without zeros in front, and then nothing, or a point and 1 to 16 digits;
+    /// a minus may stand in front. None of anything else.
+    pub fn from_text(text: &str) -> Option<Exact>
+        ensures { result ≡ exact_in text.now }
+    {
+        let value = exact_in(text)?;
+        Some(Exact { value })
+    }
+
+    /// The number, as a sum or a difference of such.
+    pub fn value(self) -> Difference
+        ensures value { result ≡ self }
+        ensures within { IsWithin (2 ^ 111) self }
+    {
+        self.value
+    }
+
+    /// The sum of both.
+    pub fn sum(self, other: Exact) -> Difference
+        ensures { result ≡ self +ℤ other }
+    {
+        self.value().plus(other.value())
+    }
+
+    /// The difference of both.
+    pub fn difference(self, other: Exact) -> Difference
+        ensures { result ≡ self -ℤ other }
+    {
+        self.value().minus(other.value())
+    }
+}
+
+impl Display for Exact {
+    ghost output = { λ e. Some (exact_text e) };
+
+    fn fmt<W: fmt::Write>(&self, f: &mut Formatter<W>) -> fmt::Result {
+        self.value.fmt(f)
+    }
+}
