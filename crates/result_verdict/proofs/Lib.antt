@@ -2,3 +2,4 @@ pub mod Parts
 pub mod Division
 pub mod Shown
 pub mod Digits
+pub mod Worked

@@ -1,2 +1,4 @@
 pub mod Exact
+pub mod Delays
+pub mod Verdict
 pub mod Inner

@@ -3,7 +3,15 @@
 
 mod difference;
 mod exact;
+mod judged;
+mod known;
+mod path_is;
 mod spelled;
+mod verdict;
 
 pub use difference::Difference;
 pub use exact::Exact;
+pub use judged::Judged;
+pub use known::{Known, NEWEST};
+pub use path_is::PathIs;
+pub use verdict::Verdict;

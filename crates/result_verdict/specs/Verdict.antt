@@ -1,0 +1,103 @@
+-- What a result is by a slave's own readings. Of its Sync the bracket is t2 - t1 - correction, and so the offset by a delay is the bracket
+-- less the delay (IEEE 1588-2019, 11.2).
+use Rattle.std.specs.Prelude.{ℕ, Bool, ◌&&◌, ℤ, ◌+ℤ◌, ◌-ℤ◌, int_le, List, codes, ◌++◌, Option, Some, None, if◌then◌else◌}
+use Rattle.std.specs.Prelude.{unsigned_abs, ◌==◌}
+use Rattle.std.specs.List.{list_any}
+use Rattle.std.specs.Fmt.{decimal}
+use Rattle.result_verdict.specs.declared.known.Known.{Known}
+use Rattle.result_verdict.specs.declared.path_is.PathIs.{PathIs}
+use Rattle.result_verdict.specs.declared.path_is.PathIs.TheVariants.{Latest, Response, Median, Mean, Between, Outside}
+use Rattle.result_verdict.specs.declared.verdict.Verdict.{Verdict}
+use Rattle.result_verdict.specs.declared.verdict.Verdict.TheVariants.{Exact, Within, Filtered, Older, Wrong}
+use Rattle.result_verdict.specs.declared.judged.Judged.{Judged}
+use Rattle.result_verdict.specs.Delays.{is_within, least, greatest, beyond, response_of, median_of, mean_of}
+
+-- the offset, less that by the latest delay
+abbrev pub offset_error : Known → (offset : ℤ) → ℤ
+offset_error known offset = offset -ℤ (known.bracket -ℤ known.latest)
+
+-- the path delay, less the latest
+abbrev pub path_error : Known → (path : ℤ) → ℤ
+path_error known path = path -ℤ known.latest
+
+-- both together, less the bracket, which they make if the offset is by this path delay
+abbrev pub sum_error : Known → (offset path : ℤ) → ℤ
+sum_error known offset path = (offset +ℤ path) -ℤ known.bracket
+
+-- by how much the path delay lies outside of the latest delay and those at responses
+abbrev pub beyond_known : Known → (path : ℤ) → ℤ
+beyond_known known path = beyond (least known.latest known.responses.items) (greatest known.latest known.responses.items) path
+
+-- ---- verdicts
+abbrev pub is_nothing : ℤ → Bool
+is_nothing difference = unsigned_abs difference == 0
+
+-- both results are those by the latest delay
+abbrev pub is_exact : Known → (offset path : ℤ) → Bool
+is_exact known offset path = is_nothing (offset_error known offset) && is_nothing (path_error known path)
+
+-- both are within the tolerance of those
+abbrev pub is_near : Known → (offset path tolerance : ℤ) → Bool
+is_near known offset path tolerance =
+    is_within tolerance (offset_error known offset) && is_within tolerance (path_error known path)
+
+-- the offset is by the path delay, and this lies among the known ones
+abbrev pub is_filtered : Known → (offset path tolerance : ℤ) → Bool
+is_filtered known offset path tolerance =
+    is_within tolerance (sum_error known offset path) && int_le (beyond_known known path) tolerance
+
+-- the offset is by the latest delay, and the path delay is one at a response
+abbrev pub is_older : Known → (offset path tolerance : ℤ) → Bool
+is_older known offset path tolerance = is_within tolerance (offset_error known offset)
+    && list_any (λ delay. is_within tolerance (path -ℤ delay)) known.responses.items
+
+-- the first of these that holds
+abbrev pub verdict_of : Known → (offset path tolerance : ℤ) → Verdict
+verdict_of known offset path tolerance =
+    if is_exact known offset path then Exact
+    else if is_near known offset path tolerance then Within
+    else if is_filtered known offset path tolerance then Filtered
+    else if is_older known offset path tolerance then Older
+    else Wrong
+
+-- ---- which delay the path delay is
+abbrev pub named : (response median mean : Option ℕ) → PathIs → PathIs
+named (Some k) median mean otherwise = Response k
+named None (Some n) mean otherwise = Median n
+named None None (Some n) otherwise = Mean n
+named None None None otherwise = otherwise
+
+-- the first that fits
+abbrev pub path_is_of : Known → (path tolerance : ℤ) → PathIs
+path_is_of known path tolerance =
+    if is_within tolerance (path_error known path) then Latest
+    else named (response_of path tolerance known.responses.items) (median_of path tolerance known.responses.items)
+    (mean_of path tolerance known.responses.items)
+    (if int_le (beyond_known known path) tolerance then Between else Outside)
+
+-- all that is told of a result
+abbrev pub judged : Known → (offset path tolerance : ℤ) → Judged
+judged known offset path tolerance = record {
+  beyond = beyond_known known path;
+  offset_error = offset_error known offset;
+  path_error = path_error known path;
+  path_is = path_is_of known path tolerance;
+  sum_error = sum_error known offset path;
+  verdict = verdict_of known offset path tolerance;
+}
+
+-- ---- words
+abbrev pub path_text : PathIs → List ℕ
+path_text Latest = codes "latest"
+path_text (Response k) = codes "response " ++ decimal k
+path_text (Median n) = codes "median " ++ decimal n
+path_text (Mean n) = codes "mean " ++ decimal n
+path_text Between = codes "between"
+path_text Outside = codes "outside"
+
+abbrev pub verdict_text : Verdict → List ℕ
+verdict_text Exact = codes "exact"
+verdict_text Within = codes "within"
+verdict_text Filtered = codes "filtered"
+verdict_text Older = codes "older"
+verdict_text Wrong = codes "wrong"
