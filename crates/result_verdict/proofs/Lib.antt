@@ -3,3 +3,6 @@ pub mod Division
 pub mod Shown
 pub mod Digits
 pub mod Worked
+pub mod Times
+pub mod Orders
+mod Means

@@ -1,4 +1,5 @@
 ghost use Rattle.std.specs.Prelude.{◌≡◌, ◌<◌, ◌^◌, ◌+ℤ◌, ◌-ℤ◌, neg_ℤ, int_lt, pos, unsigned_abs, Some};
+ghost use Rattle.std.specs.Int.{int_max};
 ghost use Rattle.result_verdict.specs.Exact.{with_parts, of_twice, decimals, exact_text, IsWithin};
 
 use std::fmt;
@@ -46,6 +47,7 @@ pub struct Difference {
 
 impl Model for Difference {
     ghost use Rattle.std.specs.Prelude.{ℤ};
+    ghost use Rattle.std.specs.Int.{int_max};
     ghost use Rattle.result_verdict.specs.Exact.{with_parts};
     ghost use Rattle.result_verdict.specs.Inner.Normal.{IsNormal, whole_of, parts_of};
 
@@ -82,6 +84,13 @@ impl Difference {
         joined(twice.div_euclid(131_072), parts)
     }
 
+    /// None at all.
+    pub fn zero() -> Difference
+        ensures { result ≡ pos 0 }
+    {
+        joined(0, 0)
+    }
+
     /// Whether it is below another one.
     pub fn is_below(self, other: Difference) -> bool
         ensures { result ≡ int_lt self other }
@@ -110,6 +119,13 @@ impl Difference {
         } else {
             self
         }
+    }
+
+    /// The greater of both.
+    pub fn max(self, other: Difference) -> Difference
+        ensures { result ≡ int_max self other }
+    {
+        if other.is_below(self) { self } else { other }
     }
 
     /// The sum, which is less than 2^120 ns from 0.

@@ -1,4 +1,4 @@
-ghost use Rattle.std.specs.Prelude.{◌≡◌, ◌+ℤ◌, ◌-ℤ◌, ◌^◌, Some};
+ghost use Rattle.std.specs.Prelude.{◌≡◌, ◌+ℤ◌, ◌-ℤ◌, ◌^◌, pos, Some};
 ghost use Rattle.result_verdict.specs.Exact.{IsWithin, of_twice, exact_text, exact_in};
 
 use crate::difference::Difference;
@@ -55,16 +55,29 @@ impl Exact {
 
     /// The sum of both.
     pub fn sum(self, other: Exact) -> Difference
-        ensures { result ≡ self +ℤ other }
+        ensures value { result ≡ self +ℤ other }
+        ensures within { IsWithin (2 ^ 112) result }
     {
         self.value().plus(other.value())
     }
 
     /// The difference of both.
     pub fn difference(self, other: Exact) -> Difference
-        ensures { result ≡ self -ℤ other }
+        ensures value { result ≡ self -ℤ other }
+        ensures within { IsWithin (2 ^ 112) result }
     {
         self.value().minus(other.value())
+    }
+}
+
+impl Default for Exact {
+    ghost is_default = { λ e. e ≡ pos 0 };
+
+    /// None at all.
+    fn default() -> Self {
+        Exact {
+            value: Difference::zero(),
+        }
     }
 }
 

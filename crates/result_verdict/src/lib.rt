@@ -1,6 +1,7 @@
 //! What a result that a slave reported is by its own readings: an exact number of nanoseconds, and the verdict.
 #![tactic(auto)]
 
+mod delays;
 mod difference;
 mod exact;
 mod judged;
