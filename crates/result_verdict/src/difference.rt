@@ -1,4 +1,4 @@
-ghost use Rattle.std.specs.Prelude.{◌≡◌, ◌<◌, ◌^◌, ◌+ℤ◌, ◌-ℤ◌, neg_ℤ, int_lt, pos, unsigned_abs, Some};
+ghost use Rattle.std.specs.Prelude.{◌≡◌, ◌==◌, ◌<◌, ◌^◌, ◌+ℤ◌, ◌-ℤ◌, neg_ℤ, int_lt, pos, unsigned_abs, Some};
 ghost use Rattle.std.specs.Int.{int_max};
 ghost use Rattle.result_verdict.specs.Exact.{with_parts, of_twice, decimals, exact_text, IsWithin};
 
@@ -89,6 +89,13 @@ impl Difference {
         ensures { result ≡ pos 0 }
     {
         joined(0, 0)
+    }
+
+    /// Whether it is 0.
+    pub fn is_zero(self) -> bool
+        ensures { result ≡ (unsigned_abs self == 0) }
+    {
+        self.nanoseconds == 0 && self.parts == 0
     }
 
     /// Whether it is below another one.
