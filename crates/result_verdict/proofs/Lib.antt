@@ -6,3 +6,7 @@ pub mod Worked
 pub mod Times
 pub mod Orders
 mod Means
+pub mod Verdicts
+pub mod Alike
+pub mod InOrder
+mod Filters

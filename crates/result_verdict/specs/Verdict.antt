@@ -1,6 +1,6 @@
 -- What a result is by a slave's own readings. Of its Sync the bracket is t2 - t1 - correction, and so the offset by a delay is the bracket
 -- less the delay (IEEE 1588-2019, 11.2).
-use Rattle.std.specs.Prelude.{ℕ, Bool, ◌&&◌, ℤ, ◌+ℤ◌, ◌-ℤ◌, int_le, List, codes, ◌++◌, Option, Some, None, if◌then◌else◌}
+use Rattle.std.specs.Prelude.{ℕ, ◌<◌, Bool, ◌&&◌, ℤ, pos, ◌+ℤ◌, ◌-ℤ◌, ◌*ℤ◌, ◌≤ℤ◌, int_le, List, codes, ◌++◌, Option, Some, None, if◌then◌else◌}
 use Rattle.std.specs.Prelude.{unsigned_abs, ◌==◌}
 use Rattle.std.specs.List.{list_any}
 use Rattle.std.specs.Fmt.{decimal}
@@ -10,6 +10,7 @@ use Rattle.result_verdict.specs.declared.path_is.PathIs.TheVariants.{Latest, Res
 use Rattle.result_verdict.specs.declared.verdict.Verdict.{Verdict}
 use Rattle.result_verdict.specs.declared.verdict.Verdict.TheVariants.{Exact, Within, Filtered, Older, Wrong}
 use Rattle.result_verdict.specs.declared.judged.Judged.{Judged}
+use Rattle.result_verdict.specs.Exact.{IsWithin}
 use Rattle.result_verdict.specs.Delays.{is_within, least, greatest, beyond, response_of, median_of, mean_of}
 
 -- the offset, less that by the latest delay
@@ -24,9 +25,16 @@ path_error known path = path -ℤ known.latest
 abbrev pub sum_error : Known → (offset path : ℤ) → ℤ
 sum_error known offset path = (offset +ℤ path) -ℤ known.bracket
 
--- by how much the path delay lies outside of the latest delay and those at responses
+-- the least and the greatest of the latest delay and those at responses
+abbrev pub least_known : Known → ℤ
+least_known known = least known.latest known.responses.items
+
+abbrev pub greatest_known : Known → ℤ
+greatest_known known = greatest known.latest known.responses.items
+
+-- by how much the path delay lies outside of them
 abbrev pub beyond_known : Known → (path : ℤ) → ℤ
-beyond_known known path = beyond (least known.latest known.responses.items) (greatest known.latest known.responses.items) path
+beyond_known known path = beyond (least_known known) (greatest_known known) path
 
 -- ---- verdicts
 abbrev pub is_nothing : ℤ → Bool
@@ -59,6 +67,17 @@ verdict_of known offset path tolerance =
     else if is_filtered known offset path tolerance then Filtered
     else if is_older known offset path tolerance then Older
     else Wrong
+
+-- ---- what laws speak of
+-- a sum divided by so many lies between the least and the greatest known delay
+pub record LiesWithin (known : Known) (count : ℕ) (sum : ℤ) : Type 0 where
+  pub some : 0 < count
+  pub above : (pos count *ℤ least_known known) ≤ℤ sum
+  pub below : sum ≤ℤ (pos count *ℤ greatest_known known)
+
+-- a number is less than a nanosecond from a sum divided by so many, as one that was cut to whole nanoseconds either way
+abbrev pub IsCut : (count : ℕ) → (sum number : ℤ) → Type 0
+IsCut count sum number = IsWithin count ((pos count *ℤ number) -ℤ sum)
 
 -- ---- which delay the path delay is
 abbrev pub named : (response median mean : Option ℕ) → PathIs → PathIs

@@ -7,6 +7,7 @@ mod exact;
 mod judged;
 mod judging;
 mod known;
+pub mod laws;
 mod path_is;
 mod spelled;
 mod verdict;
