@@ -1,6 +1,7 @@
 -- What the digits of a number are.
 use Rattle.std.proofs.Common.{◌≡◌, ℕ, ◌+◌, ◌-◌, ◌*◌, ◌^◌, ◌<◌, ◌≤◌, nat_le, true, false, ◌&&◌}
-use Rattle.std.proofs.Common.{◌==◌, ◌≢◌, List, [], ◌∷◌, length, pos, option_map, Result, Option, Some, None, IfSome, Bool, if◌then◌else◌, refl, ap, sym, arith}
+use Rattle.std.proofs.Common.{◌==◌, ◌≢◌, List, [], ◌∷◌, length, pos, option_map, Result, Option, Some, None, IfSome, Bool, refl, ap}
+use Rattle.std.proofs.Common.{if◌then◌else◌, sym, arith}
 use Rattle.std.proofs.Common.{rules, ◌∙◌}
 use Rattle.std.specs.Result.{result_ok}
 use Rattle.std.specs.List.{list_all}

@@ -1,39 +1,35 @@
 -- The first verdict that holds, and what a greater tolerance changes.
-use Rattle.std.proofs.Common.{◌≡◌, ◌≢◌, Bool, true, false, ◌&&◌, ◌||◌, ℤ, pos, ◌+ℤ◌, ◌-ℤ◌, ◌*ℤ◌, ◌≤ℤ◌, ◌<ℤ◌, unsigned_abs, List, [], ◌∷◌}
-use Rattle.std.proofs.Common.{if◌then◌else◌, ◌⊎◌, inl, inr, refl, arith}
+use Rattle.std.proofs.Common.{◌≡◌, ◌≢◌, Bool, true, false, ◌&&◌, ℤ, pos, ◌+ℤ◌, ◌-ℤ◌, ◌*ℤ◌, ◌≤ℤ◌, ◌<ℤ◌, unsigned_abs, List, [], ◌∷◌}
+use Rattle.std.proofs.Common.{◌⊎◌, inl, inr, refl, sym, arith, ◌∙◌, ℕ, ◌+◌, ◌≤◌, nat_lt, not, cond, is_some, option_map, Some, None, length}
 use Rattle.std.specs.Int.RustNames.{int_le}
-use Rattle.std.specs.List.{list_any}
+use Rattle.std.specs.List.{position, position_or_len}
 use Rattle.std.proofs.lemmas.Int.{ints}
 use Rattle.std.proofs.lemmas.Bool.{and_parts}
+use Rattle.std.proofs.lemmas.Bool.Decides.{nat_tests}
 use Rattle.std.proofs.Math.IntN.{+ℤ_invr}
 use Rattle.result_verdict.specs.declared.known.Known.{Known}
-use Rattle.result_verdict.specs.declared.verdict.Verdict.{Verdict}
-use Rattle.result_verdict.specs.declared.verdict.Verdict.TheVariants.{Exact, Within, Filtered, Older, Wrong}
+use Rattle.result_verdict.specs.declared.verdict.Verdict.TheVariants.{Exact, Within, Filtered, Wrong}
 use Rattle.result_verdict.specs.Delays.{is_within}
 use Rattle.result_verdict.specs.Verdict.{offset_error, path_error, sum_error, beyond_known, is_nothing, is_exact, is_near, is_filtered}
-use Rattle.result_verdict.specs.Verdict.{is_older, verdict_of}
+use Rattle.result_verdict.specs.Verdict.{is_older, first_verdict, verdict_of}
 use Rattle.result_verdict.proofs.Times.{twice}
 
--- the first of four tests that passes
-abbrev first : (exact near filtered older : Bool) → Verdict
-first exact near filtered older =
-    if exact then Exact else if near then Within else if filtered then Filtered else if older then Older else Wrong
-
-first_exact : (a b c d : Bool) → first a b c d ≡ Exact → a ≡ true
+-- ---- what the first verdict tells
+first_exact : (a b c d : Bool) → first_verdict a b c d ≡ Exact → a ≡ true
 first_exact true b c d h = refl
 first_exact false true c d h = absurd cc
 first_exact false false true d h = absurd cc
 first_exact false false false true h = absurd cc
 first_exact false false false false h = absurd cc
 
-first_within : (a b c d : Bool) → first a b c d ≡ Within → (a ≡ false) × (b ≡ true)
+first_within : (a b c d : Bool) → first_verdict a b c d ≡ Within → (a ≡ false) × (b ≡ true)
 first_within true b c d h = absurd cc
 first_within false true c d h = (refl, refl)
 first_within false false true d h = absurd cc
 first_within false false false true h = absurd cc
 first_within false false false false h = absurd cc
 
-first_filtered : (a b c d : Bool) → first a b c d ≡ Filtered → c ≡ true
+first_filtered : (a b c d : Bool) → first_verdict a b c d ≡ Filtered → c ≡ true
 first_filtered true b c d h = absurd cc
 first_filtered false true c d h = absurd cc
 first_filtered false false true d h = refl
@@ -41,20 +37,20 @@ first_filtered false false false true h = absurd cc
 first_filtered false false false false h = absurd cc
 
 -- none of the four passes
-record None (a b c d : Bool) : Type 0 where
+record Neither (a b c d : Bool) : Type 0 where
   exact : a ≡ false
   near : b ≡ false
   filtered : c ≡ false
   older : d ≡ false
 
-first_wrong : (a b c d : Bool) → first a b c d ≡ Wrong → None a b c d
+first_wrong : (a b c d : Bool) → first_verdict a b c d ≡ Wrong → Neither a b c d
 first_wrong true b c d h = absurd cc
 first_wrong false true c d h = absurd cc
 first_wrong false false true d h = absurd cc
 first_wrong false false false true h = absurd cc
 first_wrong false false false false h = record { exact = refl; near = refl; filtered = refl; older = refl }
 
-wrong_at_none : (a b c d : Bool) → None a b c d → first a b c d ≡ Wrong
+wrong_at_none : (a b c d : Bool) → Neither a b c d → first_verdict a b c d ≡ Wrong
 wrong_at_none a b c d none = rw (none.exact, none.near, none.filtered, none.older) refl
 
 -- ---- the latest
@@ -129,10 +125,30 @@ neither : (a b : Bool) → (a ≡ true → b ≡ true) → b ≡ false → a ≡
 neither true b more none = absurd (let passes = more refl in cc)
 neither false b more none = refl
 
-or_more : (a b c d : Bool) → (a ≡ true → b ≡ true) → (c ≡ true → d ≡ true) → (a || c) ≡ true → (b || d) ≡ true
-or_more true b c d one other h = rw (one refl) refl
-or_more false true c d one other h = refl
-or_more false false c d one other h = other h
+no_later_by : (p q : Bool) → (p ≡ true → q ≡ true) → (a b : ℕ) → b ≤ a → cond (not q) (1 + b) 0 ≤ cond (not p) (1 + a) 0
+no_later_by p true more a b rest = omega arith
+no_later_by true false more a b rest = absurd (let passes = more refl in cc)
+no_later_by false false more a b rest = omega arith
+
+-- what passes more has its first place no later
+no_later : (p q : ℤ → Bool) → ((z : ℤ) → p z ≡ true → q z ≡ true) → (xs : List ℤ) → position_or_len q xs ≤ position_or_len p xs
+no_later p q more [] = omega arith
+no_later p q more (x ∷ xs) = no_later_by (p x) (q x) (more x) (position_or_len p xs) (position_or_len q xs) (no_later p q more xs)
+
+-- a place is there where it is before the end
+there : (place most : ℕ) (test : Bool) → nat_lt place most ≡ test
+    → is_some (option_map (λ index. index + 1) (cond test (Some place) None)) ≡ test
+there place most true is = refl
+there place most false is = refl
+
+found_more : (p q : ℤ → Bool) → ((z : ℤ) → p z ≡ true → q z ≡ true) → (xs : List ℤ)
+    → is_some (option_map (λ index. index + 1) (position p xs)) ≡ true
+    → is_some (option_map (λ index. index + 1) (position q xs)) ≡ true
+found_more p q more xs found =
+    let before : nat_lt (position_or_len p xs) (length xs) ≡ true =
+    sym (there (position_or_len p xs) (length xs) (nat_lt (position_or_len p xs) (length xs)) refl) ∙ found in
+    let after : nat_lt (position_or_len q xs) (length xs) ≡ true = grind (arith, nat_tests, before, no_later p q more xs) in
+    there (position_or_len q xs) (length xs) (nat_lt (position_or_len q xs) (length xs)) refl ∙ after
 
 -- ---- a greater tolerance
 module _ (tolerance greater : ℤ) (more : tolerance ≤ℤ greater) where
@@ -141,12 +157,6 @@ module _ (tolerance greater : ℤ) (more : tolerance ≤ℤ greater) where
 
   below_more : (z : ℤ) → int_le z tolerance ≡ true → int_le z greater ≡ true
   below_more z near = grind (arith, ints, near, more)
-
-  any_more : (path : ℤ) (delays : List ℤ) → list_any (λ delay. is_within tolerance (path -ℤ delay)) delays ≡ true
-      → list_any (λ delay. is_within greater (path -ℤ delay)) delays ≡ true
-  any_more path [] h = h
-  any_more path (delay ∷ delays) h = or_more (is_within tolerance (path -ℤ delay)) (is_within greater (path -ℤ delay)) _ _
-      (within_more (path -ℤ delay)) (any_more path delays) h
 
 module _ (known : Known) (offset path tolerance greater : ℤ) (more : tolerance ≤ℤ greater) where
   near_more : is_near known offset path tolerance ≡ true → is_near known offset path greater ≡ true
@@ -159,7 +169,8 @@ module _ (known : Known) (offset path tolerance greater : ℤ) (more : tolerance
 
   older_more : is_older known offset path tolerance ≡ true → is_older known offset path greater ≡ true
   older_more = and_more _ _ _ _ (within_more tolerance greater more (offset_error known offset))
-      (any_more tolerance greater more path known.responses.items)
+      (found_more (λ delay. is_within tolerance (path -ℤ delay)) (λ delay. is_within greater (path -ℤ delay))
+      (λ delay. within_more tolerance greater more (path -ℤ delay)) known.responses.items)
 
   pub still_within : verdict_of known offset path tolerance ≡ Within → verdict_of known offset path greater ≡ Within
   still_within within =

@@ -150,8 +150,10 @@ past_mean_of_four : path_is_of known (thousandths 548501) (ns 1) ≡ Between
 past_mean_of_four = refl
 
 -- of other delays: 20, 10 and 40 are none, and have 20 in the middle; with 30 they have 25
-median_of_four_first : path_is_of (record known { responses = record { items = ns 20 ∷ ns 10 ∷ ns 40 ∷ ns 30 ∷ [] } }) (thousandths 25400) (thousandths 500)
-    ≡ Median 4
+abbrev others : Known
+others = record known { responses = record { items = ns 20 ∷ ns 10 ∷ ns 40 ∷ ns 30 ∷ [] } }
+
+median_of_four_first : path_is_of others (thousandths 25400) (thousandths 500) ≡ Median 4
 median_of_four_first = refl
 
 outside : path_is_of known (thousandths 581500) (ns 1) ≡ Outside

@@ -1,8 +1,7 @@
 -- What a result is by a slave's own readings. Of its Sync the bracket is t2 - t1 - correction, and so the offset by a delay is the bracket
 -- less the delay (IEEE 1588-2019, 11.2).
-use Rattle.std.specs.Prelude.{ℕ, ◌<◌, Bool, ◌&&◌, ℤ, pos, ◌+ℤ◌, ◌-ℤ◌, ◌*ℤ◌, ◌≤ℤ◌, int_le, List, codes, ◌++◌, Option, Some, None, if◌then◌else◌}
-use Rattle.std.specs.Prelude.{unsigned_abs, ◌==◌}
-use Rattle.std.specs.List.{list_any}
+use Rattle.std.specs.Prelude.{ℕ, ◌<◌, Bool, ◌&&◌, ℤ, pos, ◌+ℤ◌, ◌-ℤ◌, ◌*ℤ◌, ◌≤ℤ◌, int_le, unsigned_abs, ◌==◌, List, codes, ◌++◌}
+use Rattle.std.specs.Prelude.{Option, Some, None, is_some, if◌then◌else◌}
 use Rattle.std.specs.Fmt.{decimal}
 use Rattle.result_verdict.specs.declared.known.Known.{Known}
 use Rattle.result_verdict.specs.declared.path_is.PathIs.{PathIs}
@@ -56,17 +55,17 @@ is_filtered known offset path tolerance =
 
 -- the offset is by the latest delay, and the path delay is one at a response
 abbrev pub is_older : Known → (offset path tolerance : ℤ) → Bool
-is_older known offset path tolerance = is_within tolerance (offset_error known offset)
-    && list_any (λ delay. is_within tolerance (path -ℤ delay)) known.responses.items
+is_older known offset path tolerance =
+    is_within tolerance (offset_error known offset) && is_some (response_of path tolerance known.responses.items)
 
 -- the first of these that holds
+abbrev pub first_verdict : (exact near filtered older : Bool) → Verdict
+first_verdict exact near filtered older =
+    if exact then Exact else if near then Within else if filtered then Filtered else if older then Older else Wrong
+
 abbrev pub verdict_of : Known → (offset path tolerance : ℤ) → Verdict
-verdict_of known offset path tolerance =
-    if is_exact known offset path then Exact
-    else if is_near known offset path tolerance then Within
-    else if is_filtered known offset path tolerance then Filtered
-    else if is_older known offset path tolerance then Older
-    else Wrong
+verdict_of known offset path tolerance = first_verdict (is_exact known offset path) (is_near known offset path tolerance)
+    (is_filtered known offset path tolerance) (is_older known offset path tolerance)
 
 -- ---- what laws speak of
 -- a sum divided by so many lies between the least and the greatest known delay

@@ -47,7 +47,6 @@ pub struct Difference {
 
 impl Model for Difference {
     ghost use Rattle.std.specs.Prelude.{ℤ};
-    ghost use Rattle.std.specs.Int.{int_max};
     ghost use Rattle.result_verdict.specs.Exact.{with_parts};
     ghost use Rattle.result_verdict.specs.Inner.Normal.{IsNormal, whole_of, parts_of};
 
@@ -75,7 +74,7 @@ pub(crate) fn joined(nanoseconds: i128, parts: u64) -> Difference
 }
 
 impl Difference {
-    /// A result, of which this is twice the number of units of 2^-16 ns: 2^111 ns from 0 at the most.
+    /// The result of which this is twice the number of units of 2^-16 ns: 2^110 ns from 0 at the most.
     pub(crate) fn from_twice(twice: i128) -> Difference
         ensures value { result ≡ of_twice twice }
         ensures within { IsWithin (2 ^ 111) result }
@@ -84,15 +83,15 @@ impl Difference {
         joined(twice.div_euclid(131_072), parts)
     }
 
-    /// None at all.
-    pub fn zero() -> Difference
+    /// 0 ns.
+    pub(crate) fn zero() -> Difference
         ensures { result ≡ pos 0 }
     {
         joined(0, 0)
     }
 
     /// Whether it is 0.
-    pub fn is_zero(self) -> bool
+    pub(crate) fn is_zero(self) -> bool
         ensures { result ≡ (unsigned_abs self == 0) }
     {
         self.nanoseconds == 0 && self.parts == 0
@@ -107,7 +106,7 @@ impl Difference {
     }
 
     /// With the other sign.
-    pub fn negated(self) -> Difference
+    pub(crate) fn negated(self) -> Difference
         ensures { result ≡ neg_ℤ self }
     {
         if self.parts == 0 {
@@ -129,14 +128,14 @@ impl Difference {
     }
 
     /// The greater of both.
-    pub fn max(self, other: Difference) -> Difference
+    pub(crate) fn max(self, other: Difference) -> Difference
         ensures { result ≡ int_max self other }
     {
         if other.is_below(self) { self } else { other }
     }
 
     /// The sum, which is less than 2^120 ns from 0.
-    pub fn plus(self, other: Difference) -> Difference
+    pub(crate) fn plus(self, other: Difference) -> Difference
         requires { IsWithin (2 ^ 120) (self +ℤ other) }
         ensures { result ≡ self +ℤ other }
     {
@@ -150,7 +149,7 @@ impl Difference {
     }
 
     /// The difference, which is less than 2^120 ns from 0.
-    pub fn minus(self, other: Difference) -> Difference
+    pub(crate) fn minus(self, other: Difference) -> Difference
         requires { IsWithin (2 ^ 120) (self -ℤ other) }
         ensures { result ≡ self -ℤ other }
     {

@@ -27,7 +27,8 @@ impl Model for Exact {
 }
 
 impl Exact {
-    /// A result, of which this is twice the number of units of 2^-16 ns.
+    /// The result of which this is twice the number of units of 2^-16 ns, as a slave reports it (IEEE 1588-2019, 11.2 and 11.3). Each number is
+    /// taken.
     pub fn from_twice(twice: i128) -> Exact
         ensures { result ≡ of_twice twice }
     {
@@ -46,7 +47,7 @@ impl Exact {
     }
 
     /// The number, as a sum or a difference of such.
-    pub fn value(self) -> Difference
+    pub(crate) fn value(self) -> Difference
         ensures value { result ≡ self }
         ensures within { IsWithin (2 ^ 111) self }
     {
@@ -73,7 +74,7 @@ impl Exact {
 impl Default for Exact {
     ghost is_default = { λ e. e ≡ pos 0 };
 
-    /// None at all.
+    /// 0 ns.
     fn default() -> Self {
         Exact {
             value: Difference::zero(),

@@ -1,5 +1,6 @@
 //! Laws of the definitions, each the contract of a function that does nothing: a caller that needs the law in its proof calls it.
-ghost use Rattle.std.specs.Prelude.{◌≡◌, ◌≢◌, ◌<◌, ◌≤◌, ◌*◌, ℕ, ℤ, pos, ◌-ℤ◌, ◌*ℤ◌, ◌≤ℤ◌, ◌<ℤ◌, unsigned_abs, List, length, take, ◌⊎◌, true};
+ghost use Rattle.std.specs.Prelude.{◌≡◌, ◌≢◌, ◌≤◌, ◌*◌, ℕ, ℤ, pos, ◌-ℤ◌, ◌*ℤ◌, ◌≤ℤ◌, ◌<ℤ◌, unsigned_abs, List, length, take};
+ghost use Rattle.std.specs.Prelude.{◌⊎◌, true};
 ghost use Rattle.ptp_units.specs.Nanoseconds.{nanoseconds_text};
 ghost use Rattle.result_verdict.specs.declared.known.Known.{Known};
 ghost use Rattle.result_verdict.specs.declared.verdict.Verdict.TheVariants.{Exact, Within, Filtered, Wrong};

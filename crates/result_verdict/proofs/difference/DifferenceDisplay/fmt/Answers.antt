@@ -14,7 +14,8 @@ returns-clause-writes g c = λ plain ok.
     has_written_of_eq _ _ _ _ _
     (shown c.self.inside.parts c.size.inside.parts c.if-parts-eq0.point.now c.self.inside.nanoseconds c.size.inside.nanoseconds
     c.args.self.now c.unsigned_abs-whole.result c.if-self-lt0.sign.now c.size.invariant.below c.self.view_is
-    (c.size.view_is ∙ c.size-size.ensures ∙ ap (λ z. pos (unsigned_abs z)) c.self.view_is) (simp to_z-of_z at c.unsigned_abs-whole.ensures.value)
+    (c.size.view_is ∙ c.size-size.ensures ∙ ap (λ z. pos (unsigned_abs z)) c.self.view_is)
+    (simp to_z-of_z at c.unsigned_abs-whole.ensures.value)
     (elim c.if-self-lt0.branch [
       | then-self-lt0 w ↦ inl (simp to_z-of_z at w.if-self-lt0.true, ap (λ s. s.now) w.sign-is)
       | else-self-lt0 w ↦ inr (simp to_z-of_z at w.if-self-lt0.false, ap (λ s. s.now) w.sign-is)
