@@ -1,7 +1,7 @@
 -- Exact numbers and their parts.
 use Rattle.std.proofs.Common.{◌≡◌, ℕ, ◌^◌, ◌<◌, ℤ, pos, negsuc, ap, arith}
-use Rattle.result_verdict.specs.Exact.{nanosecond, with_parts, IsWithin}
-use Rattle.result_verdict.specs.Inner.Normal.{IsNormal, whole_of, parts_of}
+use Rattle.result_verdict.specs.Exact.{nanosecond, IsWithin}
+use Rattle.result_verdict.specs.Inner.Normal.{with_parts, IsNormal, whole_of, parts_of}
 
 -- what is kept is found again
 whole_back : (whole : ℤ) (parts : ℕ) → parts < nanosecond → whole_of (with_parts whole parts) ≡ whole

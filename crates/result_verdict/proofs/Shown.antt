@@ -5,7 +5,8 @@ use Rattle.std.specs.Fmt.{decimal}
 use Rattle.std.proofs.lemmas.Int.{ints}
 use lib.Signed.{lt_z}
 use Rattle.ptp_units.specs.Nanoseconds.{pointed}
-use Rattle.result_verdict.specs.Exact.{nanosecond, with_parts, decimals, size_text, exact_text}
+use Rattle.result_verdict.specs.Exact.{nanosecond, decimals, size_text, exact_text}
+use Rattle.result_verdict.specs.Inner.Normal.{with_parts}
 use Rattle.result_verdict.proofs.Division.{decimals-nothing, decimals-step}
 
 -- a point stands before decimals alone

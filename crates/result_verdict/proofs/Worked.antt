@@ -4,7 +4,8 @@ use Rattle.std.specs.Fmt.{digits}
 use Rattle.result_verdict.specs.declared.known.Known.{Known}
 use Rattle.result_verdict.specs.declared.path_is.PathIs.TheVariants.{Latest, Response, Median, Mean, Between, Outside}
 use Rattle.result_verdict.specs.declared.verdict.Verdict.TheVariants.{Exact, Within, Filtered, Older, Wrong}
-use Rattle.result_verdict.specs.Exact.{with_parts, of_twice, decimals, exact_text, exact_in}
+use Rattle.result_verdict.specs.Exact.{of_twice, decimals, exact_text, exact_in}
+use Rattle.result_verdict.specs.Inner.Normal.{with_parts}
 use Rattle.result_verdict.specs.Delays.{in_order, twice_median, total, least, greatest, beyond}
 use Rattle.result_verdict.specs.Verdict.{offset_error, path_error, sum_error, beyond_known, path_is_of, verdict_of}
 

@@ -12,11 +12,6 @@ use Rattle.ptp_units.specs.Nanoseconds.{pointed}
 abbrev pub nanosecond : ℕ
 nanosecond = 10 ^ 17
 
--- whole nanoseconds, rounded down, and what is left of one
-abbrev pub with_parts : ℤ → ℕ → ℤ
-with_parts (pos whole) parts = pos (whole * nanosecond + parts)
-with_parts (negsuc whole) parts = negsuc (whole * nanosecond + (nanosecond - 1 - parts))
-
 -- less than so many nanoseconds from 0
 abbrev pub IsWithin : ℕ → ℤ → Type 0
 IsWithin most exact = unsigned_abs exact < most * nanosecond

@@ -1,6 +1,7 @@
 ghost use Rattle.std.specs.Prelude.{◌≡◌, ◌==◌, ◌<◌, ◌^◌, ◌+ℤ◌, ◌-ℤ◌, neg_ℤ, int_lt, pos, unsigned_abs, Some};
 ghost use Rattle.std.specs.Int.{int_max};
-ghost use Rattle.result_verdict.specs.Exact.{with_parts, of_twice, decimals, exact_text, IsWithin};
+ghost use Rattle.result_verdict.specs.Exact.{of_twice, decimals, exact_text, IsWithin};
+ghost use Rattle.result_verdict.specs.Inner.Normal.{with_parts};
 
 use std::fmt;
 use std::fmt::{Display, Formatter};
@@ -47,8 +48,7 @@ pub struct Difference {
 
 impl Model for Difference {
     ghost use Rattle.std.specs.Prelude.{ℤ};
-    ghost use Rattle.result_verdict.specs.Exact.{with_parts};
-    ghost use Rattle.result_verdict.specs.Inner.Normal.{IsNormal, whole_of, parts_of};
+    ghost use Rattle.result_verdict.specs.Inner.Normal.{IsNormal, with_parts, whole_of, parts_of};
 
     ghost Value = { ℤ };
 

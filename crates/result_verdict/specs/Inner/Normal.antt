@@ -1,6 +1,11 @@
 -- How an exact number is kept: whole nanoseconds, rounded down, and what is left of one.
-use Rattle.std.specs.Prelude.{◌≡◌, ℕ, ◌-◌, ◌/◌, ◌%◌, ◌^◌, ◌<◌, ℤ, pos, negsuc}
-use Rattle.result_verdict.specs.Exact.{nanosecond, with_parts, IsWithin}
+use Rattle.std.specs.Prelude.{◌≡◌, ℕ, ◌+◌, ◌-◌, ◌*◌, ◌/◌, ◌%◌, ◌^◌, ◌<◌, ℤ, pos, negsuc}
+use Rattle.result_verdict.specs.Exact.{nanosecond, IsWithin}
+
+-- whole nanoseconds, rounded down, and what is left of one
+abbrev pub with_parts : ℤ → ℕ → ℤ
+with_parts (pos whole) parts = pos (whole * nanosecond + parts)
+with_parts (negsuc whole) parts = negsuc (whole * nanosecond + (nanosecond - 1 - parts))
 
 -- whole nanoseconds, rounded down
 abbrev pub whole_of : ℤ → ℤ
