@@ -1,5 +1,6 @@
 -- Exact numbers, delays and verdicts, worked by hand.
-use Rattle.std.proofs.Common.{◌≡◌, ◌*◌, ◌^◌, ◌+◌, ◌-◌, ℕ, ℤ, pos, negsuc, neg_ℤ, ◌+ℤ◌, List, [], ◌∷◌, codes, Some, None, refl}
+use Rattle.std.proofs.Common.{◌≡◌, ◌*◌, ◌^◌, ◌+◌, ◌-◌, ℕ, ℤ, pos, negsuc, neg_ℤ, ◌+ℤ◌, ◌-ℤ◌, List, [], ◌∷◌, codes, Some, None, refl}
+use Rattle.std.proofs.Common.{lit<}
 use Rattle.std.specs.Fmt.{digits}
 use Rattle.result_verdict.specs.declared.known.Known.{Known}
 use Rattle.result_verdict.specs.declared.path_is.PathIs.TheVariants.{Latest, Response, Median, Mean, Between, Outside}
@@ -7,7 +8,7 @@ use Rattle.result_verdict.specs.declared.verdict.Verdict.TheVariants.{Exact, Wit
 use Rattle.result_verdict.specs.Exact.{of_twice, decimals, exact_text, exact_in}
 use Rattle.result_verdict.specs.Inner.Normal.{with_parts}
 use Rattle.result_verdict.specs.Delays.{in_order, twice_median, total, least, greatest, beyond}
-use Rattle.result_verdict.specs.Verdict.{offset_error, path_error, sum_error, beyond_known, path_is_of, verdict_of}
+use Rattle.result_verdict.specs.Verdict.{offset_error, path_error, sum_error, beyond_known, path_is_of, verdict_of, IsCut}
 
 -- so many thousandths of a nanosecond
 abbrev thousandths : ℕ → ℤ
@@ -160,6 +161,16 @@ median_of_four_first = refl
 outside : path_is_of known (thousandths 581500) (ns 1) ≡ Outside
 outside = refl
 
+-- where nothing came at a response, there is the latest alone
+abbrev alone : Known
+alone = record known { responses = record { items = [] } }
+
+latest_alone : path_is_of alone (ns 501) (ns 1) ≡ Latest
+latest_alone = refl
+
+outside_alone : path_is_of alone (ns 502) (ns 1) ≡ Outside
+outside_alone = refl
+
 -- ---- verdicts
 exact : verdict_of known (ns 500) (ns 500) (ns 1) ≡ Exact
 exact = refl
@@ -221,3 +232,30 @@ wrong_sum = refl
 
 wrong_between : beyond_known known (ns 540) ≡ pos 0
 wrong_between = refl
+
+-- the mean of the newest three, 536 and two thirds, and the offset by it, 463 and a third, both cut upwards
+cut_path : IsCut 3 (total (ns 560 ∷ ns 530 ∷ ns 520 ∷ [])) (ns 537)
+cut_path = lit< tt
+
+cut_offset : IsCut 3 (ns 3000 -ℤ total (ns 560 ∷ ns 530 ∷ ns 520 ∷ [])) (ns 464)
+cut_offset = lit< tt
+
+cut_mean : verdict_of known (ns 464) (ns 537) (ns 2) ≡ Filtered
+cut_mean = refl
+
+-- 2 ns below the bracket, at a tolerance of 2 ns: changed by 4 ns it is 2 ns above, and by more it isn't filtered
+filtered_low : verdict_of known (ns 461) (ns 537) (ns 2) ≡ Filtered
+filtered_low = refl
+
+changed_by_four : verdict_of known (ns 461) (ns 541) (ns 2) ≡ Filtered
+changed_by_four = refl
+
+changed_by_more : verdict_of known (ns 461) (ns 541 +ℤ pos 762939453125) (ns 2) ≡ Wrong
+changed_by_more = refl
+
+-- wrong at 1 ns, and not at 2 ns
+wrong_at_one : verdict_of known (ns 453) (ns 545) (ns 1) ≡ Wrong
+wrong_at_one = refl
+
+filtered_at_two : verdict_of known (ns 453) (ns 545) (ns 2) ≡ Filtered
+filtered_at_two = refl

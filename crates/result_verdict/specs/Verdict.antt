@@ -24,10 +24,11 @@ path_error known path = path -ℤ known.latest
 abbrev pub sum_error : Known → (offset path : ℤ) → ℤ
 sum_error known offset path = (offset +ℤ path) -ℤ known.bracket
 
--- the least and the greatest of the latest delay and those at responses
+-- the least of the latest delay and those at responses
 abbrev pub least_known : Known → ℤ
 least_known known = least known.latest known.responses.items
 
+-- the greatest of them
 abbrev pub greatest_known : Known → ℤ
 greatest_known known = greatest known.latest known.responses.items
 
@@ -36,6 +37,7 @@ abbrev pub beyond_known : Known → (path : ℤ) → ℤ
 beyond_known known path = beyond (least_known known) (greatest_known known) path
 
 -- ---- verdicts
+-- there is no difference
 abbrev pub is_nothing : ℤ → Bool
 is_nothing difference = unsigned_abs difference == 0
 
@@ -58,11 +60,12 @@ abbrev pub is_older : Known → (offset path tolerance : ℤ) → Bool
 is_older known offset path tolerance =
     is_within tolerance (offset_error known offset) && is_some (response_of path tolerance known.responses.items)
 
--- the first of these that holds
+-- the first of these, in this order, that holds
 abbrev pub first_verdict : (exact near filtered older : Bool) → Verdict
 first_verdict exact near filtered older =
     if exact then Exact else if near then Within else if filtered then Filtered else if older then Older else Wrong
 
+-- what a result is
 abbrev pub verdict_of : Known → (offset path tolerance : ℤ) → Verdict
 verdict_of known offset path tolerance = first_verdict (is_exact known offset path) (is_near known offset path tolerance)
     (is_filtered known offset path tolerance) (is_older known offset path tolerance)
@@ -79,13 +82,14 @@ abbrev pub IsCut : (count : ℕ) → (sum number : ℤ) → Type 0
 IsCut count sum number = IsWithin count ((pos count *ℤ number) -ℤ sum)
 
 -- ---- which delay the path delay is
+-- the first of a response, a median and a mean that was found
 abbrev pub named : (response median mean : Option ℕ) → PathIs → PathIs
 named (Some k) median mean otherwise = Response k
 named None (Some n) mean otherwise = Median n
 named None None (Some n) otherwise = Mean n
 named None None None otherwise = otherwise
 
--- the first that fits
+-- the first that fits: the latest, a response, a median, a mean
 abbrev pub path_is_of : Known → (path tolerance : ℤ) → PathIs
 path_is_of known path tolerance =
     if is_within tolerance (path_error known path) then Latest
@@ -105,6 +109,7 @@ judged known offset path tolerance = record {
 }
 
 -- ---- words
+-- which delay, in words
 abbrev pub path_text : PathIs → List ℕ
 path_text Latest = codes "latest"
 path_text (Response k) = codes "response " ++ decimal k
@@ -113,6 +118,7 @@ path_text (Mean n) = codes "mean " ++ decimal n
 path_text Between = codes "between"
 path_text Outside = codes "outside"
 
+-- a verdict, in a word
 abbrev pub verdict_text : Verdict → List ℕ
 verdict_text Exact = codes "exact"
 verdict_text Within = codes "within"
