@@ -82,6 +82,9 @@ exponent = refl
 no_digit : exact_in (codes "-") ≡ None
 no_digit = refl
 
+empty : exact_in [] ≡ None
+empty = refl
+
 -- ---- delays: 560, 530, 520 and 580 ns, the newest in front
 abbrev four : List ℤ
 four = ns 560 ∷ ns 530 ∷ ns 520 ∷ ns 580 ∷ []

@@ -1,4 +1,5 @@
-//! What a result that a slave reported is by its own readings: an exact number of nanoseconds, and the verdict.
+//! Judges a result that a slave reported by the slave's own readings: by how much it is off, exactly, which delay its path delay is, and
+//! a verdict. Numbers are nanoseconds with all their decimals.
 #![tactic(auto)]
 
 mod delays;
