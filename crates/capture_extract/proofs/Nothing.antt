@@ -14,8 +14,8 @@ IsNone e packet = (number : ℕ) (d : DatagramOf) → IsGiven extract_rules e nu
 -- ---- the number of a packet doesn't matter
 as_numbered : (e : Extraction) (m n : ℕ) (packet : PacketOf) (d : DatagramOf) → IsGiven extract_rules e m packet d
     → IsGiven extract_rules e n packet (record d { number = n })
-as_numbered e m n (Captured interface time link octets) d ((found, place, number, moment, written, said), asked) =
-    ((found, place, refl, moment, written, said), asked)
+as_numbered e m n (Captured interface time link octets) d ((found, place, number, moment, written, said, captured), asked) =
+    ((found, place, refl, moment, written, said, captured), asked)
 as_numbered e m n Timeless d is = absurd is.0
 as_numbered e m n Simple d is = absurd is.0
 

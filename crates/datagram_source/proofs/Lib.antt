@@ -1,4 +1,4 @@
-mod Readings
+mod SaidReadings
 mod LineReadings
 mod LineTakings
 mod PacketTakings

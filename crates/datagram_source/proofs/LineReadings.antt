@@ -1,5 +1,5 @@
 -- What is read of a line.
-use Rattle.std.proofs.Common.{◌≡◌, ◌∙◌, ℕ, ◌/◌, List, length, take, refl, sym, ap, subst}
+use Rattle.std.proofs.Common.{◌≡◌, ◌∙◌, ℕ, ◌/◌, false, List, length, take, refl, sym, ap, subst}
 use Rattle.std.specs.Option.{option_map_or}
 use Rattle.event_codec.specs.Reading.{Reading, IsReading}
 use Rattle.recording_lines.specs.Timed.{parts_of, timed_in}
@@ -59,6 +59,7 @@ pub line_read : (form : LineForm) (number own : ℕ) (line room : List ℕ) (rea
       written = read.timed.text.now;
       octets = take (length read.timed.digits.now / 2) room;
       said = said;
+      own = false;
     })
 line_read form number own line room read said same is reads = of_parts form number line _ (place_of read.place) is.rest is.placed (record {
   parts = parts_of read.timed;
@@ -69,4 +70,5 @@ line_read form number own line room read said same is reads = of_parts form numb
   moment_is = refl;
   written = refl;
   said = reads;
+  captured = refl;
 })

@@ -41,7 +41,8 @@ one_timed number rest rest' place place' one other same there h k =
     let written : other.written ≡ one.written = k.written ∙ ap (λ p. p.text) parts ∙ sym h.written in
     let said : other.said ≡ one.said =
     one_reading one.octets one.said other.said h.said (subst (λ (o : List ℕ). IsReading o other.said) octets k.said) in
-    λ i. record { place = placed i; number = numbered i; time = moment i; written = written i; octets = octets i; said = said i }
+    let own : other.own ≡ one.own = k.captured ∙ sym h.captured in
+    λ i. record { place = placed i; number = numbered i; time = moment i; written = written i; octets = octets i; said = said i; own = own i }
 
 pub one_datagram : (form : LineForm) (number : ℕ) (line : List ℕ) (one other : DatagramOf) → IsDatagramLine form number line one
     → IsDatagramLine form number line other → other ≡ one

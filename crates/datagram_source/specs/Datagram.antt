@@ -1,5 +1,5 @@
 -- A datagram, by the line or the packet that tells it.
-use Rattle.std.specs.Prelude.{◌≡◌, ℕ, List, Some, Ok}
+use Rattle.std.specs.Prelude.{◌≡◌, ℕ, Bool, false, List, Some, Ok}
 use Rattle.hex.specs.Hex.{decode_of}
 use Rattle.ptp_units.specs.Moment.{moment}
 use Rattle.event_codec.specs.Reading.{Reading, IsReading}
@@ -31,7 +31,8 @@ pub data PlaceOf : Type 0 where
   Tap : (name : List ℕ) → PlaceOf
   Interface : (interface : InterfaceOf) → (stream : Stream) → PlaceOf
 
--- a datagram, by the number and the time of its line or packet, and by the text of this time
+-- a datagram, by the number and the time of its line or packet, and by the text of this time; whether a slave told it as a reading of
+-- its own
 pub record DatagramOf : Type 0 where
   pub place : PlaceOf
   pub number : ℕ
@@ -39,6 +40,7 @@ pub record DatagramOf : Type 0 where
   pub written : List ℕ
   pub octets : List ℕ
   pub said : Reading
+  pub own : Bool
 
 -- a place without where its name lies in memory
 abbrev pub place_of : met.Place → PlaceOf
@@ -66,6 +68,7 @@ datagram_of d = record {
   written = text_of d.stamp;
   octets = d.octets.now;
   said = reading_of d.said;
+  own = d.own;
 }
 
 -- the end of the line of this number, which was met at this place: a time, a blank, and a datagram in hexadecimal
@@ -78,6 +81,7 @@ pub record IsTimedDatagram (number : ℕ) (rest : List ℕ) (place : PlaceOf) (d
   pub moment_is : d.time ≡ parts.time
   pub written : d.written ≡ parts.text
   pub said : IsReading d.octets d.said
+  pub captured : d.own ≡ false
 
 -- a line of this number: the name of a tap, a blank, a time, a blank, and a datagram in hexadecimal
 pub record IsTapDatagram (number : ℕ) (line : List ℕ) (d : DatagramOf) : Type 0 where
@@ -96,6 +100,6 @@ IsDatagramLine AtTaps number line d = IsTapDatagram number line d
 abbrev pub IsDatagramPacket : (number : ℕ) → PacketOf → DatagramOf → Type 0
 IsDatagramPacket number (Captured interface time link octets) d =
     found.IsFound link octets (found.Datagram d.octets) × (d.place ≡ Interface interface (stream_of (route_in link octets) d.octets))
-    × (d.number ≡ number) × (d.time ≡ moment time 0) × (d.written ≡ stamp_text time) × IsReading d.octets d.said
+    × (d.number ≡ number) × (d.time ≡ moment time 0) × (d.written ≡ stamp_text time) × IsReading d.octets d.said × (d.own ≡ false)
 IsDatagramPacket number Timeless d = ⊥
 IsDatagramPacket number Simple d = ⊥

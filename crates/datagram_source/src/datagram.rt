@@ -51,6 +51,8 @@ pub struct Datagram<'a> {
     pub octets: &'a [u8],
     /// The message that these begin with, or why they begin with none.
     pub said: Result<Message<'a>, DecodeRefusal>,
+    /// Whether a slave told it as a reading of its own; what an input gives was captured.
+    pub own: bool,
 }
 
 impl Datagram<'_> {

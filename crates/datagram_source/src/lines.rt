@@ -142,6 +142,7 @@ fn read_line<'line>(
             stamp: Stamp::Written(read.timed.text),
             octets,
             said,
+            own: false,
         }),
         None => Err(LineFault::Memory),
     }

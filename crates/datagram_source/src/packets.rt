@@ -67,6 +67,7 @@ impl<T: DatagramTask, E: Write> PacketSource<'_, T, E> {
                 stamp: Stamp::Clock(captured.time),
                 octets,
                 said: message_in(octets),
+                own: false,
             };
             self.task.take(&datagram, output, self.errors)?;
         }

@@ -1,5 +1,5 @@
 -- Lines, numbers and measurements, worked by hand.
-use Rattle.std.proofs.Common.{◌≡◌, ◌++◌, ◌-◌, ◌*◌, pos, negsuc, [], codes, Some, None, refl}
+use Rattle.std.proofs.Common.{◌≡◌, ◌++◌, ◌-◌, ◌*◌, pos, negsuc, true, false, [], codes, Some, None, refl}
 use Rattle.std.specs.Fmt.{digits}
 use Rattle.slave_port.specs.declared.heard.Report.{Report}
 use Rattle.recording_lines.specs.declared.measurement.Half.TheVariants.{Sync, Response}
@@ -64,14 +64,14 @@ report = record {
   response_tag = 11;
 }
 
-json : json_text (record { by = Sync; line = 17; time = codes "1795328934.357259633"; report = report })
+json : json_text (record { by = Sync; own = false; line = 17; time = codes "1795328934.357259633"; report = report })
     ≡ codes "{\"by\":\"sync\",\"line\":17,\"offset\":\"-12.5\",\"offset2\":\"-1638400\",\"path\":\"1000\""
     ++ codes ",\"path2\":\"131072000\",\"tags\":[12,13,9,11],\"time\":\"1795328934.357259633\"}\n"
 unfolding digits decimals report
 json = refl
 
--- the same of a one-step Sync, which a Delay_Resp completed, as a row
-row : row_text (record { by = Response; line = 11; time = codes "7"; report = record report { follow_tag = None } })
-    ≡ codes "7,-12.5,1000,response,11\n"
+-- the same of a slave's own readings, which that of a Delay_Resp completed, as a row
+row : row_text (record { by = Response; own = true; line = 11; time = codes "7"; report = record report { follow_tag = None } })
+    ≡ codes "7,-12.5,1000,own response,11\n"
 unfolding digits decimals report
 row = refl

@@ -6,5 +6,5 @@ pub mod laws;
 mod measurement;
 mod timed;
 
-pub use measurement::{Half, Measurement, push_json, push_row, table_head};
+pub use measurement::{By, Half, Measurement, push_json, push_row, table_head};
 pub use timed::{Timed, read_timed};

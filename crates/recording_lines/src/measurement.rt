@@ -1,6 +1,6 @@
 ghost use Rattle.std.specs.Prelude.{◌≡◌, ◌++◌, OnOk, Some};
 ghost use Rattle.std.specs.String.{string_bytes};
-ghost use Rattle.recording_lines.specs.Measurement.{measured_of, half_text, follow_text, json_text, table_head, row_text};
+ghost use Rattle.recording_lines.specs.Measurement.{measured_of, by_text, follow_text, json_text, table_head, row_text};
 
 use ptp_units::Nanoseconds;
 use slave_port::Report;
@@ -17,13 +17,24 @@ pub enum Half {
     Response,
 }
 
-impl Display for Half {
-    ghost output = { λ half. Some (half_text half) };
+/// Which half completed a report, and by whose reading: shown as `sync`, or as `own sync`.
+#[derive(Clone, Copy)]
+pub struct By {
+    /// Which half.
+    pub half: Half,
+    /// Whether a slave read it, and told so; else it was captured.
+    pub own: bool,
+}
+
+impl Display for By {
+    ghost output = { λ by. Some (by_text by.own by.half) };
 
     fn fmt<W: fmt::Write>(&self, f: &mut Formatter<W>) -> fmt::Result {
-        f.write_str(match self {
-            Half::Sync => "sync",
-            Half::Response => "response",
+        f.write_str(match (self.own, self.half) {
+            (false, Half::Sync) => "sync",
+            (false, Half::Response) => "response",
+            (true, Half::Sync) => "own sync",
+            (true, Half::Response) => "own response",
         })
     }
 }
@@ -33,12 +44,26 @@ impl Display for Half {
 pub struct Measurement<'a> {
     /// Which half completed it.
     pub by: Half,
+    /// Whether it is of a slave's own readings.
+    pub own: bool,
     /// The line that did.
     pub line: u64,
     /// The time of that line, as it stands there.
     pub time: &'a str,
     /// The two results, and the lines that they are of.
     pub report: Report,
+}
+
+impl Measurement<'_> {
+    /// Which half completed it, and by whose reading.
+    pub fn by(&self) -> By
+        ensures { result ≡ record { half = self.now.by; own = self.now.own } }
+    {
+        By {
+            half: self.by,
+            own: self.own,
+        }
+    }
 }
 
 /// The line of a Follow_Up, or null.
@@ -61,14 +86,15 @@ pub fn push_json(text: &mut String, measured: &Measurement<'_>) -> Result<(), Al
     ensures { OnOk result (string_bytes text.new ≡ string_bytes text.old ++ json_text (measured_of measured.now)) }
 {
     let Measurement {
-        by,
         line,
         time,
         report,
+        ..
     } = *measured;
     write!(
         text,
-        "{{\"by\":\"{by}\",\"line\":{line},\"offset\":\"{}\",\"offset2\":\"{}\"",
+        "{{\"by\":\"{}\",\"line\":{line},\"offset\":\"{}\",\"offset2\":\"{}\"",
+        measured.by(),
         Nanoseconds(report.offset2),
         report.offset2
     )?;
@@ -96,15 +122,16 @@ pub fn push_row(text: &mut String, measured: &Measurement<'_>) -> Result<(), All
     ensures { OnOk result (string_bytes text.new ≡ string_bytes text.old ++ row_text (measured_of measured.now)) }
 {
     let Measurement {
-        by,
         line,
         time,
         report,
+        ..
     } = *measured;
     write!(
         text,
-        "{time},{},{},{by},{line}\n",
+        "{time},{},{},{},{line}\n",
         Nanoseconds(report.offset2),
-        Nanoseconds(report.path2)
+        Nanoseconds(report.path2),
+        measured.by()
     )
 }

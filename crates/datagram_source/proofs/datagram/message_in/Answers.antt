@@ -1,5 +1,5 @@
 use Rattle.event_codec.specs.Packet.{contents}
-use Rattle.datagram_source.proofs.Readings.{IsReading-read}
+use Rattle.datagram_source.proofs.SaidReadings.{IsReading-read}
 use Rattle.datagram_source.proofs.datagram.message_in.Goals as goal
 
 pub returns-in-Ok : goal.returns-in-Ok

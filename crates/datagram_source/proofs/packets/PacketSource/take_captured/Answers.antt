@@ -29,7 +29,7 @@ returns-clause-taken g c = λ state at.
             later,
             out,
             stands,
-            inl (_, ((w.in-Datagram.ensures.found, ap (Interface interface) (w.new.ensures ∙ ap (λ r. stream_of r w.in-Datagram.octets.now) w.find_route.ensures), refl, w.join.ensures, refl, w.message_in.ensures), asked), takes),
+            inl (_, ((w.in-Datagram.ensures.found, ap (Interface interface) (w.new.ensures ∙ ap (λ r. stream_of r w.in-Datagram.octets.now) w.find_route.ensures), refl, w.join.ensures, refl, w.message_in.ensures, refl), asked), takes),
             went,
           )
       | in_default w ↦
