@@ -15,20 +15,20 @@ use Rattle.schedule_lines.proofs.Compact.{AreReadableFields, read_object, text_r
 use Rattle.schedule_lines.proofs.Compact.{members_readable, members_ascending}
 use Rattle.schedule_lines.proofs.Keys.{Field, members_of}
 use Rattle.schedule_lines.proofs.Values.{value_read}
-use Rattle.recording_lines.specs.Measurement.{Measured, half_text, follow_text}
+use Rattle.recording_lines.specs.Measurement.{Measured, by_text, follow_text}
 use Rattle.recording_measure.specs.Moment.{moment_text}
 use Rattle.recording_measure.specs.Exchange.{json_results, json_times, sync_correction2, delay_correction2, between2}
 use Rattle.explain_laws.specs.Measurements.{IsOf128Bits, IsWithinRange}
 use Rattle.explain_laws.specs.FullMeasurements.{IsExchangeWithinRange, full_data, EachFullMeasurementIsJson}
 use Rattle.explain_laws.proofs.Figures.{escape_figures, printed_figures, figures_signed, figures_nanoseconds, figures_time, figures_moment}
 use Rattle.explain_laws.proofs.Figures.{is_figure}
-use Rattle.explain_laws.proofs.Measurements.{tags_readable, half_alone, follow_is, ArePrinted, both, word, half_printed}
+use Rattle.explain_laws.proofs.Measurements.{tags_readable, by_alone, follow_is, ArePrinted, both, word, by_printed}
 use Rattle.explain_laws.proofs.Measurements.{number_printed, follow_printed, ascii}
 
 -- ---- the compact text of the value is read as the value
 abbrev fields : Measured → LastExchange → List Field
 fields m x =
-    (codes "by", Some (string (half_text m.by)))
+    (codes "by", Some (string (by_text m.own m.by)))
     ∷ (codes "delay_correction", Some (string (nanoseconds_text (delay_correction2 x))))
     ∷ (codes "line", Some (whole m.line))
     ∷ (codes "offset", Some (string (nanoseconds_text m.report.offset2)))
@@ -192,7 +192,7 @@ moment_alone time figures = escape_figures (moment_text time) figures
 compact_is : (m : Measured) (x : LastExchange) → IsWithinRange m → IsExchangeWithinRange x → compact_text (full_data m x) ≡ line_of m x
 unfolding escape_byte
 compact_is m x h k =
-    let by = half_alone m.by in
+    let by = by_alone m.own m.by in
     let delay = quoted (delay_correction2 x) k.delay_correction in
     let offset = quoted m.report.offset2 h.offset in
     let offset2 = escape_figures (signed_decimal m.report.offset2) (figures_signed m.report.offset2 h.offset) in
@@ -212,17 +212,17 @@ compact_is m x h k =
     (times_pieces (t1 i) (t2 i) (between i) (t3 i) (t4 i)
     (tags_pieces (decimal m.report.sync_tag) (follow_is m.report.follow_tag i) (decimal m.report.request_tag)
     (decimal m.report.response_tag) (time i))))
-    ∙ ap (λ (r : List ℕ). results_pieces (half_text m.by) (nanoseconds_text (delay_correction2 x)) (decimal m.line)
+    ∙ ap (λ (r : List ℕ). results_pieces (by_text m.own m.by) (nanoseconds_text (delay_correction2 x)) (decimal m.line)
     (nanoseconds_text m.report.offset2) (signed_decimal m.report.offset2) (nanoseconds_text m.report.path2)
     (signed_decimal m.report.path2) (decimal x.request_number.0) (nanoseconds_text (sync_correction2 x)) (decimal x.sync_number.0)
     (times_pieces (moment_text x.t1) (moment_text x.t2) (nanoseconds_text (between2 x)) (moment_text x.t3) (moment_text x.t4) r))
     (same_tags (decimal m.report.sync_tag) (follow_text m.report.follow_tag) (decimal m.report.request_tag)
     (decimal m.report.response_tag) m.time)
-    ∙ ap (results_pieces (half_text m.by) (nanoseconds_text (delay_correction2 x)) (decimal m.line)
+    ∙ ap (results_pieces (by_text m.own m.by) (nanoseconds_text (delay_correction2 x)) (decimal m.line)
     (nanoseconds_text m.report.offset2) (signed_decimal m.report.offset2) (nanoseconds_text m.report.path2)
     (signed_decimal m.report.path2) (decimal x.request_number.0) (nanoseconds_text (sync_correction2 x)) (decimal x.sync_number.0))
     (same_times (moment_text x.t1) (moment_text x.t2) (nanoseconds_text (between2 x)) (moment_text x.t3) (moment_text x.t4) tags)
-    ∙ same_results (half_text m.by) (nanoseconds_text (delay_correction2 x)) (decimal m.line)
+    ∙ same_results (by_text m.own m.by) (nanoseconds_text (delay_correction2 x)) (decimal m.line)
     (nanoseconds_text m.report.offset2) (signed_decimal m.report.offset2) (nanoseconds_text m.report.path2)
     (signed_decimal m.report.path2) (decimal x.request_number.0) (nanoseconds_text (sync_correction2 x)) (decimal x.sync_number.0) times
 
@@ -256,7 +256,7 @@ moment_printed time figures = word _ (printed_figures (moment_text time) figures
 
 line_printed : (m : Measured) (x : LastExchange) → IsWithinRange m → IsExchangeWithinRange x → ArePrinted (line_of m x)
 line_printed m x h k =
-    both (results_printed _ _ _ _ _ _ _ _ _ _ (half_printed m.by) (nanoseconds_printed (delay_correction2 x) k.delay_correction)
+    both (results_printed _ _ _ _ _ _ _ _ _ _ (by_printed m.own m.by) (nanoseconds_printed (delay_correction2 x) k.delay_correction)
     (number_printed m.line h.line) (nanoseconds_printed m.report.offset2 h.offset) (signed_printed m.report.offset2 h.offset)
     (nanoseconds_printed m.report.path2 h.path) (signed_printed m.report.path2 h.path)
     (number_printed x.request_number.0 (wide _ k.request_number)) (nanoseconds_printed (sync_correction2 x) k.sync_correction)

@@ -1,5 +1,5 @@
 -- The JSON of a measurement, read again.
-use Rattle.std.proofs.Common.{◌≡◌, ◌∙◌, ℕ, ℤ, ◌<◌, ◌^◌, true, ◌&&◌, nat_lt, List, [], ◌∷◌, ◌++◌, codes, Option, Some, None, IfSome}
+use Rattle.std.proofs.Common.{◌≡◌, ◌∙◌, ℕ, ℤ, ◌<◌, ◌^◌, Bool, true, false, ◌&&◌, nat_lt, List, [], ◌∷◌, ◌++◌, codes, Option, Some, None, IfSome}
 use Rattle.std.proofs.Common.{refl, ap, sym, arith, append_assoc}
 use Rattle.std.specs.Fmt.{decimal, signed_decimal}
 use Rattle.std.specs.List.{list_all}
@@ -25,7 +25,7 @@ use Rattle.schedule_lines.proofs.Keys.{Field, members_of}
 use Rattle.schedule_lines.proofs.Values.{value_read}
 use Rattle.recording_lines.specs.declared.measurement.Half.{Half}
 use Rattle.recording_lines.specs.declared.measurement.Half.TheVariants.{Sync, Response}
-use Rattle.recording_lines.specs.Measurement.{Measured, half_text, follow_text}
+use Rattle.recording_lines.specs.Measurement.{Measured, by_text, follow_text}
 use Rattle.explain_laws.specs.Measurements.{IsWithinRange, measured_data, is_printed, EachMeasurementIsJson}
 use Rattle.explain_laws.proofs.Figures.{escape_figures, printed_figures, figures_decimal, figures_signed}
 use Rattle.explain_laws.proofs.Figures.{figures_nanoseconds, figures_time}
@@ -57,7 +57,7 @@ tags_readable report h = tags_at report.sync_tag report.request_tag report.respo
 
 abbrev fields : Measured → List Field
 fields m =
-    (codes "by", Some (string (half_text m.by)))
+    (codes "by", Some (string (by_text m.own m.by)))
     ∷ (codes "line", Some (whole m.line))
     ∷ (codes "offset", Some (string (nanoseconds_text m.report.offset2)))
     ∷ (codes "offset2", Some (string (signed_decimal m.report.offset2)))
@@ -84,10 +84,12 @@ read_back m h =
     read_object (members_of (fields m)) (members_readable (fields m) (fields_readable m h)) (members_ascending (fields m))
 
 -- ---- which is what is written
-pub half_alone : (half : Half) → escape (half_text half) ≡ half_text half
+pub by_alone : (own : Bool) (half : Half) → escape (by_text own half) ≡ by_text own half
 unfolding escape_byte
-half_alone Sync = refl
-half_alone Response = refl
+by_alone false Sync = refl
+by_alone false Response = refl
+by_alone true Sync = refl
+by_alone true Response = refl
 
 pub follow_is : (tag : Option ℕ) → compact_text (follow_data tag) ≡ follow_text tag
 follow_is None = refl
@@ -126,14 +128,14 @@ same_pieces : (by line offset offset2 path path2 sync follow request response ti
 same_pieces by line offset offset2 path path2 sync follow request response time = simp append_assoc
 
 abbrev front_of : Measured → List ℕ
-front_of m = front (half_text m.by) (decimal m.line) (nanoseconds_text m.report.offset2) (signed_decimal m.report.offset2)
+front_of m = front (by_text m.own m.by) (decimal m.line) (nanoseconds_text m.report.offset2) (signed_decimal m.report.offset2)
     (nanoseconds_text m.report.path2) (signed_decimal m.report.path2) (decimal m.report.sync_tag)
     (follow_text m.report.follow_tag) (decimal m.report.request_tag) (decimal m.report.response_tag) m.time
 
 compact_is : (m : Measured) → IsWithinRange m → compact_text (measured_data m) ≡ front_of m ++ codes "\"}"
 unfolding escape_byte
 compact_is m h =
-    let by = half_alone m.by in
+    let by = by_alone m.own m.by in
     let offset = escape_figures (nanoseconds_text m.report.offset2) (figures_nanoseconds m.report.offset2 h.offset) in
     let offset2 = escape_figures (signed_decimal m.report.offset2) (figures_signed m.report.offset2 h.offset) in
     let path = escape_figures (nanoseconds_text m.report.path2) (figures_nanoseconds m.report.path2 h.path) in
@@ -141,7 +143,7 @@ compact_is m h =
     let time = escape_figures m.time (figures_time m.time h.time) in
     (λ i. pieces (by i) (decimal m.line) (offset i) (offset2 i) (path i) (path2 i) (decimal m.report.sync_tag)
     (follow_is m.report.follow_tag i) (decimal m.report.request_tag) (decimal m.report.response_tag) (time i))
-    ∙ same_pieces (half_text m.by) (decimal m.line) (nanoseconds_text m.report.offset2) (signed_decimal m.report.offset2)
+    ∙ same_pieces (by_text m.own m.by) (decimal m.line) (nanoseconds_text m.report.offset2) (signed_decimal m.report.offset2)
     (nanoseconds_text m.report.path2) (signed_decimal m.report.path2) (decimal m.report.sync_tag)
     (follow_text m.report.follow_tag) (decimal m.report.request_tag) (decimal m.report.response_tag) m.time
 
@@ -157,9 +159,11 @@ both {xs} {ys} first second = record {
 pub word : (text : List ℕ) → list_all is_printed text ≡ true → ArePrinted text
 word text printed = record { all = printed }
 
-pub half_printed : (half : Half) → ArePrinted (half_text half)
-half_printed Sync = word (half_text Sync) refl
-half_printed Response = word (half_text Response) refl
+pub by_printed : (own : Bool) (half : Half) → ArePrinted (by_text own half)
+by_printed false Sync = word (by_text false Sync) refl
+by_printed false Response = word (by_text false Response) refl
+by_printed true Sync = word (by_text true Sync) refl
+by_printed true Response = word (by_text true Response) refl
 
 pub number_printed : (n : ℕ) → n < 2 ^ 64 → ArePrinted (decimal n)
 number_printed n small = word (decimal n) (printed_figures (decimal n) (figures_decimal n (omega (arith, small))))
@@ -176,10 +180,10 @@ front_printed by line offset offset2 path path2 sync follow request response tim
 
 line_printed : (m : Measured) → IsWithinRange m → ArePrinted (front_of m ++ codes "\"}")
 line_printed m h = both
-    (front_printed (half_text m.by) (decimal m.line) (nanoseconds_text m.report.offset2) (signed_decimal m.report.offset2)
+    (front_printed (by_text m.own m.by) (decimal m.line) (nanoseconds_text m.report.offset2) (signed_decimal m.report.offset2)
     (nanoseconds_text m.report.path2) (signed_decimal m.report.path2) (decimal m.report.sync_tag)
     (follow_text m.report.follow_tag) (decimal m.report.request_tag) (decimal m.report.response_tag) m.time
-    (half_printed m.by) (number_printed m.line h.line)
+    (by_printed m.own m.by) (number_printed m.line h.line)
     (word _ (printed_figures (nanoseconds_text m.report.offset2) (figures_nanoseconds m.report.offset2 h.offset)))
     (word _ (printed_figures (signed_decimal m.report.offset2) (figures_signed m.report.offset2 h.offset)))
     (word _ (printed_figures (nanoseconds_text m.report.path2) (figures_nanoseconds m.report.path2 h.path)))

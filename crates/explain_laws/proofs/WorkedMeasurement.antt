@@ -1,5 +1,5 @@
 -- A worked measurement: its JSON, and that it is within its range.
-use Rattle.std.proofs.Common.{◌≡◌, codes, pos, None, refl, arith}
+use Rattle.std.proofs.Common.{◌≡◌, codes, pos, false, None, refl, arith}
 use Rattle.std.specs.Fmt.{digits}
 use Rattle.ptp_units.specs.Nanoseconds.{decimals}
 use Rattle.recording_lines.specs.declared.measurement.Half.TheVariants.{Response}
@@ -10,6 +10,7 @@ use Rattle.explain_laws.specs.Measurements.{IsWithinRange}
 abbrev measured : Measured
 measured = record {
   by = Response;
+  own = false;
   line = 5;
   time = codes "8.1";
   report = record {

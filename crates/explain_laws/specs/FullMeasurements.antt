@@ -8,7 +8,7 @@ use Rattle.ptp_units.specs.Nanoseconds.{nanoseconds_text}
 use Rattle.schedule_lines.specs.Json.{value_in}
 use Rattle.schedule_lines.specs.Written.{whole, tags_data}
 use Rattle.slave_port.specs.declared.exchange.LastExchange.{LastExchange}
-use Rattle.recording_lines.specs.Measurement.{Measured, half_text}
+use Rattle.recording_lines.specs.Measurement.{Measured, by_text}
 use Rattle.recording_measure.specs.Moment.{moment_text}
 use Rattle.recording_measure.specs.Exchange.{json_text, sync_correction2, delay_correction2, between2}
 use Rattle.explain_laws.specs.Measurements.{IsOf128Bits, IsWithinRange, is_printed}
@@ -28,7 +28,7 @@ pub record IsExchangeWithinRange (x : LastExchange) : Type 0 where
 -- a measurement with its exchange as a value: an object of these members
 abbrev pub full_data : Measured → LastExchange → Data
 full_data m x = object
-    (member (codes "by") (string (half_text m.by))
+    (member (codes "by") (string (by_text m.own m.by))
     (member (codes "delay_correction") (string (nanoseconds_text (delay_correction2 x)))
     (member (codes "line") (whole m.line)
     (member (codes "offset") (string (nanoseconds_text m.report.offset2))

@@ -7,7 +7,7 @@ use Rattle.ptp_units.specs.Nanoseconds.{nanoseconds_text}
 use Rattle.schedule_lines.specs.Json.{value_in}
 use Rattle.schedule_lines.specs.Ranges.{HasTags}
 use Rattle.schedule_lines.specs.Written.{whole, tags_data}
-use Rattle.recording_lines.specs.Measurement.{Measured, half_text, json_text}
+use Rattle.recording_lines.specs.Measurement.{Measured, by_text, json_text}
 use Rattle.recording_lines.specs.Timed.{is_time_octet}
 
 -- a number of 128 bits, with a sign
@@ -26,7 +26,7 @@ pub record IsWithinRange (m : Measured) : Type 0 where
 -- a measurement as a value: an object of these members
 abbrev pub measured_data : Measured → Data
 measured_data m = object
-    (member (codes "by") (string (half_text m.by))
+    (member (codes "by") (string (by_text m.own m.by))
     (member (codes "line") (whole m.line)
     (member (codes "offset") (string (nanoseconds_text m.report.offset2))
     (member (codes "offset2") (string (signed_decimal m.report.offset2))

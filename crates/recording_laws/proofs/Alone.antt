@@ -26,7 +26,7 @@ use Rattle.datagram_source.specs.Rules.{nothing_read}
 use Rattle.recording_measure.specs.Measure.{begun}
 use Rattle.recording_measure.proofs.Chosen.{measured-other}
 use Rattle.recording_laws.specs.Alone.{AsksForNothing, AreAt, rows_of, OnePlaceIsMeasuredAlone}
-use Rattle.recording_laws.proofs.LinesRead.{begun_of_lines, read_on}
+use Rattle.recording_laws.proofs.LinesRead.{begun_nameless, read_on}
 
 -- where nothing is asked for all of it was met
 module _ (w : WantedPorts) (asks : AsksForNothing w) where
@@ -245,7 +245,7 @@ lines_written form w rows at = written_one w None (lines_same w) form rows at
 pub measured_alone : OnePlaceIsMeasuredAlone
 measured_alone = record {
   nameless = λ form w lines read text taken.
-      ((read_on 1 lines (nothing_read (begun form w)) read text taken).lines (begun_of_lines form w)).nameless;
+      (read_on 1 lines (nothing_read (begun form w)) read text taken).nameless begun_nameless;
   lines = lines_written;
   whom = told_whom_one;
   fates = told_fates_one;

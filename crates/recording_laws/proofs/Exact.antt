@@ -25,7 +25,7 @@ use Rattle.datagram_source.specs.Rules.{LinesRead, nothing_read}
 use Rattle.recording_laws.specs.Alone.{rows_of}
 use Rattle.recording_laws.proofs.Alone.{lines_written}
 use Rattle.recording_laws.proofs.LinesRead as lines
-use Rattle.recording_laws.proofs.LinesRead.{IsReadOn, begun_of_lines, read_on}
+use Rattle.recording_laws.proofs.LinesRead.{IsReadOn, begun_of_lines, begun_nameless, read_on}
 use Rattle.recording_laws.specs.Exact.{EachMeasurementIsExact}
 
 -- one more report, or none
@@ -98,12 +98,12 @@ written_exactly : (form : Form) (wanted : WantedPorts) (w : Watched) (read : Lin
     → text ≡ texts_as form (measurements w (heard wanted (rows_of read.state.rows)))
 written_exactly form wanted w read text on known =
     sym on.written
-    ∙ lines_written read.state.form read.state.wanted read.state.rows (on.lines (begun_of_lines form wanted)).nameless
+    ∙ lines_written read.state.form read.state.wanted read.state.rows (on.nameless begun_nameless)
     ∙ (λ i. written (on.form i) (on.wanted i) (rows_of read.state.rows))
     ∙ ap (λ (o : Option Watched). texts_as form (option_map_or (λ v. measurements v (heard wanted (rows_of read.state.rows))) o [])) known
 
 pub each_measurement : EachReportIsExact → EachMeasurementIsExact
-each_measurement each_report network run slave master w moved form wanted lines read text accepted watches taken known tells
+each_measurement each_report network run slave master w moved form wanted lines read text accepted watches taken captured known tells
     fresh ticked missing =
     let on = read_on 1 lines (nothing_read (begun form wanted)) read text taken in
     let those = heard wanted (rows_of read.state.rows) in record {
@@ -111,7 +111,7 @@ each_measurement each_report network run slave master w moved form wanted lines 
       exact = all_measured (IsExact master tells) w those
           (each_report network run slave master w moved (datagrams those) accepted watches tells (record {
             numbered = (heard_numbered wanted (rows_of read.state.rows)
-                (counted_rows read.state.rows (on.lines (begun_of_lines form wanted)).counted)).0;
+                (counted_rows read.state.rows (on.lines captured (begun_of_lines form wanted)).counted)).0;
             fresh = fresh;
             ticked = ticked;
             missing = missing;

@@ -72,14 +72,14 @@ written_exactly form wanted w read text most on known =
     ∙ ap (λ (o : Option Watched). texts_as form (option_map_or (λ v. measurements v (heard_at wanted read.rows)) o [])) known
 
 pub each_measurement : EachReportIsExact → EachMeasurementOfACaptureIsExact
-each_measurement each_report network run slave master w moved form wanted packets read text accepted watches taken known tells
+each_measurement each_report network run slave master w moved form wanted packets read text accepted watches taken captured known tells
     fresh ticked missing =
     let on = read_on form wanted packets read text taken in
     let those = heard_at wanted read.rows in record {
       written = written_exactly form wanted w read text (length packets) on known;
       exact = all_measured (IsExact master tells) w those
           (each_report network run slave master w moved (datagrams those) accepted watches tells (record {
-            numbered = numbered (length packets) those (heard_rising (length packets) wanted read.rows on.rising);
+            numbered = numbered (length packets) those (heard_rising (length packets) wanted read.rows (on.rising captured));
             fresh = fresh;
             ticked = ticked;
             missing = missing;

@@ -71,6 +71,7 @@ module _ (w : Watched) where
 abbrev made_with : Watched → List Row → Row → Report → Measured
 made_with w earlier row report = record {
   by = option_map_or (λ x. half_of x.body) (result_ok row.datagram.said) halves.Sync;
+  own = row.own;
   line = row.datagram.line;
   time = row.time;
   report = report;

@@ -1,5 +1,5 @@
 -- Packets that were read took a recording on, and the numbers of their rows rise.
-use Rattle.std.proofs.Common.{◌≡◌, ◌∙◌, inl, inr, ℕ, suc, ◌+◌, ◌-◌, ◌≤◌, List, [], ◌∷◌, ◌++◌, length, sym, ap, subst, arith}
+use Rattle.std.proofs.Common.{◌≡◌, ◌∙◌, inl, inr, ℕ, suc, ◌+◌, ◌-◌, ◌≤◌, true, List, [], ◌∷◌, ◌++◌, length, sym, ap, subst, arith}
 use Rattle.std.specs.Prelude.{⊤}
 use Rattle.std.proofs.lemmas.List.{append-nil}
 use Rattle.capture_file.specs.Packet.{PacketOf, Captured, Timeless, Simple}
@@ -10,7 +10,8 @@ use Rattle.recording_measure.specs.Places.{PlacedRow, placed}
 use Rattle.datagram_source.specs.Datagram.{DatagramOf, IsDatagramPacket}
 use Rattle.datagram_source.specs.Rules.{packet_rules}
 use Rattle.recording_measure.specs.Chosen.{settled}
-use Rattle.recording_measure.specs.Measure.{Recording, begun, written_of, measure_rules}
+use Rattle.recording_measure.specs.Measure.{Recording, begun, is_captured, written_of, measure_rules}
+use Rattle.recording_measure.proofs.ReadOne.{one_read}
 
 abbrev pub ArePackets : (most : ℕ) → List PlacedRow → Type 0
 ArePackets most [] = ⊤
@@ -25,7 +26,8 @@ pub record HasReadOn (k read : Recording) (text : List ℕ) (most : ℕ) : Type 
   pub form : read.form ≡ k.form
   pub wanted : read.wanted ≡ k.wanted
   pub written : written_of read ≡ written_of k ++ text
-  pub rising : ArePackets most read.rows
+  pub before : is_captured read.by ≡ true → is_captured k.by ≡ true
+  pub rising : is_captured read.by ≡ true → ArePackets most read.rows
 
 row_number : (number : ℕ) (packet : PacketOf) (d : DatagramOf) → IsDatagramPacket number packet d → d.number ≡ number
 row_number number (Captured interface time link octets) d is = is.2
@@ -39,23 +41,32 @@ read_on form wanted [] read text (same, nothing) = record {
   form = ap (λ (x : Recording). x.form) same;
   wanted = ap (λ (x : Recording). x.wanted) same;
   written = ap written_of same ∙ sym nothing;
-  rising = subst (λ (x : Recording). ArePackets 0 x.rows) (sym same) tt;
+  before = λ captured. ap (λ (x : Recording). is_captured x.by) (sym same) ∙ captured;
+  rising = λ captured. subst (λ (x : Recording). ArePackets 0 x.rows) (sym same) tt;
 }
 read_on form wanted (packet ∷ earlier) read text (state, before, out, taken, inl (d, given, (on, added)), all) =
     let so_far = read_on form wanted earlier state before taken in
     let r : PlacedRow = placed (settled state.wanted state.rows d) d in
+    let one = one_read d state read on in
     let number : r.row.datagram.line ≡ length earlier + 1 = row_number (length earlier + 1) packet d given.0 in record {
-      form = ap (λ (x : Recording). x.form) on ∙ so_far.form;
-      wanted = ap (λ (x : Recording). x.wanted) on ∙ so_far.wanted;
+      form = one.form ∙ so_far.form;
+      wanted = one.wanted ∙ so_far.wanted;
       written = added ∙ ap (λ (t : List ℕ). t ++ out) so_far.written ∙ sym all;
-      rising = subst (λ (x : Recording). ArePackets (suc (length earlier)) x.rows) (sym on)
-          (omega (arith, number), omega (arith, number), packets_more (length earlier) (r.row.datagram.line - 1) state.rows (omega (arith, number)) so_far.rising);
+      before = λ captured. so_far.before (one.before captured);
+      rising = λ captured. subst (ArePackets (suc (length earlier))) (sym (one.row captured)) (
+        omega (arith, number),
+        omega (arith, number),
+        packets_more (length earlier) (r.row.datagram.line - 1) state.rows
+            (omega (arith, number)) (so_far.rising (one.before captured)),
+      );
     }
 read_on form wanted (packet ∷ earlier) read text (state, before, out, taken, inr (none, same, nothing), all) =
     let so_far = read_on form wanted earlier state before taken in record {
       form = ap (λ (x : Recording). x.form) same ∙ so_far.form;
       wanted = ap (λ (x : Recording). x.wanted) same ∙ so_far.wanted;
       written = ap written_of same ∙ so_far.written ∙ sym (append-nil before) ∙ ap (λ (t : List ℕ). before ++ t) (sym nothing) ∙ sym all;
-      rising = subst (λ (x : Recording). ArePackets (suc (length earlier)) x.rows) (sym same)
-          (packets_more (length earlier) (suc (length earlier)) state.rows (omega arith) so_far.rising);
+      before = λ captured. so_far.before (ap (λ (x : Recording). is_captured x.by) (sym same) ∙ captured);
+      rising = λ captured. subst (λ (x : Recording). ArePackets (suc (length earlier)) x.rows) (sym same)
+          (packets_more (length earlier) (suc (length earlier)) state.rows (omega arith)
+          (so_far.rising (ap (λ (x : Recording). is_captured x.by) (sym same) ∙ captured)));
     }

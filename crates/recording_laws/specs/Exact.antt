@@ -1,6 +1,6 @@
 -- The law of what `measure` writes: each report is exact for the events that its lines tell.
 -- `laws::each_measurement_is_exact` promises it.
-use Rattle.std.specs.Prelude.{◌≡◌, ℕ, List, Some}
+use Rattle.std.specs.Prelude.{◌≡◌, ℕ, true, List, Some}
 use Rattle.std.specs.List.{All}
 use Rattle.network_model.specs.Network.{Network, NodeName}
 use Rattle.network_model.specs.Run.{Run}
@@ -17,7 +17,7 @@ use Rattle.recording_measure.specs.Watch.{watched_in}
 use Rattle.recording_measure.specs.Row.{Row, datagrams, heard}
 use Rattle.recording_measure.specs.Measured.{texts_as, measurements}
 use Rattle.datagram_source.specs.Rules.{LinesRead, nothing_read, line_rules}
-use Rattle.recording_measure.specs.Measure.{Recording, begun, measure_rules}
+use Rattle.recording_measure.specs.Measure.{Recording, begun, is_captured, measure_rules}
 use Rattle.recording_laws.specs.Alone.{rows_of}
 
 -- a text is that of what is measured at lines that are heard, whose reports are exact for the events that they tell
@@ -28,14 +28,15 @@ pub record WritesExact {network : Network} {slave : NodeName} {run : Run} {moved
   pub exact : All (λ m. IsExact master tells m.report) (measurements w rows)
 
 -- Over any accepted run of a network, and lines of which those that are heard tell it at one of its slaves: what is
--- written of the lines is the texts of reports that are exact, where no number is too old when it is used, ticks come
--- often enough, and few Delay_Reqs are missing in a row.
+-- written of the lines is the texts of reports that are exact, where what was captured is measured and no slave's own readings are, no
+-- number is too old when it is used, ticks come often enough, and few Delay_Reqs are missing in a row.
 abbrev pub EachMeasurementIsExact : Type 0
 EachMeasurementIsExact =
     (network : Network) (run : Run) (slave master : NodeName) (w : Watched) (moved : Moved) (form : Form) (wanted : WantedPorts)
     (lines : List (List ℕ)) (read : LinesRead Recording) (text : List ℕ)
     → IsAcceptedRun network run → Watches network slave master w
     → TakesLines (line_rules measure_rules) 1 lines (nothing_read (begun form wanted)) read text
+    → is_captured read.state.by ≡ true
     → watched_in wanted (datagrams (rows_of read.state.rows)) ≡ Some w
     → (tells : Tells network slave w moved run (datagrams (heard wanted (rows_of read.state.rows))))
     → IsFresh exact_limits.late tells → IsTicked exact_limits.between_ticks master tells

@@ -1,5 +1,5 @@
 -- What comes of a datagram that is heard.
-use Rattle.std.proofs.Common.{◌≡◌, ◌∙◌, ℕ, List, [], ◌∷◌, Option, Some, None, Result, Ok, Err, refl, sym, ap}
+use Rattle.std.proofs.Common.{◌≡◌, ◌∙◌, ℕ, Bool, List, [], ◌∷◌, Option, Some, None, Result, Ok, Err, refl, sym, ap}
 use Rattle.std.specs.Prelude.{OnOk, option_map, option_to_list}
 use Rattle.std.specs.Option.{option_map_or}
 use Rattle.std.specs.Result.{result_ok}
@@ -36,9 +36,9 @@ on_ok_all (Ok x) f p q s = f p q s
 on_ok_all (Err e) f p q s = tt
 
 -- what is measured at a row by its report, and by the exchange that it was made of
-abbrev pub measured_with : Half → (line : ℕ) → (time : List ℕ) → Option LastExchange → Option Report → List Measured
-measured_with by line time exchange report = option_to_list
-    (option_map (λ r. record { by = by; line = line; time = time; report = r; exchange = exchange }) report)
+abbrev pub measured_with : Half → (own : Bool) → (line : ℕ) → (time : List ℕ) → Option LastExchange → Option Report → List Measured
+measured_with by own line time exchange report = option_to_list
+    (option_map (λ r. record { by = by; own = own; line = line; time = time; report = r; exchange = exchange }) report)
 
 -- which half a datagram completes
 abbrev half_said : Recorded → Half
@@ -52,31 +52,31 @@ none_completed : (by : Half) (exchange : Option LastExchange) (report : Option R
 none_completed by exchange None none = refl
 none_completed by exchange (Some report) none = absurd cc
 
-one_completed : (by : Half) (line : ℕ) (time : List ℕ) (exchange : Option LastExchange) (report : Option Report) (completed : Completed)
+one_completed : (by : Half) (own : Bool) (line : ℕ) (time : List ℕ) (exchange : Option LastExchange) (report : Option Report) (completed : Completed)
     → option_map (λ r. completed_by by exchange r) report ≡ Some completed
-    → measured_with by line time exchange report ≡ measured_by completed time line ∷ []
-one_completed by line time exchange None completed is = absurd cc
-one_completed by line time exchange (Some report) completed is =
-    ap (λ o. option_to_list (option_map (λ (c : Completed). measured_by c time line) o)) is
+    → measured_with by own line time exchange report ≡ measured_by completed own time line ∷ []
+one_completed by own line time exchange None completed is = absurd cc
+one_completed by own line time exchange (Some report) completed is =
+    ap (λ o. option_to_list (option_map (λ (c : Completed). measured_by c own time line) o)) is
 
 module _ (watched : Watched) (earlier : List Row) (row : Row) (d : Recorded) (same : row.datagram ≡ d) where
   -- a datagram that completes nothing
   pub nothing_said : (result : Option Completed) → result ≡ completion watched (datagrams earlier) d → result ≡ None
       → option_to_list (measured_at watched earlier row) ≡ []
   nothing_said result is none =
-      ap (λ (d : Recorded). measured_with (half_said d) d.line row.time (exchange_at watched (datagrams earlier) d)
+      ap (λ (d : Recorded). measured_with (half_said d) row.own d.line row.time (exchange_at watched (datagrams earlier) d)
       (report_at watched (datagrams earlier) d)) same
-      ∙ ap (measured_with (half_said d) d.line row.time (exchange_at watched (datagrams earlier) d))
+      ∙ ap (measured_with (half_said d) row.own d.line row.time (exchange_at watched (datagrams earlier) d))
       (none_completed (half_said d) (exchange_at watched (datagrams earlier) d) (report_at watched (datagrams earlier) d) (sym is ∙ none))
 
   -- one that completes a report
   pub said_at : (result : Option Completed) (completed : Completed) (time : List ℕ)
       → result ≡ completion watched (datagrams earlier) d → result ≡ Some completed → row.time ≡ time
-      → option_to_list (measured_at watched earlier row) ≡ measured_by completed time d.line ∷ []
+      → option_to_list (measured_at watched earlier row) ≡ measured_by completed row.own time d.line ∷ []
   said_at result completed time is some spelled =
-      ap (λ (d : Recorded). measured_with (half_said d) d.line row.time (exchange_at watched (datagrams earlier) d)
+      ap (λ (d : Recorded). measured_with (half_said d) row.own d.line row.time (exchange_at watched (datagrams earlier) d)
       (report_at watched (datagrams earlier) d)) same
-      ∙ ap (λ (t : List ℕ). measured_with (half_said d) d.line t (exchange_at watched (datagrams earlier) d)
+      ∙ ap (λ (t : List ℕ). measured_with (half_said d) row.own d.line t (exchange_at watched (datagrams earlier) d)
       (report_at watched (datagrams earlier) d)) spelled
-      ∙ one_completed (half_said d) d.line time (exchange_at watched (datagrams earlier) d) (report_at watched (datagrams earlier) d)
+      ∙ one_completed (half_said d) row.own d.line time (exchange_at watched (datagrams earlier) d) (report_at watched (datagrams earlier) d)
       completed (sym is ∙ some)

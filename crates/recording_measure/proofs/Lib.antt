@@ -13,6 +13,9 @@ pub mod Heard
 pub mod KeptRows
 pub mod Looking
 pub mod OneCourse
+pub mod OwnMessages
+pub mod ReadOne
+pub mod Reported
 pub mod InputFates
 pub mod Chosen
 pub mod Recordings

@@ -1,17 +1,9 @@
 -- A datagram by which it isn't known yet whom to watch, or by which that is known.
 use Rattle.std.proofs.Common.{◌≡◌, ◌∙◌, ◌⊎◌, inl, inr, ℕ, ◌+◌, ◌≤◌, ◌<◌, nat_le, nat_lt, min, Bool, true, false, List, [], ◌∷◌, ◌++◌, length, get_or}
-use Rattle.std.proofs.Common.{Option, Some, None, Result, Ok, Err, refl, sym, ap, subst, arith}
-use Rattle.std.specs.Prelude.{if◌then◌else◌, OnOk, MatchResult, option_to_list, option_map, option_and_then, slice_get}
-use Rattle.std.specs.Io.KnownBytes.{Appends}
+use Rattle.std.proofs.Common.{Option, Some, None, refl, sym, ap, subst, arith}
+use Rattle.std.specs.Prelude.{if◌then◌else◌, option_to_list, option_map, option_and_then, slice_get}
 use Rattle.std.proofs.lemmas.List.{append-nil}
 use Rattle.std.proofs.lemmas.Bool.{cases_lt, lt-ltb, le-ltb, ltb-true, ltb-false, le-leb, lt-leb}
-use Rattle.text_lines.specs.declared.line_fault.LineFault.{LineFault}
-use Rattle.text_lines.specs.declared.line_fault.LineFault.TheVariants.{Write, Field, Memory}
-use Rattle.text_lines.specs.Fault.{is_write}
-use Rattle.text_lines.specs.Task.{WentOut}
-use Rattle.datagram_source.specs.declared.datagram.Datagram.{Datagram}
-use Rattle.datagram_source.specs.declared.datagram.Place.{Place}
-use Rattle.datagram_source.specs.Datagram.{PlaceOf, DatagramOf, place_of, datagram_of}
 use Rattle.recording_measure.specs.Made.{Measured}
 use Rattle.recording_model.specs.declared.watched.Watched.{Watched}
 use Rattle.recording_model.specs.Listening.{after_all}
@@ -22,17 +14,16 @@ use Rattle.recording_measure.specs.declared.measuring.Stage.TheVariants.{Looking
 use Rattle.recording_measure.specs.declared.recording.Recording.{Recording}
 use Rattle.recording_measure.specs.declared.watch.WantedPorts.{WantedPorts}
 use Rattle.recording_measure.specs.Row.{Row, datagrams, kept_most}
-use Rattle.recording_measure.specs.Measured.{texts_as, measured_at}
-use Rattle.recording_measure.specs.Places.{PlaceName, PlacedRow, placed, is_same_place, rows_at, is_among, places_in}
-use Rattle.recording_measure.specs.Chosen.{is_enough, watched_at, chosen, settled, heard_at, input_watched, input_measured}
-use Rattle.recording_measure.specs.Measure.{Recording as Read, with_row, with_datagram, measured_so_far, measure_rules}
+use Rattle.recording_measure.specs.Measured.{measured_at}
+use Rattle.recording_measure.specs.Places.{PlaceName, PlacedRow, is_same_place, rows_at, is_among, places_in}
+use Rattle.recording_measure.specs.Chosen.{is_enough, watched_at, chosen, heard_at, input_watched, input_measured}
+use Rattle.recording_measure.specs.Measure.{Recording as Read, with_row, measured_so_far}
 use Rattle.std.proofs.lemmas.Option.{slice_get-get_or}
 use Rattle.recording_measure.specs.Summary.{whom_in}
-use Rattle.recording_measure.specs.Inner.Hearing.{Goes}
 use Rattle.recording_measure.specs.Inner.Stages.{whom_at, input_whom}
 use Rattle.recording_measure.specs.Inner.Watching.{whom_of}
 use Rattle.recording_measure.proofs.Watches.{whom_known, whom_stays}
-use Rattle.recording_measure.specs.Inner.Measuring.{IsMeasuring, IsStage, IsHearingAt, AddsRow}
+use Rattle.recording_measure.specs.Inner.Measuring.{IsMeasuring, IsStage, IsHearingAt}
 use Rattle.recording_measure.specs.Inner.StandsFor.{StandsFor}
 use Rattle.recording_measure.specs.Inner.Recordings.{AreKeptRows, AreRecordings, BeginsWith, IsFoundAt, IsNoticed}
 use Rattle.recording_measure.specs.Told.{place_in}
@@ -42,7 +33,6 @@ use Rattle.recording_measure.proofs.InputFates.{none_so_far}
 use Rattle.recording_measure.proofs.KeptRows.{one_there}
 use Rattle.recording_measure.proofs.Chosen.{chosen-stays, input-stays, heard-known, measured-more, measured-other}
 use Rattle.recording_measure.proofs.Chosen.{chosen-after, unlooked, unknown, known_there, input-first, heard-first, measured-unknown, where_met}
-use Rattle.recording_measure.proofs.Goes.{texts-append, until_whole}
 
 -- it isn't known yet
 pub still_looking : (task : Measuring) (k : Read) (r : PlacedRow) (count : ℕ) → task.reports.reports.form ≡ k.form
@@ -213,42 +203,3 @@ few_by count rows most is = go (cases_lt rows most)
     go : (rows < most) ⊎ (most ≤ rows) → nat_lt count most ≡ nat_lt rows most
     go (inl below) = lt-ltb count most (omega (arith, is, below)) ∙ sym (lt-ltb rows most below)
     go (inr above) = le-ltb count most (omega (arith, is, above)) ∙ sym (le-ltb rows most above)
-
--- ---- a datagram that is taken
--- what a datagram adds, which belongs here
-abbrev AddsAt : {T : Type 0} → Result T LineFault → Read → PlaceOf → DatagramOf → Measuring → (a b : Option (List ℕ)) → Type 0
-AddsAt result k place d new a b =
-    OnOk result (IsMeasuring new (with_row (placed place d) k))
-    × (ms : List Measured) × (measured_so_far (with_row (placed place d) k) ≡ ms ++ measured_so_far k) × Goes k.form result ms a b
-
-taken_at : {T : Type 0} (result : Result T LineFault) (k : Read) (d : DatagramOf) (new : Measuring) (a b : Option (List ℕ))
-    → AddsAt result k (settled k.wanted k.rows d) d new a b
-    → MatchResult result
-    (λ _. (later : Read) × (out : List ℕ) × IsMeasuring new later × measure_rules.Takes d k later out × Appends a b out)
-    (λ fault. (out : List ℕ) × measure_rules.Stops d k fault out × WentOut (is_write fault) (Appends a b out))
-taken_at (Ok x) k d new a b (is, ms, grown, goes) = (
-  with_datagram d k,
-  texts_as k.form ms,
-  is,
-  (refl, ap (texts_as k.form) grown ∙ texts-append k.form ms (measured_so_far k)),
-  goes,
-)
-taken_at (Err Write) k d new a b (is, ms, grown, goes) =
-    let (left, may, out, whole, known) =
-    until_whole k.form Write ms (measured_so_far k) (measured_so_far (with_datagram d k)) a b grown goes in
-    (out, (left, may, whole), known)
-taken_at (Err Field) k d new a b (is, ms, grown, goes) =
-    absurd (until_whole k.form Field ms (measured_so_far k) (measured_so_far (with_datagram d k)) a b grown goes).1
-taken_at (Err Memory) k d new a b (is, ms, grown, goes) =
-    let (left, may, out, whole, known) =
-    until_whole k.form Memory ms (measured_so_far k) (measured_so_far (with_datagram d k)) a b grown goes in
-    (out, (left, whole), known)
-
--- one that is taken where it belongs
-pub taken_row : {T : Type 0} (result : Result T LineFault) (k : Read) (met : Place) (d : Datagram) (new : Measuring)
-    (a b : Option (List ℕ)) → place_of met ≡ settled k.wanted k.rows (datagram_of d) → AddsRow result k met d new a b
-    → MatchResult result
-    (λ _. (later : Read) × (out : List ℕ) × IsMeasuring new later × measure_rules.Takes (datagram_of d) k later out × Appends a b out)
-    (λ fault. (out : List ℕ) × measure_rules.Stops (datagram_of d) k fault out × WentOut (is_write fault) (Appends a b out))
-taken_row result k met d new a b there adds = taken_at result k (datagram_of d) new a b
-    (subst (λ (p : PlaceOf). AddsAt result k p (datagram_of d) new a b) there adds)

@@ -289,12 +289,13 @@ keeps_row rows old new d (k, more, copy) reads are =
       numbered = sym copy.numbered;
       moment_is = sym copy.moment_is;
       said = subst (λ (o : List ℕ). IsReading o (reading_of d.said)) (sym copy.octets) reads;
+      own = sym copy.own;
     }))
 
 -- what was kept of a datagram has one row
 pub kept_row : (k : Kept) (written octets : List ℕ) (said : Reading) (row : Row) → string_bytes k.written ≡ written
     → k.octets.items ≡ octets → IsReading k.octets.items said
-    → IsRowOf k row → row ≡ record { time = written; octets = octets; datagram = record { line = k.number; time = k.time; said = said } }
+    → IsRowOf k row → row ≡ record { time = written; octets = octets; datagram = record { line = k.number; time = k.time; said = said }; own = k.own }
 kept_row k written octets said row same alike reads is = λ i. record {
   time = (is.written ∙ same) i;
   octets = (is.octets ∙ alike) i;
@@ -303,4 +304,5 @@ kept_row k written octets said row same alike reads is = λ i. record {
     time = is.moment_is i;
     said = one_reading k.octets.items said row.datagram.said reads is.said i;
   };
+  own = is.own i;
 }

@@ -1,6 +1,6 @@
 -- A worked recording, of two masters and two slaves in two domains: whom it is of, which of its lines are heard, and
 -- what is written of them.
-use Rattle.std.proofs.Common.{◌≡◌, ℕ, ◌*◌, pos, refl, List, [], ◌∷◌, map, codes, Some, None, Ok, Err}
+use Rattle.std.proofs.Common.{◌≡◌, ℕ, ◌*◌, pos, refl, List, [], ◌∷◌, map, codes, false, Some, None, Ok, Err}
 use Rattle.ptp_units.specs.Moment.{stamp}
 use Rattle.event_codec.specs.declared.message.Body.{Body}
 use Rattle.event_codec.specs.declared.message.Body.TheVariants.{Sync, DelayReq, DelayResp}
@@ -41,11 +41,12 @@ a_line number time nanoseconds reading = record {
   time = time;
   octets = [];
   datagram = record { line = number; time = nanoseconds * 65536; said = reading };
+  own = false;
 }
 
 -- nobody is asked for
 abbrev pub anybody : WantedPorts
-anybody = record { slave = None; master = None; domain = None; interface = None }
+anybody = record { slave = None; master = None; domain = None; interface = None; readings = None }
 
 -- an Announce, the Delay_Req of a slave in another domain, a Sync of the master, and a Delay_Req of the slave
 abbrev first_rows : List Row
@@ -69,11 +70,11 @@ told : watched_in anybody (datagrams rows)
 told = refl
 
 -- domain 4 is asked for, and its only Delay_Req came before; nobody is its master
-asked_for : watched_in (record { slave = None; master = None; domain = Some 4; interface = None }) (datagrams rows) ≡ None
+asked_for : watched_in (record { slave = None; master = None; domain = Some 4; interface = None; readings = None }) (datagrams rows) ≡ None
 asked_for = refl
 
 -- the master is asked for, which sent no Sync, so nothing tells its domain
-no_sync : watched_in (record { slave = None; master = Some (port 9 0).identity; domain = None; interface = None }) (datagrams rows) ≡ None
+no_sync : watched_in (record { slave = None; master = Some (port 9 0).identity; domain = None; interface = None; readings = None }) (datagrams rows) ≡ None
 no_sync = refl
 
 -- by the Sync of line 3, and the Delay_Req of line 4

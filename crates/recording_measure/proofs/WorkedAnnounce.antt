@@ -1,6 +1,5 @@
 -- A worked case: an Announce of the master that is watched, octet for octet, and of whom it isn't.
-use Rattle.std.proofs.Common.{◌≡◌, ℕ, ◌++◌, pos, true, false, List, [], ◌∷◌, replicate, Some, None, refl}
-use Rattle.event_codec.specs.declared.port.PortIdentity.{PortIdentity}
+use Rattle.std.proofs.Common.{◌≡◌, ℕ, ◌++◌, pos, true, List, [], ◌∷◌, replicate, Some, None, refl}
 use Rattle.recording_model.specs.declared.watched.Watched.{Watched}
 use Rattle.recording_measure.specs.Announced.{announcement_in}
 

@@ -62,12 +62,12 @@ unfolding digits
 those_at_the_tap = refl
 
 -- of a domain that was met nowhere nothing is measured
-not_met : chosen (record { slave = None; master = None; domain = Some 4; interface = None }) rows ≡ None
+not_met : chosen (record { slave = None; master = None; domain = Some 4; interface = None; readings = None }) rows ≡ None
 unfolding digits
 not_met = refl
 
 -- the slave that is asked for sent nothing, though it is told to whom the tap's response goes
-no_slave : chosen (record { slave = Some (port 9 0).identity; master = None; domain = None; interface = None }) rows ≡ None
+no_slave : chosen (record { slave = Some (port 9 0).identity; master = None; domain = None; interface = None; readings = None }) rows ≡ None
 unfolding digits
 no_slave = refl
 
@@ -90,7 +90,7 @@ measured_lines = refl
 
 -- where all three are asked for the first is heard, though a slave that is asked for at an interface has to be met there
 abbrev asked_for : WantedPorts
-asked_for = record { slave = Some (port 2 0).identity; master = Some (port 1 0).identity; domain = Some 0; interface = None }
+asked_for = record { slave = Some (port 2 0).identity; master = Some (port 1 0).identity; domain = Some 0; interface = None; readings = None }
 
 heard_at_once : heard_at asked_for (record { place = None; row = sync } ∷ []) ≡ sync ∷ []
 heard_at_once = refl

@@ -1,5 +1,5 @@
 -- A measurement with its exchange, worked by hand: a = 1000 ns - 1.5 ns, b = 1500 ns - 0.25 ns.
-use Rattle.std.proofs.Common.{◌≡◌, ◌+◌, ◌*◌, pos, negsuc, codes, None, refl}
+use Rattle.std.proofs.Common.{◌≡◌, ◌+◌, ◌*◌, pos, negsuc, codes, false, None, refl}
 use Rattle.std.specs.Fmt.{digits}
 use Rattle.ptp_units.specs.Nanoseconds.{decimals}
 use Rattle.slave_port.specs.declared.exchange.LastExchange.{LastExchange}
@@ -12,6 +12,7 @@ use Rattle.recording_measure.specs.Exchange.{row_text, between2}
 abbrev measured : Measured
 measured = record {
   by = Response;
+  own = false;
   line = 3;
   time = codes "1.000005000";
   report = record {

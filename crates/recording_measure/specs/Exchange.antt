@@ -5,7 +5,7 @@ use Rattle.ptp_units.specs.Nanoseconds.{nanoseconds_text}
 use Rattle.slave_port.specs.declared.exchange.LastExchange.{LastExchange}
 use Rattle.slave_port.specs.declared.heard.Report.{Report}
 use Rattle.slave_port.specs.Exchange.{age, IsReportOf}
-use Rattle.recording_lines.specs.Measurement.{Measured, half_text, follow_text}
+use Rattle.recording_lines.specs.Measurement.{Measured, by_text, follow_text}
 use Rattle.recording_measure.specs.Moment.{moment_text}
 
 -- the correction of Sync and Follow_Up together, and that of the Delay_Resp
@@ -27,7 +27,7 @@ between2 x = pos (2 * age x)
 -- what begins the JSON of a measurement: its results and numbers
 abbrev pub json_results : Measured → LastExchange → List ℕ
 json_results m x =
-    codes "{\"by\":\"" ++ half_text m.by
+    codes "{\"by\":\"" ++ by_text m.own m.by
     ++ codes "\",\"delay_correction\":\"" ++ nanoseconds_text (delay_correction2 x)
     ++ codes "\",\"line\":" ++ decimal m.line
     ++ codes ",\"offset\":\"" ++ nanoseconds_text m.report.offset2
@@ -72,7 +72,7 @@ row_results m =
     m.time
     ++ codes "," ++ nanoseconds_text m.report.offset2
     ++ codes "," ++ nanoseconds_text m.report.path2
-    ++ codes "," ++ half_text m.by
+    ++ codes "," ++ by_text m.own m.by
     ++ codes "," ++ decimal m.line
 
 -- the four times

@@ -9,3 +9,4 @@ pub mod Recordings
 pub mod Measuring
 pub mod Stages
 pub mod Counting
+pub mod Task

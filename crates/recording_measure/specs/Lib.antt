@@ -7,6 +7,7 @@ pub mod Row
 pub mod Made
 pub mod Measured
 pub mod Recents
+pub mod Own
 pub mod Measure
 pub mod Places
 pub mod Chosen

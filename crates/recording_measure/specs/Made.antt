@@ -1,5 +1,5 @@
 -- What was measured at a line, and what it was made of.
-use Rattle.std.specs.Prelude.{ℕ, List, Option}
+use Rattle.std.specs.Prelude.{ℕ, Bool, List, Option}
 use Rattle.slave_port.specs.declared.exchange.LastExchange.{LastExchange}
 use Rattle.slave_port.specs.declared.heard.Report.{Report}
 use Rattle.recording_lines.specs.declared.measurement.Half.{Half}
@@ -8,6 +8,7 @@ use Rattle.recording_lines.specs.Measurement as lines
 -- a measurement with the time of its line as it stands there, and the exchange of the port's last report, which is there at a report
 pub record Measured : Type 0 where
   pub by : Half
+  pub own : Bool
   pub line : ℕ
   pub time : List ℕ
   pub report : Report
@@ -15,4 +16,4 @@ pub record Measured : Type 0 where
 
 -- without what it was made of
 abbrev pub plain : Measured → lines.Measured
-plain m = record { by = m.by; line = m.line; time = m.time; report = m.report }
+plain m = record { by = m.by; own = m.own; line = m.line; time = m.time; report = m.report }

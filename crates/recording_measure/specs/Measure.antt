@@ -1,8 +1,15 @@
 -- What `measure` makes of the datagrams of an input.
-use Rattle.std.specs.Prelude.{◌≡◌, ◌≢◌, ℕ, List, [], ◌∷◌, ◌++◌}
+use Rattle.std.specs.Prelude.{◌≡◌, ◌≢◌, ℕ, Bool, true, false, not, ◌==◌, ◌&&◌, nat_lt, List, [], ◌∷◌, ◌++◌, length, Option, Some, None}
+use Rattle.std.specs.Option.{option_map_or}
+use Rattle.std.specs.Str.{bytes_eq}
 use Rattle.text_lines.specs.declared.line_fault.LineFault.{LineFault}
 use Rattle.text_lines.specs.declared.line_fault.LineFault.TheVariants.{Write, Field, Memory}
 use Rattle.text_lines.specs.Fault.{is_write}
+use Rattle.event_codec.specs.declared.message.Header.{Header}
+use Rattle.event_codec.specs.declared.port.PortIdentity.{PortIdentity}
+use Rattle.event_codec.specs.Port.{is_same_port}
+use Rattle.signaling_codec.specs.declared.signaling.Signaling.{Signaling}
+use Rattle.signaling_codec.specs.Tlv.{readings_of}
 use Rattle.recording_lines.specs.Measurement.{table_head}
 use Rattle.recording_measure.specs.Exchange as full
 use Rattle.datagram_source.specs.declared.lines.LineForm.TheVariants.{Timed}
@@ -12,19 +19,32 @@ use Rattle.recording_measure.specs.Made.{Measured}
 use Rattle.recording_measure.specs.declared.form.Form.{Form}
 use Rattle.recording_measure.specs.declared.form.Form.TheVariants.{Json, Table, FullJson, FullTable, Sums}
 use Rattle.recording_measure.specs.declared.watch.WantedPorts.{WantedPorts}
+use Rattle.datagram_source.specs.declared.readings.Readings.{Readings}
+use Rattle.datagram_source.specs.declared.readings.Readings.TheVariants as readings
+use Rattle.recording_measure.specs.declared.readings.By.{By}
+use Rattle.recording_measure.specs.declared.readings.By.TheVariants.{Any, Captured, Own}
+use Rattle.recording_measure.specs.declared.own.OwnMessage.{OwnMessage}
+use Rattle.recording_measure.specs.Own.{Begins, messages_in, IsOwn}
 use Rattle.recording_measure.specs.Places.{PlacedRow, placed}
 use Rattle.recording_measure.specs.Measured.{GoesWhole}
 use Rattle.recording_measure.specs.Chosen.{settled, input_measured, input_written}
 
--- what is asked for, and the rows that were read, newest first
+-- which readings are measured, by what is asked for
+abbrev pub by_asked : Option Readings → By
+by_asked None = Any
+by_asked (Some readings.Captured) = Captured
+by_asked (Some readings.Own) = Own None
+
+-- what is asked for, which readings are measured, and the rows that were read of these, newest first
 pub record Recording : Type 0 where
   pub form : Form
   pub wanted : WantedPorts
+  pub by : By
   pub rows : List PlacedRow
 
 -- before the first datagram
 abbrev pub begun : Form → WantedPorts → Recording
-begun form w = record { form = form; wanted = w; rows = [] }
+begun form w = record { form = form; wanted = w; by = by_asked w.readings; rows = [] }
 
 -- all that is measured once these were read
 abbrev pub measured_so_far : Recording → List Measured
@@ -38,22 +58,99 @@ written_of r = input_written r.form r.wanted r.rows
 abbrev pub with_row : PlacedRow → Recording → Recording
 with_row row r = record r { rows = row ∷ r.rows }
 
--- after one more datagram: its row, where it belongs
-abbrev pub with_datagram : DatagramOf → Recording → Recording
-with_datagram d r = with_row (placed (settled r.wanted r.rows d) d) r
+-- ---- what was captured
+-- what was captured is measured, and no slave's own readings
+abbrev pub is_captured : By → Bool
+is_captured Any = true
+is_captured Captured = true
+is_captured (Own slave) = false
 
--- A datagram is one more row, and what this adds to all that is written goes out.
+-- after one more datagram that was captured: its row, where it belongs, unless a slave's own readings are measured
+abbrev pub captured_by : By → DatagramOf → Recording → Recording
+captured_by Any d r = with_row (placed (settled r.wanted r.rows d) d) r
+captured_by Captured d r = with_row (placed (settled r.wanted r.rows d) d) r
+captured_by (Own slave) d r = r
+
+-- ---- a slave's own readings
+-- They are of the domain that is asked for, and of the clock of the slave: linuxptp tells them from port 0 of it.
+abbrev pub is_asked : WantedPorts → Header → Bool
+is_asked w header = option_map_or (λ domain. header.domain == domain) w.domain true
+    && option_map_or (λ slave. bytes_eq header.source.clock slave.clock) w.slave true
+
+-- the slave that tells them: the one that is asked for, or that of their Signaling
+abbrev pub slave_by : WantedPorts → Header → PortIdentity
+slave_by w header = option_map_or (λ slave. slave) w.slave header.source
+
+-- They are measured: where own ones are asked for, those of one slave, of which the first ones are; where nothing is, also, if they come
+-- before the first report.
+abbrev pub are_by : By → (slave : PortIdentity) → (reported : Bool) → Bool
+are_by Any slave reported = not reported
+are_by Captured slave reported = false
+are_by (Own None) slave reported = true
+are_by (Own (Some own)) slave reported = is_same_port slave own
+
+-- a first report was measured
+abbrev pub has_reported : Recording → Bool
+has_reported r = nat_lt 0 (length (measured_so_far r))
+
+-- a Signaling message tells readings that are measured
+abbrev pub is_taken : Recording → Signaling → Bool
+is_taken r m = nat_lt 0 (length (readings_of m.tlvs)) && (is_asked r.wanted m.header && are_by r.by (slave_by r.wanted m.header) (has_reported r))
+
+-- from here on those of this slave are measured, and what was captured before isn't
+abbrev pub with_own : By → (slave : PortIdentity) → Recording → Recording
+with_own Any slave r = record r { by = Own (Some slave); rows = [] }
+with_own Captured slave r = r
+with_own (Own own) slave r = record r { by = Own (Some slave) }
+
+-- the messages that readings stand for are one more row each, one after the other, where the datagram belongs that tells them
+abbrev pub TakesOwn : DatagramOf → List OwnMessage → Recording → Recording → Type 0
+TakesOwn told [] r later = later ≡ r
+TakesOwn told (m ∷ messages) r later =
+    (d : DatagramOf) × IsOwn told m d × TakesOwn told messages (with_row (placed told.place d) r) later
+
+-- ---- a datagram
+-- octets begin with a Signaling message that tells readings which are measured, or don't
+abbrev pub IsTold : Recording → List ℕ → Option Signaling → Type 0
+IsTold r octets (Some m) = Begins m octets × (is_taken r m ≡ true)
+IsTold r octets None = (m : Signaling) → Begins m octets → is_taken r m ≡ false
+
+-- some of these messages, the first of them, are one more row each
+abbrev pub TakesSome : DatagramOf → List OwnMessage → Recording → Recording → Type 0
+TakesSome told messages r upto =
+    (some : List OwnMessage) × (others : List OwnMessage) × (messages ≡ some ++ others) × TakesOwn told some r upto
+
+-- the datagram is read then, or the readings that it tells are
+abbrev pub ReadsTold : DatagramOf → Option Signaling → Recording → Recording → Type 0
+ReadsTold d None r later = later ≡ captured_by r.by d r
+ReadsTold d (Some m) r later =
+    let slave = slave_by r.wanted m.header in TakesOwn d (messages_in slave m) (with_own r.by slave r) later
+
+-- the same, or of the readings some
+abbrev pub ReadsSome : DatagramOf → Option Signaling → Recording → Recording → Type 0
+ReadsSome d None r upto = upto ≡ captured_by r.by d r
+ReadsSome d (Some m) r upto =
+    let slave = slave_by r.wanted m.header in TakesSome d (messages_in slave m) (with_own r.by slave r) upto
+
+-- after one more datagram
+abbrev pub Reads : DatagramOf → Recording → Recording → Type 0
+Reads d r later = (told : Option Signaling) × IsTold r d.octets told × ReadsTold d told r later
+
+-- a datagram is read, and what this adds to all that is written goes out
 abbrev pub Takes : DatagramOf → Recording → Recording → List ℕ → Type 0
-Takes d r later out = (later ≡ with_datagram d r) × (written_of later ≡ written_of r ++ out)
+Takes d r later out = Reads d r later × (written_of later ≡ written_of r ++ out)
+
+-- where a datagram is read, or some of the readings that it tells, the texts of some reports that this adds go out, and these are left
+abbrev pub GoesInPart : DatagramOf → Recording → (left : List Measured) → List ℕ → Type 0
+GoesInPart d r left out = (told : Option Signaling) × IsTold r d.octets told × (upto : Recording) × ReadsSome d told r upto
+    × GoesWhole r.form (measured_so_far r) (measured_so_far upto) left out
 
 -- Why a datagram isn't taken: memory failed, or the writer did, at a report. Before that some of its reports may have gone out,
 -- each whole.
 abbrev pub Stops : DatagramOf → Recording → LineFault → List ℕ → Type 0
-Stops d r Write out = (left : List Measured) × (left ≢ [])
-    × GoesWhole r.form (measured_so_far r) (measured_so_far (with_datagram d r)) left out
+Stops d r Write out = (left : List Measured) × (left ≢ []) × GoesInPart d r left out
 Stops d r Field out = ⊥
-Stops d r Memory out = (left : List Measured)
-    × GoesWhole r.form (measured_so_far r) (measured_so_far (with_datagram d r)) left out
+Stops d r Memory out = (left : List Measured) × GoesInPart d r left out
 
 -- lines tell a time and a datagram each, and the end changes nothing
 abbrev pub measure_rules : DatagramRules Recording LineFault

@@ -45,6 +45,7 @@ abbrev pub measured_at : Watched → List Row → Row → Option Measured
 measured_at watched earlier row = option_map
     (λ report. record {
       by = option_map_or (λ m. half_of m.body) (result_ok row.datagram.said) halves.Sync;
+      own = row.own;
       line = row.datagram.line;
       time = row.time;
       report = report;

@@ -5,15 +5,20 @@ use Rattle.recording_model.specs.Recorded.{Recorded}
 use Rattle.recording_measure.specs.declared.watch.WantedPorts.{WantedPorts}
 use Rattle.recording_measure.specs.Watch.{watched_in}
 
--- a datagram of a recording: its time as it is written, its octets, and what a port takes of it
+-- a datagram of a recording: its time as it is written, its octets, what a port takes of it, and whether it is a slave's own reading
 pub record Row : Type 0 where
   pub time : List ℕ
   pub octets : List ℕ
   pub datagram : Recorded
+  pub own : Bool
 
 abbrev pub row_of : DatagramOf → Row
-row_of d =
-    record { time = d.written; octets = d.octets; datagram = record { line = d.number; time = d.time; said = d.said } }
+row_of d = record {
+  time = d.written;
+  octets = d.octets;
+  datagram = record { line = d.number; time = d.time; said = d.said };
+  own = d.own;
+}
 
 -- what a port takes of rows
 abbrev pub datagrams : List Row → List Recorded

@@ -23,7 +23,7 @@ abbrev pub counts_told : Summary → Counts
 counts_told summary = summary.counts
 
 abbrev pub recents_told : Summary → Recents
-recents_told summary = summary.task.reports.reports.recents
+recents_told summary = summary.task.measuring.reports.reports.recents
 
 -- what a place is called that is kept
 abbrev pub kept_name : Place → PlaceName
@@ -42,7 +42,7 @@ called place = option_map (λ it. it.name) (option_and_then (λ it. it) place)
 
 -- what the place is called that is measured, if it has a name
 abbrev pub interface_told : Summary → Option (List ℕ)
-interface_told summary = called (place_at summary.task.stage summary.task.recordings.recordings.items)
+interface_told summary = called (place_at summary.task.measuring.stage summary.task.measuring.recordings.recordings.items)
 
 -- what is told of all that was read
 pub record IsSummary (summary : Summary) (r : Recording) : Type 0 where

@@ -61,15 +61,11 @@ fn push_json_results(
 ) -> Result<(), AllocError>
     ensures { OnOk result (string_bytes text.new ≡ string_bytes text.old ++ json_results (measured_of measured.now) exchange.now) }
 {
-    let Measurement {
-        by,
-        line,
-        report,
-        ..
-    } = *measured;
+    let Measurement { line, report, .. } = *measured;
     write!(
         text,
-        "{{\"by\":\"{by}\",\"delay_correction\":\"{}\",\"line\":{line},\"offset\":\"{}\",\"offset2\":\"{}\"",
+        "{{\"by\":\"{}\",\"delay_correction\":\"{}\",\"line\":{line},\"offset\":\"{}\",\"offset2\":\"{}\"",
+        measured.by(),
         delay_correction(exchange),
         Nanoseconds(report.offset2),
         report.offset2
@@ -141,16 +137,17 @@ fn push_row_results(text: &mut String, measured: &Measurement<'_>) -> Result<(),
     ensures { OnOk result (string_bytes text.new ≡ string_bytes text.old ++ row_results (measured_of measured.now)) }
 {
     let Measurement {
-        by,
         line,
         time,
         report,
+        ..
     } = *measured;
     write!(
         text,
-        "{time},{},{},{by},{line}",
+        "{time},{},{},{},{line}",
         Nanoseconds(report.offset2),
-        Nanoseconds(report.path2)
+        Nanoseconds(report.path2),
+        measured.by()
     )
 }
 

@@ -15,8 +15,8 @@ ghost use Rattle.statistics.specs.Median.{last};
 ghost use Rattle.statistics.specs.Percentile.{AreRanks};
 
 use crate::form::Form;
-use crate::measuring::Measuring;
 use crate::places_text::PlacesText;
+use crate::task::MeasureTask;
 use crate::watch::WantedPorts;
 use datagram_source::{InputOutcome, PacketCounts, answer_datagrams};
 use recording_summary::{Counts, Sums, Whom};
@@ -31,7 +31,7 @@ use text_lines::{Counted, LineFault, write_text};
 pub struct Summary {
     whom: Whom,
     counts: Counts,
-    task: Measuring,
+    task: MeasureTask,
     /// How many packets there were of each kind; of lines there is none.
     packets: Option<PacketCounts>,
 }
@@ -56,7 +56,7 @@ impl Summary {
     pub fn interface(&self) -> Option<&[u8]>
         ensures { option_map (λ name. name.now) result ≡ interface_told self.now }
     {
-        self.task.interface()
+        self.task.measuring.interface()
     }
 
     /// Ranks of the last 4,096 offsets of reports that a Sync completed, in 2^-17 ns, if there are any.
@@ -64,7 +64,7 @@ impl Summary {
         ensures { (all : List Measured) → AreRecents all (recents_told self.now)
             → MatchResult result (AreRanks (last (offsets all))) (λ _. ⊤) }
     {
-        self.task.recents().offset_ranks(alloc)
+        self.task.measuring.recents().offset_ranks(alloc)
     }
 
     /// Ranks of the last 4,096 path delays of reports that a Delay_Resp completed, in 2^-17 ns, if there are any.
@@ -72,7 +72,7 @@ impl Summary {
         ensures { (all : List Measured) → AreRecents all (recents_told self.now)
             → MatchResult result (AreRanks (last (paths all))) (λ _. ⊤) }
     {
-        self.task.recents().path_ranks(alloc)
+        self.task.measuring.recents().path_ranks(alloc)
     }
 
     /// Writes what was measured, in one line of JSON and in one write.
@@ -91,7 +91,7 @@ impl Summary {
             counts: &self.counts,
             offsets: self.offset_ranks(alloc)?,
             paths: self.path_ranks(alloc)?,
-            places: PlacesText(&self.task),
+            places: PlacesText(&self.task.measuring),
         };
         let mut text = String::new(alloc);
         write!(text, "{sums}")?;
@@ -103,13 +103,13 @@ impl Summary {
     pub fn tell<E: Write>(&self, errors: &mut E) {
         match &self.packets {
             Some(packets) => packets.tell_packets(errors),
-            None if self.task.is_nowhere() => {
+            None if self.task.measuring.is_nowhere() => {
                 self.whom.tell("line", errors);
                 self.counts.tell("line", errors);
             }
             None => {}
         }
-        self.task.tell(&self.counts, errors);
+        self.task.measuring.tell(&self.counts, errors);
     }
 }
 
@@ -136,7 +136,7 @@ pub fn measure<R: Read, W: Write, E: Write>(
         LeavesInput measure_rules (begun form wanted.now) octets result.0 (IsSummary result.1)) }
     ensures failures { OutcomeFailed measure_rules result.0 input.old input.new output.old output.new }
 {
-    let task = Measuring::new(alloc, wanted, form);
+    let task = MeasureTask::new(alloc, wanted, form);
     let (outcome, task, packets) = answer_datagrams(
         alloc,
         form.head(),
@@ -146,8 +146,8 @@ pub fn measure<R: Read, W: Write, E: Write>(
         errors,
     );
     let summary = Summary {
-        whom: task.whom(),
-        counts: task.counts(),
+        whom: task.measuring.whom(),
+        counts: task.measuring.counts(),
         task,
         packets,
     };

@@ -10,13 +10,16 @@ mod listener;
 mod measuring;
 mod meetings;
 mod moment;
+mod own;
 mod place;
 mod place_counts;
 mod places_text;
+mod readings;
 mod recents;
 mod recording;
 mod reports;
 mod tally;
+mod task;
 mod watch;
 
 pub use form::Form;

@@ -7,11 +7,11 @@ ghost use Rattle.event_codec.specs.Reading.{IsReading};
 ghost use Rattle.datagram_source.specs.Said.{reading_of};
 ghost use Rattle.datagram_source.specs.Datagram.{datagram_of, place_of, place_to_all};
 ghost use Rattle.recording_measure.specs.Row.{Row, row_of};
-ghost use Rattle.recording_measure.specs.Places.{name_in};
+ghost use Rattle.recording_measure.specs.Places.{name_in, placed};
 ghost use Rattle.recording_measure.specs.Chosen.{stays_at, settled};
 ghost use Rattle.recording_measure.specs.Measured.{measurements};
 ghost use Rattle.recording_measure.specs.Recents.{AreRecents};
-ghost use Rattle.recording_measure.specs.Measure.{Recording as Read, begun, measure_rules};
+ghost use Rattle.recording_measure.specs.Measure.{Recording as Read, begun, has_reported};
 ghost use Rattle.recording_measure.specs.Summary.{told_whom};
 ghost use Rattle.recording_measure.specs.Counts.{Fate, fates, told_fates, IsCounts};
 ghost use Rattle.recording_measure.specs.Told.{place_at, called};
@@ -27,8 +27,7 @@ use crate::recording::{Recording, Recordings};
 use crate::reports::TimedReports;
 use crate::tally::Tally;
 use crate::watch::{WantedPorts, Watch};
-use capture_file::InterfaceName;
-use datagram_source::{Datagram, DatagramTask, LineForm, Place as MetAt};
+use datagram_source::{Datagram, Place as MetAt};
 use recording_model::Watched;
 use recording_summary::{Counts, Whom};
 use std::alloc::Global;
@@ -53,59 +52,11 @@ enum Stage {
 #[derive(Drop)]
 pub(crate) struct Measuring {
     alloc: Global,
-    wanted: WantedPorts,
+    pub(crate) wanted: WantedPorts,
     recordings: Recordings,
     stage: Stage,
     reports: TimedReports,
     at_places: PlaceCounts,
-}
-
-impl DatagramTask for Measuring {
-    type Fault = LineFault;
-
-    ghost State = { Read };
-
-    ghost rules = { measure_rules };
-
-    ghost is_at = { IsMeasuring };
-
-    fn subcommand() -> &'static str {
-        "measure"
-    }
-
-    fn line_form() -> LineForm {
-        LineForm::Timed
-    }
-
-    fn asked(&self) -> Option<InterfaceName> {
-        self.wanted.interface
-    }
-
-    fn fault_of(fault: LineFault) -> LineFault {
-        fault
-    }
-
-    fn take<W: Write, E: Write>(
-        &mut self,
-        datagram: &Datagram<'_>,
-        output: &mut Counted<W>,
-        errors: &mut E,
-    ) -> Result<(), LineFault> {
-        let to_all = datagram.place.to_all();
-        if self.is_to_all(datagram, &to_all) {
-            self.take_row(&to_all, datagram, output, errors)
-        } else {
-            self.take_row(&datagram.place, datagram, output, errors)
-        }
-    }
-
-    fn finish<W: Write, E: Write>(
-        &mut self,
-        _output: &mut Counted<W>,
-        _errors: &mut E,
-    ) -> Result<(), LineFault> {
-        Ok(())
-    }
 }
 
 impl Measuring {
@@ -121,6 +72,20 @@ impl Measuring {
             reports: TimedReports::new(alloc, form),
             at_places: PlaceCounts::new(),
         }
+    }
+
+    /// Forgets each datagram that came.
+    pub(crate) fn begin_anew(&mut self)
+        ensures { (r : Read) → IsMeasuring self.old r → IsMeasuring self.new (record r { rows = [] }) }
+    {
+        *self = Measuring::new(self.alloc, &self.wanted, self.reports.reports.form);
+    }
+
+    /// Whether a report was measured.
+    pub(crate) fn has_reported(&self) -> bool
+        ensures { (r : Read) → IsMeasuring self.now r → result ≡ has_reported r }
+    {
+        self.reports.reports.tally.counts.reports > 0
     }
 
     /// Whether a Delay_Req that was met here stays here, and isn't one of those to all: while no place is measured, where this one is
@@ -147,8 +112,31 @@ impl Measuring {
         datagram.is_exchange() && !self.stays_at(&datagram.place, to_all)
     }
 
+    /// Takes a datagram that was captured, where it belongs, and what it adds to all that is written goes out.
+    pub(crate) fn take_captured<W: Write, E: Write>(
+        &mut self,
+        datagram: &Datagram<'_>,
+        output: &mut Counted<W>,
+        errors: &mut E,
+    ) -> Result<(), LineFault>
+        requires stands { (r : Read) × IsMeasuring self.old r }
+        requires read { IsReading datagram.now.octets.now (reading_of datagram.now.said) }
+        ensures taken { (r : Read) → IsMeasuring self.old r → let d = datagram_of datagram.now in
+            AddsRow result r (placed (settled r.wanted r.rows d) d) self.new (W.contents (device_of output.old)) (W.contents (device_of output.new)) }
+        ensures failures { MatchResult result
+            (λ _. HasNotFailed output.old output.new)
+            (λ fault. HasFailedIf (is_write fault) output.old output.new) }
+    {
+        let to_all = datagram.place.to_all();
+        if self.is_to_all(datagram, &to_all) {
+            self.take_row(&to_all, datagram, output, errors)
+        } else {
+            self.take_row(&datagram.place, datagram, output, errors)
+        }
+    }
+
     /// Takes a datagram that belongs here, and what it adds to all that is written goes out.
-    fn take_row<W: Write, E: Write>(
+    pub(crate) fn take_row<W: Write, E: Write>(
         &mut self,
         met: &MetAt<'_>,
         datagram: &Datagram<'_>,
@@ -158,7 +146,7 @@ impl Measuring {
         requires stands { (r : Read) × IsMeasuring self.old r }
         requires read { IsReading datagram.now.octets.now (reading_of datagram.now.said) }
         ensures taken { (r : Read) → IsMeasuring self.old r →
-            AddsRow result r met.now datagram.now self.new (W.contents (device_of output.old)) (W.contents (device_of output.new)) }
+            AddsRow result r (placed (place_of met.now) (datagram_of datagram.now)) self.new (W.contents (device_of output.old)) (W.contents (device_of output.new)) }
         ensures failures { MatchResult result
             (λ _. HasNotFailed output.old output.new)
             (λ fault. HasFailedIf (is_write fault) output.old output.new) }
@@ -194,7 +182,7 @@ impl Measuring {
     ) -> Result<(), LineFault>
         requires { IsReading datagram.now.octets.now (reading_of datagram.now.said) }
         ensures taken { (r : Read) → IsLooking self.old r is_kept →
-            AddsRow result r met.now datagram.now self.new (W.contents (device_of output.old)) (W.contents (device_of output.new)) }
+            AddsRow result r (placed (place_of met.now) (datagram_of datagram.now)) self.new (W.contents (device_of output.old)) (W.contents (device_of output.new)) }
         ensures failures { MatchResult result
             (λ _. HasNotFailed output.old output.new)
             (λ fault. HasFailedIf (is_write fault) output.old output.new) }

@@ -39,6 +39,8 @@ pub(crate) struct Kept {
     /// Its time as it is written.
     pub(crate) written: String,
     pub(crate) octets: Vec<u8>,
+    /// Whether it is a slave's own reading.
+    pub(crate) own: bool,
 }
 
 impl Kept {
@@ -53,6 +55,7 @@ impl Kept {
             time: datagram.time,
             written,
             octets: Vec::from_slice(alloc, datagram.octets)?,
+            own: datagram.own,
         })
     }
 
@@ -68,6 +71,7 @@ impl Kept {
             stamp: Stamp::Written(self.written.as_str()),
             octets: &self.octets,
             said: message_in(&self.octets),
+            own: self.own,
         }
     }
 }

@@ -49,12 +49,13 @@ pub(crate) struct Completed {
 }
 
 impl Completed {
-    /// The measurement of the datagram of this number, whose time is written so.
-    pub(crate) fn at(self, line: u64, time: &str) -> Made<'_>
-        ensures { made_of result ≡ measured_by self time.now line }
+    /// The measurement of the datagram of this number, own or not, whose time is written so.
+    pub(crate) fn at(self, own: bool, line: u64, time: &str) -> Made<'_>
+        ensures { made_of result ≡ measured_by self own time.now line }
     {
         let measured = Measurement {
             by: self.by,
+            own,
             line,
             time,
             report: self.report,
@@ -261,7 +262,7 @@ impl TimedReports {
         datagram.stamp.push(&mut self.time)?;
         self.reports.write(
             datagram.time,
-            &completed.at(datagram.number, self.time.as_str()),
+            &completed.at(datagram.own, datagram.number, self.time.as_str()),
             output,
         )
     }

@@ -9,6 +9,7 @@ ghost use Rattle.recording_measure.specs.Summary.{known_at, asked_for};
 ghost use Rattle.recording_measure.specs.Inner.Watching.{value_of, request_known, whom_of, IsWatch};
 
 use capture_file::InterfaceName;
+use datagram_source::Readings;
 use event_codec::{Body, Header, Message, PortIdentity};
 use recording_model::Watched;
 use recording_summary::{Known, Whom};
@@ -24,6 +25,8 @@ pub struct WantedPorts {
     pub domain: Option<u8>,
     /// The interface of a capture at which they are; lines have none.
     pub interface: Option<InterfaceName>,
+    /// Whose readings are measured; where none are asked for, a slave's own if any come before the first report.
+    pub readings: Option<Readings>,
 }
 
 /// What is known of whom a recording is of.

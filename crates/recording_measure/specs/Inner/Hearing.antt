@@ -1,5 +1,5 @@
 -- What becomes of a datagram that a port hears, and what goes out of it.
-use Rattle.std.specs.Prelude.{◌≡◌, ◌≢◌, ℕ, ⊤, List, [], ◌++◌, Option, Result, MatchResult, option_map}
+use Rattle.std.specs.Prelude.{◌≡◌, ◌≢◌, ℕ, ⊤, Bool, List, [], ◌++◌, Option, Result, MatchResult, option_map}
 use Rattle.std.specs.Prelude.{option_and_then}
 use Rattle.std.specs.Option.{option_map_or}
 use Rattle.std.specs.Result.{result_ok}
@@ -46,16 +46,18 @@ completion watched earlier d = option_map
 abbrev pub made_of : Made → Measured
 made_of m = record {
   by = m.measured.by;
+  own = m.measured.own;
   line = m.measured.line;
   time = m.measured.time.now;
   report = m.measured.report;
   exchange = m.exchange;
 }
 
--- the measurement of a datagram of this number and time, which completed this
-abbrev pub measured_by : Completed → (time : List ℕ) → (number : ℕ) → Measured
-measured_by completed time number = record {
+-- the measurement of a datagram of this number and time, own or not, which completed this
+abbrev pub measured_by : Completed → (own : Bool) → (time : List ℕ) → (number : ℕ) → Measured
+measured_by completed own time number = record {
   by = completed.by;
+  own = own;
   line = number;
   time = time;
   report = completed.report;

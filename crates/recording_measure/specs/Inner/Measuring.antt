@@ -1,9 +1,6 @@
 -- What is kept while an input is measured.
 use Rattle.std.specs.Prelude.{◌≡◌, ℕ, ◌+◌, ◌<◌, nat_lt, Bool, min, ◌++◌, List, [], length, get_or, Some, None, Option, Result, OnOk}
 use Rattle.text_lines.specs.declared.line_fault.LineFault.{LineFault}
-use Rattle.datagram_source.specs.declared.datagram.Datagram.{Datagram}
-use Rattle.datagram_source.specs.declared.datagram.Place.{Place}
-use Rattle.datagram_source.specs.Datagram.{place_of, datagram_of}
 use Rattle.recording_model.specs.declared.watched.Watched.{Watched}
 use Rattle.recording_model.specs.Listening.{after_all}
 use Rattle.recording_measure.specs.Inner.StandsFor.{StandsFor}
@@ -14,7 +11,7 @@ use Rattle.recording_measure.specs.declared.recording.Recording.{Recording as Kn
 use Rattle.recording_measure.specs.declared.watch.WantedPorts.{WantedPorts}
 use Rattle.recording_measure.specs.Made.{Measured}
 use Rattle.recording_measure.specs.Row.{Row, datagrams, kept_most}
-use Rattle.recording_measure.specs.Places.{PlacedRow, placed}
+use Rattle.recording_measure.specs.Places.{PlacedRow}
 use Rattle.recording_measure.specs.Chosen.{chosen, heard_at, input_watched}
 use Rattle.recording_measure.specs.Measure.{Recording, measured_so_far, with_row}
 use Rattle.recording_measure.specs.Counts.{IsCounts}
@@ -61,10 +58,9 @@ pub record IsLooking (task : Measuring) (r : Recording) (is_kept : Bool) : Type 
   pub recents : AreRecents [] task.reports.reports.recents
   pub counted : (count : ℕ) × (task.stage ≡ Looking count) × (count ≡ min (length r.rows + 1) kept_most)
 
--- a datagram was taken, which belongs here, and the reports that it brings went out, or some of them before a fault
-abbrev pub AddsRow : {T : Type 0} → Result T LineFault → Recording → (met : Place) → Datagram → Measuring
-    → (before after : Option (List ℕ)) → Type 0
-AddsRow result r met d new before after =
-    OnOk result (IsMeasuring new (with_row (placed (place_of met) (datagram_of d)) r))
-    × (ms : List Measured) × (measured_so_far (with_row (placed (place_of met) (datagram_of d)) r) ≡ ms ++ measured_so_far r)
+-- one more row was taken, and the reports that it brings went out, or some of them before a fault
+abbrev pub AddsRow : {T : Type 0} → Result T LineFault → Recording → PlacedRow → Measuring → (before after : Option (List ℕ)) → Type 0
+AddsRow result r row new before after =
+    OnOk result (IsMeasuring new (with_row row r))
+    × (ms : List Measured) × (measured_so_far (with_row row r) ≡ ms ++ measured_so_far r)
     × Goes r.form result ms before after

@@ -26,6 +26,7 @@ pub record IsRowOf (k : Kept) (row : Row) : Type 0 where
   pub numbered : row.datagram.line ≡ k.number
   pub moment_is : row.datagram.time ≡ k.time
   pub said : IsReading k.octets.items row.datagram.said
+  pub own : row.own ≡ k.own
 
 -- of what is asked for, what was met in these datagrams
 pub record IsSought (w : WantedPorts) (ds : List Recorded) (met : Sought) : Type 0 where
@@ -89,6 +90,7 @@ pub record IsCopy (d : Datagram) (k : Kept) : Type 0 where
   pub moment_is : k.time ≡ d.time
   pub written : string_bytes k.written ≡ text_of d.stamp
   pub octets : k.octets.items ≡ d.octets.now
+  pub own : k.own ≡ d.own
 
 -- one more datagram is kept
 abbrev pub KeepsMore : (old new : List Kept) → Datagram → Type 0

@@ -9,4 +9,4 @@ returns c =
     let offset : FitsSigned w128 c.args.measured.now.report.offset2 = search rules in
     let path : FitsSigned w128 c.args.measured.now.report.path2 = search rules in
     IfOk-equal c.write-2.result _ _ _ c.write-2.ensures.bytes
-    (rw (c.in_ok-write.ensures.bytes, c.sync_correction.ensures, c.delay_correction.ensures) (simp (to_z-of_z, append_assoc)))
+    (rw (c.in_ok-write.ensures.bytes, c.by.ensures, c.sync_correction.ensures, c.delay_correction.ensures) (simp (to_z-of_z, append_assoc)))

@@ -8,4 +8,4 @@ pub returns : goal.returns
 returns c =
     let offset : FitsSigned w128 c.args.measured.now.report.offset2 = search rules in
     let path : FitsSigned w128 c.args.measured.now.report.path2 = search rules in
-    IfOk-equal c.write.result _ _ _ c.write.ensures.bytes (simp (to_z-of_z, append_assoc))
+    IfOk-equal c.write.result _ _ _ c.write.ensures.bytes (rw c.by.ensures (simp (to_z-of_z, append_assoc)))

@@ -4,7 +4,7 @@ use Rattle.datagram_source.proofs.LeftAs.{left_as}
 use Rattle.recording_measure.specs.Measure.{begun, measure_rules}
 use Rattle.recording_measure.specs.declared.input.Summary.{Summary}
 use Rattle.recording_measure.specs.Told.{called, IsSummary}
-use Rattle.recording_measure.specs.Inner.Measuring.{IsMeasuring}
+use Rattle.recording_measure.specs.Inner.Task.{IsTask}
 use Rattle.recording_measure.proofs.Summaries.{place_chosen}
 use Rattle.recording_measure.proofs.input.measure.Goals as goal
 
@@ -24,11 +24,12 @@ returns-clause-summary g c = λ octets known.
       task = outcome.result.1;
       packets = outcome.result.2;
     } in
-    left_as measure_rules (begun c.args.form c.args.wanted.now) octets (IsMeasuring outcome.result.1) (IsSummary summary)
+    left_as measure_rules (begun c.args.form c.args.wanted.now) octets (IsTask outcome.result.1) (IsSummary summary)
     (λ r at. record {
-      whom = c.whom.ensures r at;
+      whom = c.whom.ensures r at.measuring;
       interface = ap called
-          (place_chosen r.wanted r.rows outcome.result.1.recordings.recordings.items outcome.result.1.stage at.stage);
-      counts = c.counts.ensures r at;
-      recents = at.recents;
+          (place_chosen r.wanted r.rows outcome.result.1.measuring.recordings.recordings.items
+          outcome.result.1.measuring.stage at.measuring.stage);
+      counts = c.counts.ensures r at.measuring;
+      recents = at.measuring.recents;
     }) outcome.result.0 (outcome.ensures.left (begun c.args.form c.args.wanted.now) c.new-task.ensures octets known)

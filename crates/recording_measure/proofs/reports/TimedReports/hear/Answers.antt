@@ -44,7 +44,7 @@ returns-clause-heard g c = λ watched earlier listens.
       subst (λ (ms : List Measured). Goes c.args.self.now.reports.form c.write.result ms
           (g.W.Write.contents (device_of c.args.output.now)) (g.W.Write.contents (device_of c.write.new.output)))
           (sym (said_at watched earlier row d refl c.listen.result c.in-Some.completed row.time heard.1 c.in-Some.is refl))
-          (goes_one c.args.self.now.reports.form c.write.result (measured_by c.in-Some.completed row.time d.line) _ _
+          (goes_one c.args.self.now.reports.form c.write.result (measured_by c.in-Some.completed row.own row.time d.line) _ _
           (rw (c.at.ensures, c.listen.ensures.form, c.as_str.ensures.value, c.in_ok-push.ensures ∙ ap (λ (b : List ℕ). b ++ row.time) c.clear.ensures.bytes)
           at c.write.ensures.written)),
     )
@@ -64,7 +64,7 @@ returns-clause-counted g c = λ watched earlier all listens so.
     let d : Recorded = recorded_of c.args.datagram.now in
     let row : Row = row_of (datagram_of c.args.datagram.now) in
     let heard = c.listen.ensures.heard watched (datagrams earlier) listens in
-    let m : Measured = measured_by c.in-Some.completed row.time d.line in
+    let m : Measured = measured_by c.in-Some.completed row.own row.time d.line in
     let fate : Fate = fate_in watched d row.octets (after_all watched (datagrams earlier)) in
     let is = one_there (measured_at watched earlier row) m
     (said_at watched earlier row d refl c.listen.result c.in-Some.completed row.time heard.1 c.in-Some.is refl) in
