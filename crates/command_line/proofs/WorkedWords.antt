@@ -41,6 +41,7 @@ measured : Names (codes "ptpx" ∷ codes "measure" ∷ codes "--csv" ∷ codes "
       master = None;
       domain = None;
       interface = None;
+      readings = None;
       limit = None;
       csv = true;
       full = false;
@@ -88,6 +89,7 @@ measured_sums : Names (codes "ptpx" ∷ codes "measure" ∷ codes "--sum" ∷ co
       master = None;
       domain = None;
       interface = None;
+      readings = None;
       limit = None;
       csv = false;
       full = false;
@@ -147,6 +149,7 @@ values_behind_both : Names (codes "ptpx" ∷ codes "measure" ∷ codes "--master
       master = Some (record { clock = 0 ∷ 170 ∷ 187 ∷ 255 ∷ 254 ∷ 204 ∷ 221 ∷ 238 ∷ []; port = 2 });
       domain = Some 7;
       interface = None;
+      readings = None;
       limit = None;
       csv = false;
       full = false;
@@ -157,7 +160,7 @@ unfolding clap_on_literals walk_fault walked hex_on_literals chars faults_in nam
 values_behind_both = (refl, refl)
 
 mark_behind_option : Names (codes "ptpx" ∷ codes "measure" ∷ codes "--csv" ∷ codes "--" ∷ [])
-    (Measure (record { slave = None; master = None; domain = None; interface = None; limit = None; csv = true; full = false; strict = false; sum = false }))
+    (Measure (record { slave = None; master = None; domain = None; interface = None; readings = None; limit = None; csv = true; full = false; strict = false; sum = false }))
 unfolding clap_on_literals walk_fault walked hex_on_literals chars faults_in named_in
 mark_behind_option = (refl, refl)
 
@@ -167,6 +170,7 @@ strictly : Names (codes "ptpx" ∷ codes "measure" ∷ codes "--limit" ∷ codes
       master = None;
       domain = None;
       interface = None;
+      readings = None;
       limit = Some 819200000000000;
       csv = false;
       full = false;
@@ -177,7 +181,7 @@ unfolding clap_on_literals walk_fault walked hex_on_literals chars faults_in nam
 strictly = (refl, refl)
 
 in_full : Names (codes "ptpx" ∷ codes "measure" ∷ codes "--full" ∷ [])
-    (Measure (record { slave = None; master = None; domain = None; interface = None; limit = None; csv = false; full = true; strict = false; sum = false }))
+    (Measure (record { slave = None; master = None; domain = None; interface = None; readings = None; limit = None; csv = false; full = true; strict = false; sum = false }))
 unfolding clap_on_literals walk_fault walked hex_on_literals chars faults_in named_in
 in_full = (refl, refl)
 

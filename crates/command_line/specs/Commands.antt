@@ -13,7 +13,7 @@ use Rattle.command_options.specs.declared.MeasureOptions.{MeasureOptions}
 use Rattle.capture_file.specs.Name.{interface_name}
 use Rattle.command_line.specs.Limit.{limit_of}
 use Rattle.command_line.specs.Number.{domain_of}
-use Rattle.command_line.specs.Options.{is_used, said}
+use Rattle.command_line.specs.Options.{is_used, readings_of, said}
 use Rattle.command_line.specs.PortText.{port_identity_of}
 use Rattle.command_line.specs.Program.{Row, flag, program_of, with_value}
 use Rattle.command_line.specs.TapText.{tap_besides}
@@ -28,7 +28,7 @@ subcommands =
     ∷ (
       codes "measure",
       with_value (codes "slave") ∷ with_value (codes "master") ∷ with_value (codes "domain") ∷ with_value (codes "interface")
-          ∷ with_value (codes "limit") ∷ flag (codes "csv") ∷ flag (codes "full") ∷ flag (codes "strict") ∷ flag (codes "sum") ∷ [],
+          ∷ with_value (codes "readings") ∷ with_value (codes "limit") ∷ flag (codes "csv") ∷ flag (codes "full") ∷ flag (codes "strict") ∷ flag (codes "sum") ∷ [],
     )
     ∷ (
       codes "follow",
@@ -51,11 +51,12 @@ sum_alone csv full sum = if (csv || full) && sum then None else Some sum
 -- the options of `measure`, where each value is one, and sums are asked for alone
 abbrev pub measure_options_of : List matches.Row → Option MeasureOptions
 measure_options_of rows = option_and_then (λ slave. option_and_then (λ master. option_and_then (λ domain.
-    option_and_then (λ interface. option_and_then (λ limit. option_map (λ sum. record {
+    option_and_then (λ interface. option_and_then (λ readings. option_and_then (λ limit. option_map (λ sum. record {
       slave = slave;
       master = master;
       domain = domain;
       interface = interface;
+      readings = readings;
       limit = limit;
       csv = is_used (codes "csv") rows;
       full = is_used (codes "full") rows;
@@ -64,6 +65,7 @@ measure_options_of rows = option_and_then (λ slave. option_and_then (λ master.
     })
     (sum_alone (is_used (codes "csv") rows) (is_used (codes "full") rows) (is_used (codes "sum") rows)))
     (said limit_of (codes "limit") rows))
+    (said readings_of (codes "readings") rows))
     (said interface_name (codes "interface") rows))
     (said domain_of (codes "domain") rows))
     (said port_identity_of (codes "master") rows))

@@ -5,7 +5,7 @@ ghost use Rattle.std.specs.Result.{result_ok};
 ghost use Rattle.capture_file.specs.Name.{interface_name};
 ghost use Rattle.command_line.specs.Limit.{limit_of};
 ghost use Rattle.command_line.specs.Number.{domain_of};
-ghost use Rattle.command_line.specs.Options.{is_text_used, said_by};
+ghost use Rattle.command_line.specs.Options.{is_text_used, readings_of, said_by};
 ghost use Rattle.command_line.specs.PortText.{port_identity_of};
 ghost use Rattle.command_line.specs.TapText.{tap_besides};
 ghost use Rattle.tap_choice.specs.Sides.{is_named};
@@ -15,6 +15,7 @@ use crate::number::domain_in;
 use crate::port_identity::port_identity_in;
 use capture_file::InterfaceName;
 use clap::ArgMatches;
+use datagram_source::Readings;
 use event_codec::PortIdentity;
 use ptp_units::ScaledTime;
 use tap_choice::TapName;
@@ -115,6 +116,43 @@ pub(crate) fn limit_option<'a>(
             value,
             name: "NS",
             wanted: LIMIT,
+        }),
+    }
+}
+
+/// Whose readings are meant.
+const WHOSE: &str = "own or capture";
+
+/// Whose readings a text means.
+fn readings_in(text: &str) -> Option<Readings>
+    ensures { result ≡ readings_of text.now }
+{
+    if text == "own" {
+        Some(Readings::Own)
+    } else if text == "capture" {
+        Some(Readings::Captured)
+    } else {
+        None
+    }
+}
+
+/// Whose readings an option asks for, where it is given.
+pub(crate) fn readings_option<'a>(
+    matches: &ArgMatches<'a>,
+    option: &'static str,
+) -> Result<Option<Readings>, WrongValue<'a>>
+    ensures { result_ok result ≡ said_by readings_of (first_value (found_of matches.now) option.now) }
+{
+    let Some(value) = matches.get_str(option) else {
+        return Ok(None);
+    };
+    match readings_in(value) {
+        Some(readings) => Ok(Some(readings)),
+        None => Err(WrongValue {
+            option,
+            value,
+            name: "WHOSE",
+            wanted: WHOSE,
         }),
     }
 }

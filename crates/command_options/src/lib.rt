@@ -2,6 +2,7 @@
 #![tactic(auto)]
 
 use capture_file::InterfaceName;
+use datagram_source::Readings;
 use event_codec::PortIdentity;
 use ptp_units::ScaledTime;
 use tap_choice::TapName;
@@ -28,6 +29,8 @@ pub struct MeasureOptions {
     pub domain: Option<u8>,
     /// The interface of a capture; without it, that of the first stream in which slave, master and domain are known.
     pub interface: Option<InterfaceName>,
+    /// Whose readings are measured; without it, a slave's own if any come before the first report.
+    pub readings: Option<Readings>,
     /// The greatest offset, either way, that isn't told by the exit status: so many seconds as it is nanoseconds.
     pub limit: Option<ScaledTime>,
     /// Whether the output is CSV, in place of JSON.

@@ -37,6 +37,7 @@ wanted_of options = record {
   master = options.master;
   domain = options.domain;
   interface = options.interface;
+  readings = options.readings;
 }
 
 -- how measurements are asked for

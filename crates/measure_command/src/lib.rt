@@ -39,6 +39,7 @@ pub fn run_measure<R: Read, W: Write, E: Write>(
         master: options.master,
         domain: options.domain,
         interface: options.interface,
+        readings: options.readings,
     };
     let form = form_of(&options);
     let (outcome, summary) = measure(alloc, &wanted, form, input, output, errors);

@@ -8,13 +8,14 @@ ghost use Rattle.command_line.specs.Commands.{measure_options_of, sum_alone};
 use crate::commands::Help;
 use crate::options::{
     WrongValue, domain_option, interface_option, is_used, limit_option, port_option,
+    readings_option,
 };
 use crate::table::{OptionRow, SubcommandRow};
 use clap::ArgMatches;
 use command_options::MeasureOptions;
 
 /// The options of `measure`.
-const OPTIONS: [OptionRow; 9] = [
+const OPTIONS: [OptionRow; 10] = [
     OptionRow {
         name: "slave",
         value: Some("PORT"),
@@ -34,6 +35,11 @@ const OPTIONS: [OptionRow; 9] = [
         name: "interface",
         value: Some("NAME"),
         about: "The interface of a capture; else that of the first stream in which all three are known",
+    },
+    OptionRow {
+        name: "readings",
+        value: Some("WHOSE"),
+        about: "own or capture; else the slave's own if any come before the first report",
     },
     OptionRow {
         name: "limit",
@@ -92,6 +98,10 @@ pub(crate) fn measure_options<'a>(
 ) -> Result<MeasureOptions, WrongValue<'a>>
     ensures { result_ok result ≡ measure_options_of (rows_of (found_of matches.now)) }
 {
+    let readings = match readings_option(matches, "readings") {
+        Ok(readings) => readings,
+        Err(wrong) => return Err(wrong),
+    };
     let limit = match limit_option(matches, "limit") {
         Ok(limit) => limit,
         Err(wrong) => return Err(wrong),
@@ -101,6 +111,7 @@ pub(crate) fn measure_options<'a>(
         master: port_option(matches, "master")?,
         domain: domain_option(matches, "domain")?,
         interface: interface_option(matches, "interface")?,
+        readings,
         limit,
         csv: is_used(matches, "csv"),
         full: is_used(matches, "full"),
@@ -138,6 +149,10 @@ With --sum one line of JSON stands in place of the reports, at the end or after 
 and paths the mean, the standard deviation, the least, the greatest, and of the last 4096 the median and the
 95th and the 99th percentile; what came and what is missing, what the master announces, names of what speaks
 against the numbers, and whom they are of.
+
+A slave that tells its own readings in Signaling messages (ptp4l, slave_event_monitor) is measured by these, if
+any come before the first report: by is then own sync or own response, and no time of the input counts. With
+--readings own they are taken alone, and with --readings capture none of them.
 
 A PORT is a portIdentity: 16 hexadecimal digits, '/' and the number, as 'ptpx show' writes it, or as pmc
 of linuxptp does, 00aabb.fffe.ccddee-1. Number and domain may have zeros in front. NS is nanoseconds, written

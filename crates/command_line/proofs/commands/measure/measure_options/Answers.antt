@@ -4,11 +4,12 @@ use Rattle.event_codec.specs.declared.port.PortIdentity.{PortIdentity}
 use Rattle.clap.specs.Matches.{found_of}
 use Rattle.clap.specs.Walk.{Row, rows_of}
 use Rattle.capture_file.specs.declared.name.InterfaceName.{InterfaceName}
+use Rattle.datagram_source.specs.declared.readings.Readings.{Readings}
 use Rattle.capture_file.specs.Name.{interface_name}
 use Rattle.command_line.specs.Commands.{sum_alone}
 use Rattle.command_line.specs.Limit.{limit_of}
 use Rattle.command_line.specs.Number.{domain_of}
-use Rattle.command_line.specs.Options.{is_used, said}
+use Rattle.command_line.specs.Options.{is_used, readings_of, said}
 use Rattle.command_line.specs.PortText.{port_identity_of}
 use Rattle.command_options.specs.declared.MeasureOptions.{MeasureOptions}
 use Rattle.command_line.proofs.RowOptions.{is_read, no_answer, value_read}
@@ -16,20 +17,21 @@ use Rattle.command_line.proofs.commands.measure.measure_options.Goals as goal
 
 -- the options of `measure`, of what each says
 abbrev measure_made : Option (Option PortIdentity) → Option (Option PortIdentity) → Option (Option ℕ)
-    → Option (Option InterfaceName) → Option (Option ℕ) → (csv full strict : Bool) → (sums : Option Bool) → Option MeasureOptions
-measure_made slaves masters domains interfaces limits csv full strict sums =
+    → Option (Option InterfaceName) → Option (Option Readings) → Option (Option ℕ) → (csv full strict : Bool) → (sums : Option Bool) → Option MeasureOptions
+measure_made slaves masters domains interfaces readings limits csv full strict sums =
     option_and_then (λ slave. option_and_then (λ master. option_and_then (λ domain. option_and_then (λ interface.
-    option_and_then (λ limit. option_map (λ sum. record {
+    option_and_then (λ reading. option_and_then (λ limit. option_map (λ sum. record {
       slave = slave;
       master = master;
       domain = domain;
       interface = interface;
+      readings = reading;
       limit = limit;
       csv = csv;
       full = full;
       strict = strict;
       sum = sum;
-    }) sums) limits) interfaces) domains) masters) slaves
+    }) sums) limits) readings) interfaces) domains) masters) slaves
 
 -- whether sums are asked for, by the rows
 abbrev sums_of : List Row → Option Bool
@@ -37,47 +39,59 @@ sums_of rows = sum_alone (is_used (codes "csv") rows) (is_used (codes "full") ro
 
 -- the same, where what the options say that have no value is of the rows
 abbrev made_of_rows : List Row → Option (Option PortIdentity) → Option (Option PortIdentity) → Option (Option ℕ)
-    → Option (Option InterfaceName) → Option (Option ℕ) → Option MeasureOptions
-made_of_rows rows slaves masters domains interfaces limits = measure_made slaves masters domains interfaces limits
+    → Option (Option InterfaceName) → Option (Option Readings) → Option (Option ℕ) → Option MeasureOptions
+made_of_rows rows slaves masters domains interfaces readings limits = measure_made slaves masters domains interfaces readings limits
     (is_used (codes "csv") rows) (is_used (codes "full") rows) (is_used (codes "strict") rows) (sums_of rows)
 
 module _ (rows : List Row) where
   no_master : (slaves : Option (Option PortIdentity)) (domains : Option (Option ℕ)) (interfaces : Option (Option InterfaceName))
-      (limits : Option (Option ℕ)) → made_of_rows rows slaves None domains interfaces limits ≡ None
-  no_master None domains interfaces limits = refl
-  no_master (Some slave) domains interfaces limits = refl
+      (readings : Option (Option Readings)) (limits : Option (Option ℕ))
+      → made_of_rows rows slaves None domains interfaces readings limits ≡ None
+  no_master None domains interfaces readings limits = refl
+  no_master (Some slave) domains interfaces readings limits = refl
 
   no_domain : (slaves masters : Option (Option PortIdentity)) (interfaces : Option (Option InterfaceName))
-      (limits : Option (Option ℕ)) → made_of_rows rows slaves masters None interfaces limits ≡ None
-  no_domain None masters interfaces limits = refl
-  no_domain (Some slave) None interfaces limits = refl
-  no_domain (Some slave) (Some master) interfaces limits = refl
+      (readings : Option (Option Readings)) (limits : Option (Option ℕ))
+      → made_of_rows rows slaves masters None interfaces readings limits ≡ None
+  no_domain None masters interfaces readings limits = refl
+  no_domain (Some slave) None interfaces readings limits = refl
+  no_domain (Some slave) (Some master) interfaces readings limits = refl
 
-  no_interface : (slaves masters : Option (Option PortIdentity)) (domains : Option (Option ℕ)) (limits : Option (Option ℕ))
-      → made_of_rows rows slaves masters domains None limits ≡ None
-  no_interface None masters domains limits = refl
-  no_interface (Some slave) None domains limits = refl
-  no_interface (Some slave) (Some master) None limits = refl
-  no_interface (Some slave) (Some master) (Some domain) limits = refl
+  no_interface : (slaves masters : Option (Option PortIdentity)) (domains : Option (Option ℕ)) (readings : Option (Option Readings))
+      (limits : Option (Option ℕ)) → made_of_rows rows slaves masters domains None readings limits ≡ None
+  no_interface None masters domains readings limits = refl
+  no_interface (Some slave) None domains readings limits = refl
+  no_interface (Some slave) (Some master) None readings limits = refl
+  no_interface (Some slave) (Some master) (Some domain) readings limits = refl
+
+  no_readings : (slaves masters : Option (Option PortIdentity)) (domains : Option (Option ℕ)) (interfaces : Option (Option InterfaceName))
+      (limits : Option (Option ℕ)) → made_of_rows rows slaves masters domains interfaces None limits ≡ None
+  no_readings None masters domains interfaces limits = refl
+  no_readings (Some slave) None domains interfaces limits = refl
+  no_readings (Some slave) (Some master) None interfaces limits = refl
+  no_readings (Some slave) (Some master) (Some domain) None limits = refl
+  no_readings (Some slave) (Some master) (Some domain) (Some interface) limits = refl
 
   no_limit : (slaves masters : Option (Option PortIdentity)) (domains : Option (Option ℕ)) (interfaces : Option (Option InterfaceName))
-      → made_of_rows rows slaves masters domains interfaces None ≡ None
-  no_limit None masters domains interfaces = refl
-  no_limit (Some slave) None domains interfaces = refl
-  no_limit (Some slave) (Some master) None interfaces = refl
-  no_limit (Some slave) (Some master) (Some domain) None = refl
-  no_limit (Some slave) (Some master) (Some domain) (Some interface) = refl
+      (readings : Option (Option Readings)) → made_of_rows rows slaves masters domains interfaces readings None ≡ None
+  no_limit None masters domains interfaces readings = refl
+  no_limit (Some slave) None domains interfaces readings = refl
+  no_limit (Some slave) (Some master) None interfaces readings = refl
+  no_limit (Some slave) (Some master) (Some domain) None readings = refl
+  no_limit (Some slave) (Some master) (Some domain) (Some interface) None = refl
+  no_limit (Some slave) (Some master) (Some domain) (Some interface) (Some reading) = refl
 
   no_sum : (slaves masters : Option (Option PortIdentity)) (domains : Option (Option ℕ)) (interfaces : Option (Option InterfaceName))
-      (limits : Option (Option ℕ))
-      → measure_made slaves masters domains interfaces limits
+      (readings : Option (Option Readings)) (limits : Option (Option ℕ))
+      → measure_made slaves masters domains interfaces readings limits
       (is_used (codes "csv") rows) (is_used (codes "full") rows) (is_used (codes "strict") rows) None ≡ None
-  no_sum None masters domains interfaces limits = refl
-  no_sum (Some slave) None domains interfaces limits = refl
-  no_sum (Some slave) (Some master) None interfaces limits = refl
-  no_sum (Some slave) (Some master) (Some domain) None limits = refl
-  no_sum (Some slave) (Some master) (Some domain) (Some interface) None = refl
-  no_sum (Some slave) (Some master) (Some domain) (Some interface) (Some limit) = refl
+  no_sum None masters domains interfaces readings limits = refl
+  no_sum (Some slave) None domains interfaces readings limits = refl
+  no_sum (Some slave) (Some master) None interfaces readings limits = refl
+  no_sum (Some slave) (Some master) (Some domain) None readings limits = refl
+  no_sum (Some slave) (Some master) (Some domain) (Some interface) None limits = refl
+  no_sum (Some slave) (Some master) (Some domain) (Some interface) (Some reading) None = refl
+  no_sum (Some slave) (Some master) (Some domain) (Some interface) (Some reading) (Some limit) = refl
 
 pub returns-in-Err : goal.returns-in-Err
 returns-in-Err c =
@@ -87,8 +101,23 @@ returns-in-Err c =
     let masters = said port_identity_of (codes "master") rows in
     let domains = said domain_of (codes "domain") rows in
     let interfaces = said interface_name (codes "interface") rows in
-    sym (no_limit rows slaves masters domains interfaces)
-    ∙ ap (made_of_rows rows slaves masters domains interfaces) (value_read limit_of found (codes "limit") None c.in-Err.ensures)
+    let limits = said limit_of (codes "limit") rows in
+    sym (no_readings rows slaves masters domains interfaces limits)
+    ∙ ap (λ readings. made_of_rows rows slaves masters domains interfaces readings limits)
+    (value_read readings_of found (codes "readings") None c.in-Err.ensures)
+
+pub returns-in-Err-limit_option : goal.returns-in-Err-limit_option
+returns-in-Err-limit_option c =
+    let found = found_of c.args.matches.now in
+    let rows = rows_of found in
+    let slaves = said port_identity_of (codes "slave") rows in
+    let masters = said port_identity_of (codes "master") rows in
+    let domains = said domain_of (codes "domain") rows in
+    let interfaces = said interface_name (codes "interface") rows in
+    let readings = said readings_of (codes "readings") rows in
+    sym (no_limit rows slaves masters domains interfaces readings)
+    ∙ ap (made_of_rows rows slaves masters domains interfaces readings)
+    (value_read limit_of found (codes "limit") None c.in-Err-limit_option.ensures)
 
 pub returns-in_err-port_option : goal.returns-in_err-port_option
 returns-in_err-port_option c =
@@ -97,9 +126,10 @@ returns-in_err-port_option c =
     let masters = said port_identity_of (codes "master") rows in
     let domains = said domain_of (codes "domain") rows in
     let interfaces = said interface_name (codes "interface") rows in
+    let readings = said readings_of (codes "readings") rows in
     let limits = said limit_of (codes "limit") rows in
     no_answer c.from_residual.result c.from_residual.ensures.0
-    ∙ ap (λ slaves. made_of_rows rows slaves masters domains interfaces limits)
+    ∙ ap (λ slaves. made_of_rows rows slaves masters domains interfaces readings limits)
     (value_read port_identity_of found (codes "slave") None c.in_err-port_option.ensures)
 
 pub returns-in_err-port_option-2 : goal.returns-in_err-port_option-2
@@ -109,10 +139,11 @@ returns-in_err-port_option-2 c =
     let slaves = said port_identity_of (codes "slave") rows in
     let domains = said domain_of (codes "domain") rows in
     let interfaces = said interface_name (codes "interface") rows in
+    let readings = said readings_of (codes "readings") rows in
     let limits = said limit_of (codes "limit") rows in
     no_answer c.from_residual-in_err-port_option-2.result c.from_residual-in_err-port_option-2.ensures.0
-    ∙ sym (no_master rows slaves domains interfaces limits)
-    ∙ ap (λ masters. made_of_rows rows slaves masters domains interfaces limits)
+    ∙ sym (no_master rows slaves domains interfaces readings limits)
+    ∙ ap (λ masters. made_of_rows rows slaves masters domains interfaces readings limits)
     (value_read port_identity_of found (codes "master") None c.in_err-port_option-2.ensures)
 
 pub returns-in_err-domain_option : goal.returns-in_err-domain_option
@@ -122,10 +153,11 @@ returns-in_err-domain_option c =
     let slaves = said port_identity_of (codes "slave") rows in
     let masters = said port_identity_of (codes "master") rows in
     let interfaces = said interface_name (codes "interface") rows in
+    let readings = said readings_of (codes "readings") rows in
     let limits = said limit_of (codes "limit") rows in
     no_answer c.from_residual-in_err-domain_option.result c.from_residual-in_err-domain_option.ensures.0
-    ∙ sym (no_domain rows slaves masters interfaces limits)
-    ∙ ap (λ domains. made_of_rows rows slaves masters domains interfaces limits)
+    ∙ sym (no_domain rows slaves masters interfaces readings limits)
+    ∙ ap (λ domains. made_of_rows rows slaves masters domains interfaces readings limits)
     (value_read domain_of found (codes "domain") None c.in_err-domain_option.ensures)
 
 pub returns-in_err-interface_option : goal.returns-in_err-interface_option
@@ -135,10 +167,11 @@ returns-in_err-interface_option c =
     let slaves = said port_identity_of (codes "slave") rows in
     let masters = said port_identity_of (codes "master") rows in
     let domains = said domain_of (codes "domain") rows in
+    let readings = said readings_of (codes "readings") rows in
     let limits = said limit_of (codes "limit") rows in
     no_answer c.from_residual-in_err-interface_option.result c.from_residual-in_err-interface_option.ensures.0
-    ∙ sym (no_interface rows slaves masters domains limits)
-    ∙ ap (λ interfaces. made_of_rows rows slaves masters domains interfaces limits)
+    ∙ sym (no_interface rows slaves masters domains readings limits)
+    ∙ ap (λ interfaces. made_of_rows rows slaves masters domains interfaces readings limits)
     (value_read interface_name found (codes "interface") None c.in_err-interface_option.ensures)
 
 pub returns-in_err-sum_alone : goal.returns-in_err-sum_alone
@@ -149,10 +182,11 @@ returns-in_err-sum_alone c =
     let masters = said port_identity_of (codes "master") rows in
     let domains = said domain_of (codes "domain") rows in
     let interfaces = said interface_name (codes "interface") rows in
+    let readings = said readings_of (codes "readings") rows in
     let limits = said limit_of (codes "limit") rows in
     no_answer c.from_residual-in_err-sum_alone.result c.from_residual-in_err-sum_alone.ensures.0
-    ∙ sym (no_sum rows slaves masters domains interfaces limits)
-    ∙ ap (measure_made slaves masters domains interfaces limits (is_used (codes "csv") rows) (is_used (codes "full") rows)
+    ∙ sym (no_sum rows slaves masters domains interfaces readings limits)
+    ∙ ap (measure_made slaves masters domains interfaces readings limits (is_used (codes "csv") rows) (is_used (codes "full") rows)
     (is_used (codes "strict") rows))
     (c.in_err-sum_alone.ensures
     ∙ λ i. sum_alone (is_read found (codes "csv") c.is_used-4.result c.is_used-4.ensures i)
@@ -167,29 +201,33 @@ returns c =
     let master = c.in_ok-port_option-2.field-0 in
     let domain = c.in_ok-domain_option.field-0 in
     let interface = c.in_ok-interface_option.field-0 in
-    let limit = c.in-Ok.limit in
+    let reading = c.in-Ok.readings in
+    let limit = c.in-Ok-limit_option.limit in
     let masters = said port_identity_of (codes "master") rows in
     let domains = said domain_of (codes "domain") rows in
     let interfaces = said interface_name (codes "interface") rows in
+    let readings = said readings_of (codes "readings") rows in
     let limits = said limit_of (codes "limit") rows in
-    (λ i. measure_made (Some slave) (Some master) (Some domain) (Some interface) (Some limit)
+    (λ i. measure_made (Some slave) (Some master) (Some domain) (Some interface) (Some reading) (Some limit)
     (is_read found (codes "csv") c.is_used.result c.is_used.ensures i)
     (is_read found (codes "full") c.is_used-2.result c.is_used-2.ensures i)
     (is_read found (codes "strict") c.is_used-3.result c.is_used-3.ensures i)
     (Some c.in_ok-sum_alone.field-0))
-    ∙ ap (measure_made (Some slave) (Some master) (Some domain) (Some interface) (Some limit)
+    ∙ ap (measure_made (Some slave) (Some master) (Some domain) (Some interface) (Some reading) (Some limit)
     (is_used (codes "csv") rows) (is_used (codes "full") rows) (is_used (codes "strict") rows))
     (c.in_ok-sum_alone.ensures
     ∙ λ i. sum_alone (is_read found (codes "csv") c.is_used-4.result c.is_used-4.ensures i)
     (is_read found (codes "full") c.is_used-5.result c.is_used-5.ensures i)
     (is_read found (codes "sum") c.is_used-6.result c.is_used-6.ensures i))
-    ∙ ap (made_of_rows rows (Some slave) (Some master) (Some domain) (Some interface))
-    (value_read limit_of found (codes "limit") (Some limit) c.in-Ok.ensures)
-    ∙ ap (λ said. made_of_rows rows (Some slave) (Some master) (Some domain) said limits)
+    ∙ ap (made_of_rows rows (Some slave) (Some master) (Some domain) (Some interface) (Some reading))
+    (value_read limit_of found (codes "limit") (Some limit) c.in-Ok-limit_option.ensures)
+    ∙ ap (λ said. made_of_rows rows (Some slave) (Some master) (Some domain) (Some interface) said limits)
+    (value_read readings_of found (codes "readings") (Some reading) c.in-Ok.ensures)
+    ∙ ap (λ said. made_of_rows rows (Some slave) (Some master) (Some domain) said readings limits)
     (value_read interface_name found (codes "interface") (Some interface) c.in_ok-interface_option.ensures)
-    ∙ ap (λ said. made_of_rows rows (Some slave) (Some master) said interfaces limits)
+    ∙ ap (λ said. made_of_rows rows (Some slave) (Some master) said interfaces readings limits)
     (value_read domain_of found (codes "domain") (Some domain) c.in_ok-domain_option.ensures)
-    ∙ ap (λ said. made_of_rows rows (Some slave) said domains interfaces limits)
+    ∙ ap (λ said. made_of_rows rows (Some slave) said domains interfaces readings limits)
     (value_read port_identity_of found (codes "master") (Some master) c.in_ok-port_option-2.ensures)
-    ∙ ap (λ said. made_of_rows rows said masters domains interfaces limits)
+    ∙ ap (λ said. made_of_rows rows said masters domains interfaces readings limits)
     (value_read port_identity_of found (codes "slave") (Some slave) c.in_ok-port_option.ensures)
