@@ -8,8 +8,10 @@ from pages.stability import stability_part
 from pages.values import DECIMAL, MOMENT, TIME, Series, counted, half_units, nanoseconds
 
 # Behind these columns others may stand, as of --full.
-ROW = re.compile(f'({TIME}),({DECIMAL}),({DECIMAL}),(sync|response),([0-9]{{1,20}})(?:,.*)?')
+ROW = re.compile(f'({TIME}),({DECIMAL}),({DECIMAL}),(?:own )?(sync|response),([0-9]{{1,20}})(?:,.*)?')
 WHOLE = re.compile('-?[0-9]{1,40}')
+# Which half completed a report; a slave's own readings are measured as what was captured is.
+HALF = re.compile('(?:own )?(sync|response)')
 TOLD = ('Offsets are those of the reports by sync, path delays those of the reports by response, so that each Sync and each Delay_Req counts once. '
         'Least, greatest and median are exact; the others were computed exactly and rounded to three decimals. '
         'A line is that of the recording, and of a capture the number of a packet.')
@@ -21,8 +23,8 @@ class Measurement:
     TOOL, WATCHED, LINE = 'measure', 'watched', 'report of ptpx measure'
     HEAD = 'time,offset_ns,path_ns,by,line'
     EMPTY = 'There is no report: nothing was measured.'
-    ABOUT = ('<p id="clock">The offset is that of the clock that stamped the recording: of the slave\'s where its own port did, at a tap or a mirror port of '
-             'the box that captured.</p>')
+    ABOUT = ('<p id="clock">The offset is that of the clock that stamped the recording: of the slave\'s where its own port did or it told its own readings, '
+             'at a tap or a mirror port of the box that captured.</p>')
 
     taps = None
 
@@ -48,9 +50,9 @@ class Measurement:
         """Takes a line of JSON."""
         it = json.loads(text)
         time, offset, path, by, line = it['time'], it['offset2'], it['path2'], it['by'], it['line']
-        if not (MOMENT.fullmatch(time) and WHOLE.fullmatch(offset) and WHOLE.fullmatch(path) and type(line) is int and by in ('sync', 'response')):
+        if not (MOMENT.fullmatch(time) and WHOLE.fullmatch(offset) and WHOLE.fullmatch(path) and type(line) is int and HALF.fullmatch(by)):
             raise ValueError
-        self.add(nanoseconds(time), int(offset), int(path), by, line)
+        self.add(nanoseconds(time), int(offset), int(path), HALF.fullmatch(by)[1], line)
 
     def add(self, time, offset, path, by, line):
         if by == 'sync':
