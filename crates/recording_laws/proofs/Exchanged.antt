@@ -68,7 +68,7 @@ module _ (w : Watched) where
   by_said line time (Err refusal) l report is = absurd cc
 
 -- what is measured at a row with this report
-abbrev made_with : Watched → List Row → Row → Report → Measured
+abbrev pub made_with : Watched → List Row → Row → Report → Measured
 made_with w earlier row report = record {
   by = option_map_or (λ x. half_of x.body) (result_ok row.datagram.said) halves.Sync;
   own = row.own;

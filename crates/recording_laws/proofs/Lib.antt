@@ -5,3 +5,16 @@ pub mod Exchanged
 pub mod Once
 pub mod LinesRead
 pub mod PacketsRead
+pub mod OwnCalls
+pub mod OwnHeard
+pub mod OwnInput
+pub mod OwnListening
+pub mod OwnPairs
+pub mod OwnReads
+pub mod OwnRecords
+pub mod OwnReports
+pub mod OwnRows
+pub mod WorkedOwn
+pub mod OwnUsed
+pub mod OwnWindow
+pub mod OwnReported

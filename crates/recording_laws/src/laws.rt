@@ -5,6 +5,8 @@ ghost use Rattle.recording_laws.specs.Exact.{EachMeasurementIsExact};
 ghost use Rattle.recording_laws.specs.ExactCapture.{EachMeasurementOfACaptureIsExact};
 ghost use Rattle.recording_laws.specs.EachExchange.{EachReportIsOfItsExchange};
 ghost use Rattle.recording_laws.specs.Once.{EachDatagramIsCountedOnce};
+ghost use Rattle.recording_laws.specs.OwnReported.{EachUsedRecordIsReported};
+ghost use Rattle.recording_laws.specs.OwnReadings.{OwnReadingsAreMeasuredAlone, EachOwnReportIsOfItsRecords};
 
 use recording_model::laws::each_report_is_exact;
 
@@ -47,4 +49,25 @@ pub fn each_datagram_is_counted_once()
 /// left out, and [`each_offset_is_of_its_times`](recording_measure::laws::each_offset_is_of_its_times) holds in each line.
 pub fn each_report_is_of_its_exchange()
     ensures { EachReportIsOfItsExchange }
+{}
+
+/// What `measure` reads is a slave's own readings alone, or none of them, and so are all reports of it: once own ones are measured, nothing
+/// that was captured is, before it or after. This holds whatever is read, of lines and of packets.
+pub fn own_readings_are_measured_alone()
+    ensures { OwnReadingsAreMeasuredAlone }
+{}
+
+/// Each report that is made of a slave's own readings (IEEE 1588-2019, 16.11) is of one record of a Sync and one of an exchange, which the
+/// watched slave told of the watched master in the watched domain, until then: it has their times, corrections and numbers, and twice the
+/// standard's two results for them. One exception is named: the time of the Delay_Req may be that of an exchange with another master which
+/// that slave told under the same number, since the port takes both for one Delay_Req. This holds whatever is read.
+pub fn each_own_report_is_of_its_records()
+    ensures { EachOwnReportIsOfItsRecords }
+{}
+
+/// A one-step Sync that the port uses, as a record of a Sync stands for one, brings a report where a Delay_Resp stands in front of it that the
+/// port used; and such a Delay_Resp brings one where a one-step Sync does. Between them may stand anything by which the port doesn't begin
+/// anew, with fewer than 4,096 Syncs of the master. This holds whatever is recorded, also in rows of one number.
+pub fn each_used_record_is_reported()
+    ensures { EachUsedRecordIsReported }
 {}
