@@ -16,6 +16,10 @@ nanosecond = 10 ^ 17
 abbrev pub IsWithin : ℕ → ℤ → Type 0
 IsWithin most exact = unsigned_abs exact < most * nanosecond
 
+-- a number, where it is less than 2^111 ns from 0
+abbrev pub exact_within : ℤ → Option ℤ
+exact_within exact = if nat_lt (unsigned_abs exact) (2 ^ 111 * nanosecond) then Some exact else None
+
 -- of twice a result in units of 2^-16 ns, which are halves of it: 2^-17 ns are 5^17 units
 abbrev pub of_twice : ℤ → ℤ
 of_twice twice = twice *ℤ pos (5 ^ 17)

@@ -1,6 +1,6 @@
-ghost use Rattle.std.specs.Prelude.{◌≡◌, ◌==◌, ◌<◌, ◌^◌, ◌+ℤ◌, ◌-ℤ◌, neg_ℤ, int_lt, pos, unsigned_abs, Some};
+ghost use Rattle.std.specs.Prelude.{◌≡◌, ◌==◌, ◌<◌, ◌^◌, ◌*◌, ◌+ℤ◌, ◌-ℤ◌, neg_ℤ, int_lt, pos, unsigned_abs, Some};
 ghost use Rattle.std.specs.Int.{int_max};
-ghost use Rattle.result_verdict.specs.Exact.{of_twice, decimals, exact_text, IsWithin};
+ghost use Rattle.result_verdict.specs.Exact.{of_twice, decimals, exact_text, nanosecond, IsWithin};
 ghost use Rattle.result_verdict.specs.Inner.Normal.{with_parts};
 
 use std::fmt;
@@ -81,6 +81,13 @@ impl Difference {
     {
         let parts = twice.rem_euclid(131_072) as u64 * UNIT;
         joined(twice.div_euclid(131_072), parts)
+    }
+
+    /// 2^111 ns.
+    pub(crate) fn most() -> Difference
+        ensures { result ≡ pos (2 ^ 111 * nanosecond) }
+    {
+        joined(1 << 111, 0)
     }
 
     /// 0 ns.

@@ -1,5 +1,5 @@
-ghost use Rattle.std.specs.Prelude.{◌≡◌, ◌+ℤ◌, ◌-ℤ◌, ◌^◌, pos, Some};
-ghost use Rattle.result_verdict.specs.Exact.{IsWithin, of_twice, exact_text, exact_in};
+ghost use Rattle.std.specs.Prelude.{◌≡◌, ◌+ℤ◌, ◌-ℤ◌, ◌^◌, int_le, pos, Some};
+ghost use Rattle.result_verdict.specs.Exact.{IsWithin, of_twice, exact_within, exact_text, exact_in};
 
 use crate::difference::Difference;
 use crate::spelled::exact_in;
@@ -52,6 +52,25 @@ impl Exact {
         ensures within { IsWithin (2 ^ 111) self }
     {
         self.value
+    }
+
+    /// The difference of both, where it is less than 2^111 ns from 0.
+    pub fn checked_minus(self, other: Exact) -> Option<Exact>
+        ensures { result ≡ exact_within (self -ℤ other) }
+    {
+        let value = self.value().minus(other.value());
+        if value.size().is_below(Difference::most()) {
+            Some(Exact { value })
+        } else {
+            None
+        }
+    }
+
+    /// Whether it is at least a difference.
+    pub fn is_at_least(self, difference: Difference) -> bool
+        ensures { result ≡ int_le difference self }
+    {
+        !self.value().is_below(difference)
     }
 
     /// The sum of both.
