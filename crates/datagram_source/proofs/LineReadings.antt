@@ -7,7 +7,8 @@ use Rattle.datagram_source.specs.declared.lines.Line as parted_as
 use Rattle.datagram_source.specs.declared.lines.LineForm.{LineForm}
 use Rattle.datagram_source.specs.declared.lines.LineForm.TheVariants.{Timed, AtTaps}
 use Rattle.datagram_source.specs.Datagram.{PlaceOf, Line, Tap, place_of, DatagramOf, IsTimedDatagram, IsDatagramLine}
-use Rattle.datagram_source.specs.Inner.LineReading.{IsPlaced, NoPlace, NoOctets, NoDatagram, IsLine}
+use Rattle.datagram_source.specs.Inner.LineReading.{IsPlaced, NoPlace, NoOctets, IsLine}
+use Rattle.datagram_source.specs.Unread.{NoDatagram}
 
 -- ---- the place and what stands behind it
 -- one thing alone stands there

@@ -9,7 +9,7 @@ use Rattle.text_lines.specs.Task.{WentOut}
 use Rattle.datagram_source.specs.declared.lines.LineForm.{LineForm}
 use Rattle.datagram_source.specs.Datagram.{DatagramOf, IsDatagramLine}
 use Rattle.datagram_source.specs.Rules.{DatagramRules, LinesRead, IsNext, StopsAtLine}
-use Rattle.datagram_source.specs.Inner.LineReading.{IsUnread}
+use Rattle.datagram_source.specs.Unread.{IsUnread}
 
 -- a line of the task's form, behind as many as were counted, is the next
 pub is_next : {S F : Type 0} (rules : DatagramRules S F) (form : LineForm) (count : ℕ) (line : List ℕ) (r : LinesRead S) (d : DatagramOf)

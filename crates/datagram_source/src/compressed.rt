@@ -6,7 +6,7 @@ use std::io::Write;
 const GZIP: &[u8] = &[0x1f, 0x8b];
 
 /// Tells, where a line begins as what gzip compressed does, how a subcommand reads that. What can't be written is lost.
-pub(crate) fn tell_compressed<E: Write>(line: &[u8], subcommand: &'static str, errors: &mut E) {
+pub fn tell_compressed<E: Write>(line: &[u8], subcommand: &'static str, errors: &mut E) {
     if line.starts_with(GZIP) {
         let _ = writeln!(
             errors,

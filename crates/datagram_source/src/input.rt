@@ -154,12 +154,12 @@ fn capture_outcome<T: DatagramTask, R: Read, W: Write, E: Write>(
         PacketsLeave T.rules state (start.now ++ octets) result.0 (T.is_at result.1)) }
     ensures failures { OutcomeFailed T.rules result.0 input.old input.new output.old output.new }
 {
-    let (answer, task, counts) = answer_packets(alloc, task, start, input, output, errors);
+    let (answer, task, counts) = answer_capture_behind(alloc, task, start, input, output, errors);
     (InputOutcome::Capture(answer), task, Some(counts))
 }
 
 /// Gives the datagrams of a capture to a task, of which these octets were read.
-fn answer_packets<T: DatagramTask, R: Read, W: Write, E: Write>(
+pub fn answer_capture_behind<T: DatagramTask, R: Read, W: Write, E: Write>(
     alloc: Global,
     task: T,
     start: &[u8],
@@ -210,5 +210,5 @@ pub fn answer_capture<T: DatagramTask, R: Read, W: Write, E: Write>(
         (λ _. HasNotFailed input.old input.new × HasNotFailed output.old output.new)
         (λ stop. FailedAt (packet_rules T.rules) stop.what input.old input.new output.old output.new) }
 {
-    answer_packets(alloc, task, &[], input, output, errors)
+    answer_capture_behind(alloc, task, &[], input, output, errors)
 }

@@ -15,9 +15,10 @@ mod stamp;
 mod stream;
 mod task;
 
+pub use compressed::tell_compressed;
 pub use datagram::{Datagram, Place, message_in};
-pub use input::{InputOutcome, answer_capture, answer_datagrams};
-pub use lines::LineForm;
+pub use input::{InputOutcome, answer_capture, answer_capture_behind, answer_datagrams};
+pub use lines::{DATAGRAM_LIMIT, LineForm, read_datagram};
 pub use packet_counts::PacketCounts;
 pub use readings::Readings;
 pub use stamp::Stamp;

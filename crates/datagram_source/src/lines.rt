@@ -3,8 +3,9 @@ ghost use Rattle.std.specs.Prelude.{◌≡◌, ◌≤◌, ◌+◌, ◌==◌, len
 ghost use Rattle.std.specs.List.{position};
 ghost use Rattle.text_lines.specs.Lines.{line_limit};
 ghost use Rattle.datagram_source.specs.Datagram.{place_of, datagram_of, octets_limit, IsDatagramLine};
+ghost use Rattle.datagram_source.specs.Unread.{NoDatagram, IsUnread};
 ghost use Rattle.datagram_source.specs.Rules.{LinesRead, line_rules};
-ghost use Rattle.datagram_source.specs.Inner.LineReading.{IsPlaced, NoPlace, NoOctets, HasOctets, NoDatagram, IsLine, IsUnread};
+ghost use Rattle.datagram_source.specs.Inner.LineReading.{IsPlaced, NoPlace, NoOctets, HasOctets, IsLine};
 ghost use Rattle.datagram_source.specs.Inner.Outcomes.{IsKept, IsEnded};
 
 use crate::compressed::tell_compressed;
@@ -17,7 +18,7 @@ use tap_choice::TapName;
 use text_lines::{Counted, LINE_LIMIT, LineFault, LineTask};
 
 /// The most octets of a datagram, which is written in two digits each.
-const DATAGRAM_LIMIT: usize = LINE_LIMIT / 2;
+pub const DATAGRAM_LIMIT: usize = LINE_LIMIT / 2;
 
 /// Which of two forms lines have.
 #[derive(Clone, Copy, Debug, PartialEq, Eq)]
@@ -117,7 +118,7 @@ fn read_parts<'line>(
 }
 
 /// Reads the line of this form after so many. A number that can't be counted would be want of memory: `lines_limit` comes before it.
-fn read_line<'line>(
+pub fn read_datagram<'line>(
     form: LineForm,
     earlier: u64,
     line: &'line [u8],
@@ -180,7 +181,7 @@ impl<T: DatagramTask, E: Write> LineTask for LineSource<'_, T, E> {
     fn take<W: Write>(&mut self, line: &[u8], output: &mut Counted<W>) -> Result<(), T::Fault> {
         tell_compressed(line, T::subcommand(), self.errors);
         let mut room = [0; DATAGRAM_LIMIT];
-        match read_line(T::line_form(), self.count, line, &mut room) {
+        match read_datagram(T::line_form(), self.count, line, &mut room) {
             Ok(datagram) => {
                 self.task.take(&datagram, output, self.errors)?;
                 self.count = datagram.number;

@@ -1,15 +1,13 @@
 -- What is read of a line.
-use Rattle.std.specs.Prelude.{◌≡◌, ℕ, ◌≤◌, ◌/◌, ◌^◌, List, length, take, Some, Ok}
+use Rattle.std.specs.Prelude.{◌≡◌, ℕ, ◌≤◌, ◌/◌, List, length, take, Some, Ok}
 use Rattle.hex.specs.Hex.{decode_of}
-use Rattle.text_lines.specs.declared.line_fault.LineFault.{LineFault}
-use Rattle.text_lines.specs.declared.line_fault.LineFault.TheVariants.{Write, Field, Memory}
 use Rattle.recording_lines.specs.Timed.{LineParts, parted, parts_of, timed_in}
 use Rattle.recording_lines.specs.declared.timed.Timed as read_as
 use Rattle.tap_choice.specs.TapName.{IsTapName}
 use Rattle.datagram_source.specs.declared.lines.Line as parted_as
 use Rattle.datagram_source.specs.declared.lines.LineForm.{LineForm}
 use Rattle.datagram_source.specs.declared.lines.LineForm.TheVariants.{Timed, AtTaps}
-use Rattle.datagram_source.specs.Datagram.{PlaceOf, Line, Tap, place_of, DatagramOf, IsDatagramLine}
+use Rattle.datagram_source.specs.Datagram.{PlaceOf, Line, Tap, place_of}
 
 -- a line of this form tells this place, and this stands behind it
 abbrev pub IsPlaced : LineForm → List ℕ → PlaceOf → (rest : List ℕ) → Type 0
@@ -19,10 +17,6 @@ IsPlaced AtTaps line place rest = (tap : List ℕ) × (parted 32 line ≡ Some (
 -- or it tells none
 abbrev pub NoPlace : LineForm → List ℕ → Type 0
 NoPlace form line = (place : PlaceOf) (rest : List ℕ) → IsPlaced form line place rest → ⊥
-
--- a line tells no datagram, whatever its number
-abbrev pub NoDatagram : LineForm → List ℕ → Type 0
-NoDatagram form line = (number : ℕ) (d : DatagramOf) → IsDatagramLine form number line d → ⊥
 
 -- what stands behind the place is no time with octets
 abbrev pub NoOctets : List ℕ → Type 0
@@ -39,9 +33,3 @@ pub record IsLine (form : LineForm) (line room : List ℕ) (read : parted_as.Lin
   pub rest : List ℕ
   pub placed : IsPlaced form line (place_of read.place) rest
   pub has : HasOctets rest room read.timed
-
--- why a line of this form and this number isn't read
-abbrev pub IsUnread : LineFault → LineForm → (number : ℕ) → List ℕ → Type 0
-IsUnread Write form number line = ⊥
-IsUnread Field form number line = NoDatagram form line
-IsUnread Memory form number line = (d : DatagramOf) × IsDatagramLine form number line d × (2 ^ 64 ≤ number)

@@ -1,7 +1,7 @@
 use Rattle.std.proofs.Common.{ℕ, ◌+◌, refl, ap, subst}
 use Rattle.std.proofs.lemmas.Result.{err_from_is_err_and}
 use Rattle.datagram_source.specs.Datagram.{datagram_of}
-use Rattle.datagram_source.specs.Inner.LineReading.{IsUnread}
+use Rattle.datagram_source.specs.Unread.{IsUnread}
 use Rattle.datagram_source.specs.declared.lines.LineForm.{LineForm}
 use Rattle.datagram_source.proofs.LineReadings.{number_of}
 use Rattle.datagram_source.proofs.LineTakings.{is_next, line_stops, unread}

@@ -1,7 +1,7 @@
 use Rattle.std.proofs.Common.{◌+◌, refl, arith}
 use Rattle.datagram_source.specs.Said.{reading_of}
 use Rattle.datagram_source.proofs.LineReadings.{line_read}
-use Rattle.datagram_source.proofs.lines.read_line.Goals as goal
+use Rattle.datagram_source.proofs.lines.read_datagram.Goals as goal
 
 pub returns-in-Some-checked_add-clause-read : goal.returns-in-Some-checked_add-clause-read
 returns-in-Some-checked_add-clause-read c =

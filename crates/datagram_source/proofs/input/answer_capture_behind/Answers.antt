@@ -1,7 +1,7 @@
 use Rattle.std.proofs.Common.{◌++◌}
 use Rattle.datagram_source.specs.declared.packets.PacketSource.{PacketSource}
 use Rattle.datagram_source.proofs.Lefts.{packets_left}
-use Rattle.datagram_source.proofs.input.answer_packets.Goals as goal
+use Rattle.datagram_source.proofs.input.answer_capture_behind.Goals as goal
 
 pub returns-clause-left : goal.returns-clause-left
 returns-clause-left g c = λ state at octets known.
