@@ -8,6 +8,7 @@ pub mod Bodies
 pub mod Counting
 pub mod Summaries
 pub mod Fates
+pub mod Freshness
 pub mod Goes
 pub mod Heard
 pub mod KeptRows

@@ -6,9 +6,11 @@ pub mod Watch
 pub mod Row
 pub mod Made
 pub mod Measured
+pub mod Fresh
 pub mod Recents
 pub mod Own
 pub mod Measure
+pub mod Handed
 pub mod Places
 pub mod Chosen
 pub mod Summary

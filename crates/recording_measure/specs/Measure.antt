@@ -17,7 +17,7 @@ use Rattle.datagram_source.specs.Datagram.{DatagramOf}
 use Rattle.datagram_source.specs.Rules.{DatagramRules, is_field}
 use Rattle.recording_measure.specs.Made.{Measured}
 use Rattle.recording_measure.specs.declared.form.Form.{Form}
-use Rattle.recording_measure.specs.declared.form.Form.TheVariants.{Json, Table, FullJson, FullTable, Sums}
+use Rattle.recording_measure.specs.declared.form.Form.TheVariants.{Json, Table, FullJson, FullTable, Sums, Completions}
 use Rattle.recording_measure.specs.declared.watch.WantedPorts.{WantedPorts}
 use Rattle.datagram_source.specs.declared.readings.Readings.{Readings}
 use Rattle.datagram_source.specs.declared.readings.Readings.TheVariants as readings
@@ -173,3 +173,4 @@ head_text Table = table_head
 head_text FullJson = []
 head_text FullTable = full.table_head
 head_text Sums = []
+head_text Completions = []

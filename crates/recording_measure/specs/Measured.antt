@@ -12,7 +12,7 @@ use Rattle.recording_lines.specs.declared.measurement.Half.TheVariants as halves
 use Rattle.recording_lines.specs.Measurement.{json_text, row_text}
 use Rattle.recording_measure.specs.Exchange as full
 use Rattle.recording_measure.specs.declared.form.Form.{Form}
-use Rattle.recording_measure.specs.declared.form.Form.TheVariants.{Json, Table, FullJson, FullTable, Sums}
+use Rattle.recording_measure.specs.declared.form.Form.TheVariants.{Json, Table, FullJson, FullTable, Sums, Completions}
 use Rattle.recording_measure.specs.declared.watch.WantedPorts.{WantedPorts}
 use Rattle.recording_measure.specs.Watch.{watched_in}
 use Rattle.recording_measure.specs.Row.{Row, datagrams, heard}
@@ -27,13 +27,14 @@ half_of (FollowUp precise) = halves.Sync
 half_of (DelayResp receive requesting) = halves.Response
 
 -- a measurement as it is asked for; in full with its exchange, which is there (`laws::each_report_is_of_its_exchange`); nothing where
--- sums are asked for
+-- sums are asked for, or they are handed on
 abbrev pub text_as : Form → Measured → List ℕ
 text_as Json m = json_text (plain m)
 text_as Table m = row_text (plain m)
 text_as FullJson m = option_map_or (full.json_text (plain m)) m.exchange []
 text_as FullTable m = option_map_or (full.row_text (plain m)) m.exchange []
 text_as Sums m = []
+text_as Completions m = []
 
 -- the texts of measurements, in order
 abbrev pub texts_as : Form → List Measured → List ℕ

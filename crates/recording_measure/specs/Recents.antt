@@ -6,6 +6,7 @@ use Rattle.recording_lines.specs.declared.measurement.Half.{Half}
 use Rattle.recording_lines.specs.declared.measurement.Half.TheVariants.{Sync, Response}
 use Rattle.statistics.specs.Median.{IsRecent}
 use Rattle.recording_measure.specs.Made.{Measured}
+use Rattle.recording_measure.specs.Fresh.{IsFresh}
 use Rattle.recording_measure.specs.declared.recents.Recents.{Recents}
 
 -- the offset of a report that a Sync completed
@@ -27,7 +28,8 @@ abbrev pub paths : List Measured → List ℤ
 paths [] = []
 paths (m ∷ earlier) = cons_option (path_by m.by m.report) (paths earlier)
 
--- the last of each are kept
+-- the last of each are kept, and the reports that weren't handed on
 pub record AreRecents (all : List Measured) (recents : Recents) : Type 0 where
   pub offsets : IsRecent (offsets all) recents.offsets
   pub paths : IsRecent (paths all) recents.paths
+  pub fresh : IsFresh all recents.fresh

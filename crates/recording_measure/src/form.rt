@@ -18,6 +18,8 @@ pub enum Form {
     FullTable,
     /// Not at all: what they come to is asked for.
     Sums,
+    /// Not at all: whoever goes on with them is handed them.
+    Completions,
 }
 
 impl Form {
@@ -26,7 +28,7 @@ impl Form {
         ensures { result.now ≡ head_text self }
     {
         match self {
-            Form::Json | Form::FullJson | Form::Sums => "",
+            Form::Json | Form::FullJson | Form::Sums | Form::Completions => "",
             Form::Table => table_head(),
             Form::FullTable => crate::exchange::table_head(),
         }

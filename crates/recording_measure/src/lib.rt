@@ -2,6 +2,7 @@
 //! what it was made of.
 #![tactic(auto)]
 
+mod completion;
 mod exchange;
 mod form;
 mod input;
@@ -22,7 +23,9 @@ mod tally;
 mod task;
 mod watch;
 
+pub use completion::Completion;
 pub use form::Form;
 pub use input::{Summary, measure};
 pub use recording_summary::{Counts, Kind, Known, NoReport, Whom};
+pub use task::MeasureTask;
 pub use watch::WantedPorts;

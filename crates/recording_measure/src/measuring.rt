@@ -10,8 +10,9 @@ ghost use Rattle.recording_measure.specs.Row.{Row, row_of};
 ghost use Rattle.recording_measure.specs.Places.{name_in, placed};
 ghost use Rattle.recording_measure.specs.Chosen.{stays_at, settled};
 ghost use Rattle.recording_measure.specs.Measured.{measurements};
+ghost use Rattle.recording_measure.specs.Fresh.{IsHandedOn};
 ghost use Rattle.recording_measure.specs.Recents.{AreRecents};
-ghost use Rattle.recording_measure.specs.Measure.{Recording as Read, begun, has_reported};
+ghost use Rattle.recording_measure.specs.Measure.{Recording as Read, begun, has_reported, measured_so_far};
 ghost use Rattle.recording_measure.specs.Summary.{told_whom};
 ghost use Rattle.recording_measure.specs.Counts.{Fate, fates, told_fates, IsCounts};
 ghost use Rattle.recording_measure.specs.Told.{place_at, called};
@@ -30,7 +31,7 @@ use crate::watch::{WantedPorts, Watch};
 use datagram_source::{Datagram, Place as MetAt};
 use recording_model::Watched;
 use recording_summary::{Counts, Whom};
-use std::alloc::Global;
+use std::alloc::{AllocError, Global};
 use std::fmt;
 use std::fmt::{Display, Formatter};
 use std::io::Write;
@@ -285,6 +286,14 @@ impl Measuring {
             Stage::Looking(_) => None,
             Stage::Hearing(index, _) => self.recordings.name(*index),
         }
+    }
+
+    /// The reports that weren't handed on are. More than can be counted would be want of memory.
+    pub(crate) fn hand_on(&mut self) -> Result<(), AllocError>
+        ensures { (r : Read) → IsMeasuring self.old r → OnOk result (IsMeasuring self.new r
+            × IsHandedOn (measured_so_far r) self.new.reports.reports.recents.fresh) }
+    {
+        self.reports.reports.recents.fresh.hand_on()
     }
 
     /// The last numbers of the reports.

@@ -7,26 +7,31 @@ ghost use Rattle.recording_measure.specs.Made.{Measured};
 ghost use Rattle.recording_measure.specs.Recents.{AreRecents, offsets, paths};
 ghost use Rattle.recording_measure.specs.Inner.Hearing.{made_of};
 
+use crate::completion::Fresh;
+use crate::form::Form;
 use crate::reports::Made;
 use recording_lines::Half;
 use statistics::{Ranks, Recent};
 use std::alloc::{AllocError, Global};
 
-/// The last offsets of reports that a Sync completed, and the last path delays of those that a Delay_Resp completed, in 2^-17 ns.
+/// The last offsets of reports that a Sync completed, and the last path delays of those that a Delay_Resp completed, in 2^-17 ns, and the
+/// reports that weren't handed on.
 #[derive(Drop)]
 pub(crate) struct Recents {
     offsets: Recent,
     paths: Recent,
+    pub(crate) fresh: Fresh,
 }
 
 impl Recents {
     /// No report came yet.
-    pub(crate) fn new(alloc: Global) -> Recents
+    pub(crate) fn new(alloc: Global, form: Form) -> Recents
         ensures { AreRecents [] result }
     {
         Recents {
             offsets: Recent::new(alloc),
             paths: Recent::new(alloc),
+            fresh: Fresh::new(alloc, form),
         }
     }
 
@@ -35,6 +40,7 @@ impl Recents {
         ensures { (earlier : List Measured) → AreRecents earlier self.old
             → OnOk result (AreRecents (made_of made.now ∷ earlier) self.new) }
     {
+        self.fresh.take(made)?;
         let report = &made.measured.report;
         match made.measured.by {
             Half::Sync => self.offsets.take(report.offset2),

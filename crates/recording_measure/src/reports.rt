@@ -110,7 +110,7 @@ fn push_as(form: Form, text: &mut String, made: &Made<'_>) -> Result<(), AllocEr
         (Form::Table, _) => push_row(text, measured),
         (Form::FullJson, Some(exchange)) => crate::exchange::push_json(text, measured, exchange),
         (Form::FullTable, Some(exchange)) => crate::exchange::push_row(text, measured, exchange),
-        (Form::FullJson | Form::FullTable, None) | (Form::Sums, _) => Ok(()),
+        (Form::FullJson | Form::FullTable, None) | (Form::Sums | Form::Completions, _) => Ok(()),
     }
 }
 
@@ -135,7 +135,7 @@ impl Reports {
             form,
             text: String::new(alloc),
             tally: Tally::new(),
-            recents: Recents::new(alloc),
+            recents: Recents::new(alloc, form),
         }
     }
 

@@ -1,7 +1,7 @@
 //! What is done with the datagrams of an input that is measured: those that were captured, or the messages that a slave's own readings
 //! stand for.
 
-ghost use Rattle.std.specs.Prelude.{◌≡◌, ◌++◌, ◌&&◌, nat_lt, List, [], ◌∷◌, length, MatchResult};
+ghost use Rattle.std.specs.Prelude.{◌≡◌, ◌++◌, ◌&&◌, nat_lt, List, [], ◌∷◌, length, not, MatchResult, OnOk};
 ghost use Rattle.std.specs.List.{flat_map};
 ghost use Rattle.text_lines.specs.Counted.{device_of, HasNotFailed, HasFailedIf};
 ghost use Rattle.text_lines.specs.Fault.{is_write};
@@ -11,11 +11,13 @@ ghost use Rattle.event_codec.specs.Reading.{IsReading};
 ghost use Rattle.datagram_source.specs.Said.{reading_of};
 ghost use Rattle.datagram_source.specs.Datagram.{datagram_of};
 ghost use Rattle.signaling_codec.specs.Tlv.{readings_of};
-ghost use Rattle.recording_measure.specs.Measure.{Recording, begun, measure_rules, is_asked, slave_by, are_by, has_reported};
+ghost use Rattle.recording_measure.specs.Measure.{Recording, begun, measure_rules, is_asked, is_captured, slave_by, are_by, has_reported};
 ghost use Rattle.recording_measure.specs.Measure.{IsTold, captured_by, with_own};
 ghost use Rattle.recording_measure.specs.Own.{messages_in, messages_of};
+ghost use Rattle.recording_measure.specs.Handed.{HasHandedOn, completions_of};
 ghost use Rattle.recording_measure.specs.Inner.Task.{IsTask, Adds, AddsOwn};
 
+use crate::completion::Completion;
 use crate::form::Form;
 use crate::measuring::Measuring;
 use crate::own::{OwnMessage, exchange_of, sync_of};
@@ -26,7 +28,7 @@ use datagram_source::{Datagram, DatagramTask, LineForm, Place, Stamp, message_in
 use event_codec::{Header, PortIdentity, encode};
 use ptp_units::ScaledTime;
 use signaling_codec::{OwnReading, Reading, Readings, Signaling, decode_signaling};
-use std::alloc::Global;
+use std::alloc::{AllocError, Global};
 use std::io::Write;
 use text_lines::{Counted, LineFault};
 
@@ -35,7 +37,7 @@ const MESSAGE_MOST: usize = 54;
 
 /// Measures each datagram of an input that was captured, or in their place those that a slave's own readings stand for.
 #[derive(Drop)]
-pub(crate) struct MeasureTask {
+pub struct MeasureTask {
     pub(crate) measuring: Measuring,
     by: By,
 }
@@ -137,6 +139,49 @@ impl MeasureTask {
             measuring: Measuring::new(alloc, wanted, form),
             by: By::asked(wanted.readings),
         }
+    }
+
+    /// No datagram came yet. Reports are handed on, in place of being written.
+    pub fn for_completions(alloc: Global, wanted: &WantedPorts) -> MeasureTask
+        ensures { IsTask result (begun Form.Completions wanted.now) }
+    {
+        MeasureTask::new(alloc, wanted, Form::Completions)
+    }
+
+    /// The reports that weren't handed on, in order.
+    pub fn completions(&self) -> &[Completion]
+        ensures { result.now ≡ completions_of self.now }
+    {
+        self.measuring.recents().fresh.completions()
+    }
+
+    /// They are handed on. More than can be counted would be want of memory.
+    pub fn hand_on(&mut self) -> Result<(), AllocError>
+        ensures { (r : Recording) → IsTask self.old r → OnOk result (HasHandedOn self.new r) }
+    {
+        self.measuring.hand_on()
+    }
+
+    /// Whether a report was measured.
+    pub fn has_reported(&self) -> bool
+        ensures { (r : Recording) → IsTask self.now r → result ≡ has_reported r }
+    {
+        self.measuring.has_reported()
+    }
+
+    /// Whether a slave's own readings are measured.
+    pub fn is_own(&self) -> bool
+        ensures { (r : Recording) → IsTask self.now r → result ≡ not (is_captured r.by) }
+    {
+        match self.by {
+            By::Any | By::Captured => false,
+            By::Own(_) => true,
+        }
+    }
+
+    /// Tells in lines what came of the datagrams. What can't be written is lost.
+    pub fn tell<E: Write>(&self, errors: &mut E) {
+        self.measuring.tell(&self.measuring.counts(), errors);
     }
 
     /// The slave that tells its own readings under this header.
