@@ -1,0 +1,11 @@
+-- Those that are held, one after the other.
+use Rattle.std.specs.Prelude.{List, [], ◌∷◌, ◌++◌}
+use Rattle.recording_lines.specs.declared.measurement.Half.{Half}
+use Rattle.result_audit.specs.declared.course.Gap.{Gap}
+use Rattle.result_audit.specs.declared.held.Held.{Held}
+use Rattle.result_audit.specs.Held.{learned}
+
+-- the first, if there is any, learned this, and is the last
+abbrev pub turned : Half → Gap → List Held → List Held
+turned half gap [] = []
+turned half gap (held ∷ others) = others ++ learned half gap held ∷ []
