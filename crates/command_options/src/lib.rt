@@ -43,6 +43,27 @@ pub struct MeasureOptions {
     pub sum: bool,
 }
 
+/// The options of `audit`.
+#[derive(Clone, Copy, Debug, Default, PartialEq, Eq)]
+pub struct AuditOptions {
+    /// The port of the slave; without it, the source of the first Delay_Req of the domain.
+    pub slave: Option<PortIdentity>,
+    /// The port of the master; without it, the source of the first Sync of the domain.
+    pub master: Option<PortIdentity>,
+    /// domainNumber; without it, that of the first Sync, of the master where that is given.
+    pub domain: Option<u8>,
+    /// The interface of a capture; without it, that of the first stream in which slave, master and domain are known.
+    pub interface: Option<InterfaceName>,
+    /// By whose readings results are judged; without it, by a slave's own if any come before the first report.
+    pub readings: Option<Readings>,
+    /// By how much a number may be off; without it, by 1 ns: so many seconds as it is nanoseconds.
+    pub tolerance: Option<ScaledTime>,
+    /// Whether the output is CSV, in place of JSON.
+    pub csv: bool,
+    /// Whether offsets alone are judged, and path delays of results aren't read.
+    pub offset_only: bool,
+}
+
 /// The options of `follow`.
 #[derive(Clone, Copy, Debug, Default, PartialEq, Eq)]
 pub struct FollowOptions {
