@@ -12,6 +12,7 @@ COMMANDS = {
     'check': ('transcript_command', 16, 27),
     'extract': ('extract_command', 11, 21),
     'measure': ('measure_command', 16, 24),
+    'audit': ('audit_command', 20, 28),
     'follow': ('follow_command', 14, 22),
     'explain': ('explain_command', 27, 36),
 }

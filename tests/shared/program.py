@@ -9,7 +9,7 @@ import typing
 TOP = pathlib.Path(__file__).resolve().parents[2]
 EXAMPLES = TOP / 'examples'
 PROGRAM = pathlib.Path(os.environ.get('PTPX', TOP / 'crates/ptpx/out/ptpx')).resolve()
-sys.path += [str(TOP / 'tests' / it) for it in ('hostile', 'captures', 'follow')]
+sys.path += [str(TOP / 'tests' / it) for it in ('hostile', 'captures', 'follow', 'monitor')]
 
 
 # How long a line may take that is waited for, in seconds.

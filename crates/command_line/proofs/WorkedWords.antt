@@ -13,7 +13,7 @@ use Rattle.capture_file.specs.Name.{interface_name}
 use Rattle.command_line.specs.Limit.{limit_of}
 use Rattle.command_line.specs.Number.{domain_of}
 use Rattle.command_line.specs.PortText.{port_identity_of}
-use Rattle.command_line.specs.declared.commands.Subcommand.TheVariants.{Show, Replay, Check, Extract, Measure, Follow, Explain}
+use Rattle.command_line.specs.declared.commands.Subcommand.TheVariants.{Show, Replay, Check, Extract, Measure, Audit, Follow, Explain}
 
 -- ---- words of the program
 
@@ -110,6 +110,24 @@ rows_of_sums = no_options (codes "ptpx" ∷ codes "follow" ∷ codes "--sum" ∷
 limit_below_0 : NamesNothing (codes "ptpx" ∷ codes "follow" ∷ codes "--limit=-1" ∷ [])
 unfolding clap_on_literals walk_fault walked hex_on_literals chars faults_in named_in
 limit_below_0 = no_options (codes "ptpx" ∷ codes "follow" ∷ codes "--limit=-1" ∷ []) refl
+
+audited : Names (codes "ptpx" ∷ codes "audit" ∷ codes "--offset-only" ∷ codes "--tolerance=0.5" ∷ codes "--slave" ∷ codes "00aabbfffeccddee/1" ∷ [])
+    (Audit (record {
+      slave = Some (record { clock = 0 ∷ 170 ∷ 187 ∷ 255 ∷ 254 ∷ 204 ∷ 221 ∷ 238 ∷ []; port = 1 });
+      master = None;
+      domain = None;
+      interface = None;
+      readings = None;
+      tolerance = Some 32768000000000;
+      csv = false;
+      offset_only = true;
+    }))
+unfolding clap_on_literals walk_fault walked hex_on_literals chars faults_in named_in
+audited = (refl, refl)
+
+limit_of_audit : NamesNothing (codes "ptpx" ∷ codes "audit" ∷ codes "--limit" ∷ codes "1" ∷ [])
+unfolding clap_on_literals walk_fault walked hex_on_literals chars faults_in named_in
+limit_of_audit = refused (codes "ptpx" ∷ codes "audit" ∷ codes "--limit" ∷ codes "1" ∷ []) kind.UnknownArgument [] refl
 
 explained : Names (codes "ptpx" ∷ codes "explain" ∷ codes "--json" ∷ codes "--first" ∷ [])
     (Explain (record { first = true; json = true }))

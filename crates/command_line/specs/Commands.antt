@@ -5,7 +5,8 @@ use Rattle.clap.specs.Simple.{App}
 use Rattle.clap.specs.Walk as matches
 use Rattle.clap.specs.Walk.{Text}
 use Rattle.command_line.specs.declared.commands.Subcommand.{Subcommand}
-use Rattle.command_line.specs.declared.commands.Subcommand.TheVariants.{Show, Replay, Check, Extract, Measure, Follow, Explain}
+use Rattle.command_line.specs.declared.commands.Subcommand.TheVariants.{Show, Replay, Check, Extract, Measure, Audit, Follow, Explain}
+use Rattle.command_options.specs.declared.AuditOptions.{AuditOptions}
 use Rattle.command_options.specs.declared.ExplainOptions.{ExplainOptions}
 use Rattle.command_options.specs.declared.ExtractOptions.{ExtractOptions}
 use Rattle.command_options.specs.declared.FollowOptions.{FollowOptions}
@@ -29,6 +30,11 @@ subcommands =
       codes "measure",
       with_value (codes "slave") ∷ with_value (codes "master") ∷ with_value (codes "domain") ∷ with_value (codes "interface")
           ∷ with_value (codes "readings") ∷ with_value (codes "limit") ∷ flag (codes "csv") ∷ flag (codes "full") ∷ flag (codes "strict") ∷ flag (codes "sum") ∷ [],
+    )
+    ∷ (
+      codes "audit",
+      with_value (codes "slave") ∷ with_value (codes "master") ∷ with_value (codes "domain") ∷ with_value (codes "interface")
+          ∷ with_value (codes "readings") ∷ with_value (codes "tolerance") ∷ flag (codes "csv") ∷ flag (codes "offset-only") ∷ [],
     )
     ∷ (
       codes "follow",
@@ -65,6 +71,26 @@ measure_options_of rows = option_and_then (λ slave. option_and_then (λ master.
     })
     (sum_alone (is_used (codes "csv") rows) (is_used (codes "full") rows) (is_used (codes "sum") rows)))
     (said limit_of (codes "limit") rows))
+    (said readings_of (codes "readings") rows))
+    (said interface_name (codes "interface") rows))
+    (said domain_of (codes "domain") rows))
+    (said port_identity_of (codes "master") rows))
+    (said port_identity_of (codes "slave") rows)
+
+-- the options of `audit`, where each value is one
+abbrev pub audit_options_of : List matches.Row → Option AuditOptions
+audit_options_of rows = option_and_then (λ slave. option_and_then (λ master. option_and_then (λ domain.
+    option_and_then (λ interface. option_and_then (λ readings. option_map (λ tolerance. record {
+      slave = slave;
+      master = master;
+      domain = domain;
+      interface = interface;
+      readings = readings;
+      tolerance = tolerance;
+      csv = is_used (codes "csv") rows;
+      offset_only = is_used (codes "offset-only") rows;
+    })
+    (said limit_of (codes "tolerance") rows))
     (said readings_of (codes "readings") rows))
     (said interface_name (codes "interface") rows))
     (said domain_of (codes "domain") rows))
@@ -108,6 +134,7 @@ chosen name rows =
     else if bytes_eq name (codes "check") then Some Check
     else if bytes_eq name (codes "extract") then option_map (λ options. Extract options) (extract_options_of rows)
     else if bytes_eq name (codes "measure") then option_map (λ options. Measure options) (measure_options_of rows)
+    else if bytes_eq name (codes "audit") then option_map (λ options. Audit options) (audit_options_of rows)
     else if bytes_eq name (codes "follow") then option_map (λ options. Follow options) (follow_options_of rows)
     else if bytes_eq name (codes "explain") then Some (Explain (explain_options_of rows))
     else None

@@ -5,6 +5,7 @@ ghost use Rattle.clap.specs.Simple.{subcommand_rows_of};
 ghost use Rattle.command_line.specs.Commands.{chosen_of, subcommands};
 ghost use Rattle.command_line.specs.Program.{row_of};
 
+mod audit;
 mod check;
 mod explain;
 mod extract;
@@ -13,6 +14,7 @@ mod measure;
 mod replay;
 mod show;
 
+use crate::commands::audit::audit_options;
 use crate::commands::explain::explain_options;
 use crate::commands::extract::extract_options;
 use crate::commands::follow::follow_options;
@@ -20,14 +22,17 @@ use crate::commands::measure::measure_options;
 use crate::options::WrongValue;
 use crate::table::SubcommandRow;
 use clap::ArgMatches;
-use command_options::{ExplainOptions, ExtractOptions, FollowOptions, MeasureOptions};
+use command_options::{
+    AuditOptions, ExplainOptions, ExtractOptions, FollowOptions, MeasureOptions,
+};
 
-static SUBCOMMANDS: [SubcommandRow; 7] = [
+static SUBCOMMANDS: [SubcommandRow; 8] = [
     show::ROW,
     replay::ROW,
     check::ROW,
     extract::ROW,
     measure::ROW,
+    audit::ROW,
     follow::ROW,
     explain::ROW,
 ];
@@ -45,6 +50,8 @@ pub enum Subcommand {
     Extract(ExtractOptions),
     /// Print what the datagrams that standard input gives, recorded at a slave, say of its clock.
     Measure(MeasureOptions),
+    /// Judge the results that standard input gives, by the readings that it gives.
+    Audit(AuditOptions),
     /// Print what happened to messages between two taps, which standard input gives.
     Follow(FollowOptions),
     /// Print what is wrong with the transcript or the schedule that standard input gives.
@@ -64,6 +71,8 @@ pub enum Help {
     Extract,
     /// That of `measure`.
     Measure,
+    /// That of `audit`.
+    Audit,
     /// That of `follow`.
     Follow,
     /// That of `explain`.
@@ -79,6 +88,7 @@ impl Help {
             Help::Check => check::HELP,
             Help::Extract => extract::HELP,
             Help::Measure => measure::HELP,
+            Help::Audit => audit::HELP,
             Help::Follow => follow::HELP,
             Help::Explain => explain::HELP,
         }
@@ -105,6 +115,10 @@ pub(crate) fn chosen<'a>(matches: &ArgMatches<'a>) -> Result<Option<Subcommand>,
         Some(("extract", options)) => Subcommand::Extract(extract_options(options)?),
         Some(("measure", options)) => match measure_options(options) {
             Ok(options) => Subcommand::Measure(options),
+            Err(wrong) => return Err(wrong),
+        },
+        Some(("audit", options)) => match audit_options(options) {
+            Ok(options) => Subcommand::Audit(options),
             Err(wrong) => return Err(wrong),
         },
         Some(("follow", options)) => match follow_options(options) {

@@ -5,6 +5,7 @@ ghost use Rattle.command_line.specs.Arguments.{AsksNothing, HasHelpFlag, Names, 
 ghost use Rattle.command_line.specs.Named.{EndsUnread};
 ghost use Rattle.text_lines.specs.Lines.{input_limit, lines_limit, GivesWithin};
 
+use audit_command::run_audit;
 use command_line::{Subcommand, named_subcommand};
 use explain_command::run_explain;
 use extract_command::run_extract;
@@ -74,6 +75,7 @@ fn run<R: Read, W: Write, E: Write>(
         Subcommand::Check => run_check(alloc, is_terminal, input, output, errors),
         Subcommand::Extract(options) => run_extract(alloc, options, input, output, errors),
         Subcommand::Measure(options) => run_measure(alloc, options, input, output, errors),
+        Subcommand::Audit(options) => run_audit(alloc, options, input, output, errors),
         Subcommand::Follow(options) => run_follow(alloc, options, input, output, errors),
         Subcommand::Explain(options) => run_explain(alloc, options, input, output, errors),
     }
