@@ -2,13 +2,14 @@
 """A plain judge of results that a slave reported, by its own readings: what `audit` owes, over fractions, and apart from all code of the
 repository.
 
-usage: judge.py [--tolerance NS] < LINES
+usage: judge.py [--tolerance NS] [--offset-only] < LINES
 
 LINES are datagrams, each a time, a blank and octets in hexadecimal, and results, each an object of JSON with `offset` and `path` in
 nanoseconds. Of datagrams Signaling messages of slave event monitoring are read (IEEE 1588-2019, 16.11): SLAVE_RX_SYNC_TIMING_DATA,
 0x8004, of which each record is a Sync that the slave took, and linuxptp's SLAVE_DELAY_TIMING_DATA_NP, 0x7f00, of which each record is an
-exchange. A result is of the newest Sync in front of it, or of the line or the sequenceId that it names. Each gets a line of JSON, and
-standard error tells why one is wrong or unjudged, and how many there are of each verdict.
+exchange. A Sync counts where there is an exchange, and an exchange where there is a Sync. A result is of the newest Sync in front of it,
+or, where it names a line or a sequenceId, of one that comes. Each gets a line of JSON, and standard error tells why one is wrong or
+unjudged, and at the end how many there are of each verdict.
 
 Lengths are nanoseconds. Of a Sync B = t2 - t1 - correction, of an exchange b = t4 - t3 - correction; by a Sync and an exchange
 meanPathDelay is (B + b) / 2.
@@ -18,40 +19,52 @@ import collections
 import json
 import re
 import sys
+import typing
 from fractions import Fraction
 
 SIGNALING = 12
 # By a TLV's type: of what its records are, and of how many octets each is. Of what it has the first is the master's portIdentity.
 KINDS = {0x8004: ('Sync', 34), 0x7f00: ('exchange', 30)}
-IDENTITY, HEADER = 10, 44
-# So many delays at responses are looked at, and so many numbers may be missing between two records of one life of their sender.
-NEWEST, NEAR = 16, 256
+IDENTITY, HEADER, CLOCK = 10, 44, slice(20, 28)
+# So many delays at responses are looked at, so many numbers may be missing between two records of one life of their sender, and so many
+# results are held.
+NEWEST, NEAR, HELD = 16, 256, 1024
+# Of so many sequenceIds those less than half a circle ahead are newer.
+CIRCLE = 65536
 DATAGRAM = re.compile(r'((?:0|[1-9][0-9]{0,14})(?:\.[0-9]{1,9})?) ((?:[0-9a-fA-F]{2})*)')
-NUMBER = re.compile(r'-?[0-9]{1,31}(\.[0-9]{1,16})?')
+NUMBER = re.compile(r'-?(0|[1-9][0-9]{0,23})(\.[0-9]{1,16})?')
+# No number here has more decimals.
+DECIMALS = 17
 VERDICTS = ('exact', 'within', 'filtered', 'older', 'wrong', 'unjudged')
+MEMBERS = ('beyond', 'line', 'offset', 'offset_error', 'path', 'path_error', 'path_is', 'sequence', 'sum_error', 'tags', 'time', 'verdict')
+NOT_WHOLE = 'not each of the last 16 delays at responses is known'
+NO_RESULT = 'no result: a line as {"offset":"-12.5","path":"1000"} is one'
+NO_SYNC = 'no Sync behind an exchange came before it'
 
 
 class Record:
     """A Sync or an exchange, as the slave has it, and the line in which it was told."""
 
-    def __init__(self, kind, octets, master, line, time):
-        def nanoseconds(place):
-            return int.from_bytes(octets[place:place + 6], 'big') * 10**9 + int.from_bytes(octets[place + 6:place + 10], 'big')
+    def __init__(self, kind, octets, master, line):
+        def whole(place, size):
+            return int.from_bytes(octets[place:place + size], 'big')
 
-        self.kind, self.master, self.line, self.time = kind, master, line, time
-        self.number = int.from_bytes(octets[:2], 'big')
+        self.kind, self.master, self.line = kind, master, line
+        self.number = whole(0, 2)
         correction = Fraction(int.from_bytes(octets[12:20], 'big', signed=True), 1 << 16)
         # Between the two times of a Sync scaledCumulativeRateOffset stands, too.
-        left, arrived = nanoseconds(2), nanoseconds(24 if kind == 'Sync' else 20)
+        last = 24 if kind == 'Sync' else 20
+        left, arrived = (whole(it, 6) * 10**9 + whole(it + 6, 4) for it in (2, last))
         self.bracket = arrived - left - correction
-        # Of a Sync: its place among all, the newest exchange, and the delays at the last responses, newest first, None where not known.
-        self.place, self.exchange, self.responses = None, None, ()
-        # Numbers that are missing between this record and the next one of its kind.
-        self.missing_behind = ()
+        self.arrived = f'{whole(last, 6)}.{whole(last + 6, 4):09}'
+        # What it comes to where there is a record of the other kind in front of it: its place among all of these, what is missing between it
+        # and the one of its kind before; of a Sync also the newest exchange, and the delays at the last responses, newest first, None where one
+        # isn't known.
+        self.place, self.gap, self.exchange, self.delays = None, None, None, ()
 
 
 def records(octets):
-    """The kind, the octets and the master of each record of a datagram: none where a length doesn't fit."""
+    """The kind, the octets and the master of each record of a datagram: none where a length doesn't fit, or nanoseconds make a second."""
     if len(octets) < HEADER or octets[0] % 16 != SIGNALING or octets[1] % 16 != 2:
         return []
     length = int.from_bytes(octets[2:4], 'big')
@@ -67,13 +80,28 @@ def records(octets):
         if kind:
             found += [(kind, value[it:it + of_record], value[:IDENTITY]) for it in range(IDENTITY, size, of_record)]
         place += 4 + size
+    if any(int.from_bytes(it, 'big') >= 10**9 for _, them, _ in found for it in (them[8:12], them[-4:])):
+        return []
+    return found
+
+
+def watched(datagrams):
+    """The records of each of these datagrams, by its line: of the slave that is the first to tell any, in the domain of its first Sync, and
+    of the master of that."""
+    told = [(line, octets, it) for line, octets in datagrams for it in records(octets)]
+    told = [it for it in told if it[1][CLOCK] == told[0][1][CLOCK]]
+    first = next((it for it in told if it[2][0] == 'Sync'), None)
+    found = {line: [] for line, _ in datagrams}
+    for line, octets, (kind, them, master) in told:
+        if first and (octets[4], master) == (first[1][4], first[2][2]):
+            found[line].append(Record(kind, them, master, line))
     return found
 
 
 def missing(last, number):
     """The numbers between that of the last record of a kind and this one, or None where one of them began anew."""
-    ahead = (number - last) % 65536
-    return [(last + it) % 65536 for it in range(1, ahead)] if 1 <= ahead <= NEAR else None
+    ahead = (number - last) % CIRCLE
+    return [(last + it) % CIRCLE for it in range(1, ahead)] if 1 <= ahead <= NEAR else None
 
 
 def delay(sync, exchange):
@@ -84,36 +112,48 @@ class Slave:
     """What a slave has told of its readings so far."""
 
     def __init__(self):
-        self.syncs = []
-        self.domain = None
-        self.forget()
-
-    def forget(self):
+        # The last record of each kind that came, with those that count nothing; and those that count, in order.
+        self.heard, self.counted = {}, []
+        # Of those that count the number of the last one of each kind.
         self.last = {}
-        # Delays at the last responses, newest first; those since the last Sync are of a Sync that may be missing.
-        self.responses, self.since = collections.deque(maxlen=NEWEST), 0
+        # The pair by which the next one counts: none of those that came before one of the two began anew.
+        self.pair = {}
+        # Delays at the last responses, newest first, of which so many came since the last Sync. Those before the first aren't known, for a slave
+        # may have run long before; nor are those before numbers began anew, of which a filter may still know.
+        self.delays, self.since = [], 0
 
     def take(self, record):
-        last = self.last.get(record.kind)
-        gap = missing(last.number, record.number) if last else []
-        if gap is None or any(it.master != record.master for it in self.last.values()):
-            self.forget()
-            gap = []
-        elif last:
-            last.missing_behind = gap
-        self.last[record.kind] = record
-        if record.kind == 'Sync':
-            if gap:
-                for it in range(min(self.since, len(self.responses))):
-                    self.responses[it] = None
-            self.since = 0
-            record.place, record.exchange, record.responses = len(self.syncs), self.last.get('exchange'), tuple(self.responses)
-            self.syncs.append(record)
+        kind = record.kind
+        if kind in self.heard and record.number == self.heard[kind].number:
+            return
+        if kind in self.heard and missing(self.heard[kind].number, record.number) is None:
+            self.pair, self.delays, self.since = {}, [], 0
+        self.heard[kind] = self.pair[kind] = record
+        if len(self.pair) < 2:
+            return
+        gap = missing(self.last[kind], record.number) if kind in self.last else []
+        record.place, record.gap = len(self.counted), gap
+        self.counted.append(record)
+        if gap is None:
+            self.delays, self.since = [], 0
+        if kind == 'Sync':
+            self.take_sync(record)
         else:
-            sync = self.last.get('Sync')
-            for value in [None] * len(gap) + [sync and delay(sync, record)]:
-                self.responses.appendleft(value)
-                self.since += 1
+            self.take_exchange(record)
+        self.last |= {kind: record.number, 'exchange': self.pair['exchange'].number}
+
+    def take_sync(self, sync):
+        """One that is missing may be that by which the delays since the one before were."""
+        if sync.gap and self.since:
+            self.delays[:self.since] = [None]
+        self.since = 0
+        sync.exchange, sync.delays = self.pair['exchange'], tuple(self.delays)
+
+    def take_exchange(self, exchange):
+        """Those that are missing, however many, are one delay that isn't known."""
+        new = [delay(self.pair['Sync'], exchange)] + [None] * bool(exchange.gap)
+        self.delays = (new + self.delays)[:NEWEST]
+        self.since += len(new)
 
 
 def median(values):
@@ -121,29 +161,29 @@ def median(values):
     return (values[(len(values) - 1) // 2] + values[len(values) // 2]) / 2
 
 
-def named_delays(sync):
+def named_delays(latest, known):
     """What `path_is` may be, the first that fits counts."""
-    yield 'latest', delay(sync, sync.exchange)
-    for count, it in enumerate(sync.responses, 1):
-        if it is not None:
-            yield f'response {count}', it
+    yield 'latest', latest
+    for count, it in enumerate(known, 1):
+        yield f'response {count}', it
     for name, of in (('median', median), ('mean', lambda them: sum(them) / len(them))):
-        for count in range(2, len(sync.responses) + 1):
-            if None not in sync.responses[:count]:
-                yield f'{name} {count}', of(sync.responses[:count])
+        for count in range(2, len(known) + 1):
+            yield f'{name} {count}', of(known[:count])
 
 
 def verdict(sync, offset, path, tolerance):
-    """What a result is at a Sync that has an exchange: the members that are told of it, and why it is wrong or unjudged."""
-    latest = delay(sync, sync.exchange)
-    known = [it for it in sync.responses if it is not None]
+    """What a result is at a Sync: the members that are told of it, and why it is wrong. Where it has no path, that is what makes its
+    offset."""
+    has_path, path = path is not None, sync.bracket - offset if path is None else path
+    latest, known = delay(sync, sync.exchange), [it for it in sync.delays if it is not None]
     least, greatest = min([latest, *known]), max([latest, *known])
     beyond = max(least - path, path - greatest, Fraction(0))
     offset_error, path_error = offset - (sync.bracket - latest), path - latest
     sum_error = offset + path - sync.bracket
-    path_is = next((name for name, it in named_delays(sync) if abs(path - it) <= tolerance), 'outside' if beyond > tolerance else 'between')
+    path_is = next((name for name, it in named_delays(latest, known) if abs(path - it) <= tolerance), 'outside' if beyond > tolerance else 'between')
     said = {'beyond': beyond, 'offset_error': offset_error, 'path_error': path_error, 'path_is': path_is, 'sum_error': sum_error}
     sum_fits, offset_fits = abs(sum_error) <= tolerance, abs(offset_error) <= tolerance
+    off = decimals(offset_error)
     if offset_error == path_error == 0:
         return said, 'exact', ''
     if offset_fits and abs(path_error) <= tolerance:
@@ -152,23 +192,23 @@ def verdict(sync, offset, path, tolerance):
         return said, 'filtered', ''
     if offset_fits and any(abs(path - it) <= tolerance for it in known):
         return said, 'older', ''
-    for kind, record in (('Sync', sync), ('exchange', sync.exchange)):
-        if record.missing_behind:
-            return said, 'unjudged', f'{kind} {record.missing_behind[0]} is missing'
-    if len(known) < len(sync.responses) and (sum_fits or offset_fits):
-        return said, 'unjudged', 'a delay at one of the last responses is not known, since a Sync or an exchange is missing'
+    if len(known) < NEWEST and (sum_fits or offset_fits):
+        return said, 'unjudged', NOT_WHOLE
+    if not has_path:
+        return said, 'wrong', f'offset is {off} ns from that by the newest delay, and by none within the newest ones'
     if sum_fits:
-        return said, 'wrong', f'offset is by path, which lies {decimals(beyond)} outside of the newest delays'
+        return said, 'wrong', f'offset is by path, which lies {decimals(beyond)} ns outside of the newest delays'
     if offset_fits:
-        return said, 'wrong', f'offset is by the newest delay; path is {decimals(path_error)} from that, and none at the last responses'
-    return said, 'wrong', f'offset is {decimals(sum_error)} from that by path, and {decimals(offset_error)} from that by the newest delay'
+        return said, 'wrong', f'offset is by the newest delay; path is {decimals(path_error)} ns from that, and none at the last responses'
+    return said, 'wrong', f'offset is {decimals(sum_error)} ns from that by path, and {off} ns from that by the newest delay'
 
 
 def decimals(value):
-    """A fraction of a power of two, with all its decimals."""
-    places = Fraction(value).denominator.bit_length() - 1
-    digits = str(abs(value.numerator) * 5**places).rjust(places + 1, '0')
-    return ('-' if value < 0 else '') + (f'{digits[:-places]}.{digits[-places:]}' if places else digits)
+    """A number with all its decimals."""
+    value = Fraction(value) * 10**DECIMALS
+    assert value.denominator == 1, value
+    whole, rest = divmod(abs(value.numerator), 10**DECIMALS)
+    return ('-' if value < 0 else '') + f'{whole}.{rest:0{DECIMALS}}'.rstrip('0').rstrip('.')
 
 
 def number(value):
@@ -177,69 +217,167 @@ def number(value):
     return Fraction(value)
 
 
-def read(lines, slave):
-    """Each result with what it is of: the Sync, or why there is none. What is neither a datagram nor a result is an error."""
-    results, by_line, by_number = [], {}, {}
+class Told:
+    """A result, and when it is judged, by which Sync, or why there is none."""
+
+    def __init__(self, line, said, moment):
+        self.line, self.said, self.moment, self.sync, self.why = line, said, moment, None, ''
+        self.names = 'sequence' in said or 'line' in said
+
+    def is_settled(self, newest, read, is_end):
+        """Whether its Sync is known where this one is the newest and so many lines were read; where nothing comes any more, it has to be."""
+        if 'sequence' in self.said:
+            wanted = int(self.said['sequence'])
+            ahead = (wanted - newest.number) % CIRCLE if newest else 1
+            if ahead and ahead < CIRCLE // 2 and not is_end:
+                return False
+            self.sync, self.why = (None, f'no Sync {wanted} came for it') if ahead else (newest, '')
+            return True
+        wanted = int(self.said.get('line', read))
+        if read < wanted and not is_end:
+            return False
+        if not newest:
+            self.why = NO_SYNC
+        elif self.names and wanted < newest.line:
+            self.why = f'a Sync behind line {wanted} came already, since results before it are of later ones'
+        else:
+            self.sync = newest
+        return True
+
+
+class Moment(typing.NamedTuple):
+    """What is known between two things that come: the newest Sync, and how many lines were read; and the line behind which it is."""
+    newest: Record
+    read: int
+    line: int
+
+
+def read(lines):
+    """The records that count, in order, all moments, and the results in the order in which they are judged. What is neither a datagram nor a
+    result is an error."""
+    datagrams, results = [], []
     for count, line in enumerate(lines, 1):
         line = line.rstrip('\r\n')
         if line.startswith('{'):
-            said = json.loads(line, parse_float=str, parse_int=str)
-            results.append((count, said, slave.syncs[-1] if slave.syncs else None))
+            results.append((count, json.loads(line, parse_float=str, parse_int=str)))
             continue
         parts = DATAGRAM.fullmatch(line)
         if not parts:
             raise ValueError(f'line {count} is neither a datagram nor a result')
-        octets = bytes.fromhex(parts[2])
-        for kind, them, master in records(octets):
-            slave.domain = octets[4] if slave.domain is None else slave.domain
-            if octets[4] == slave.domain:
-                slave.take(record := Record(kind, them, master, count, parts[1]))
-                if kind == 'Sync':
-                    by_number.setdefault(record.number, record)
-        by_line[count] = slave.syncs[-1] if slave.syncs else None
-    for count, said, sync in results:
-        why = 'no Sync came before it'
-        if 'sequence' in said:
-            sync, why = by_number.get(int(said['sequence'])), f'no Sync {said["sequence"]} came'
-        elif 'line' in said:
-            sync, why = by_line.get(int(said['line'])), f'no Sync came up to line {said["line"]}'
-        yield count, said, sync, why
+        datagrams.append((count, bytes.fromhex(parts[2])))
+    slave, newest, moments = Slave(), None, [Moment(None, 0, 0)]
+    for count, those in watched(datagrams).items():
+        for it in those:
+            slave.take(it)
+            if it.place is not None:
+                moments.append(Moment(newest, count - 1, count))
+                newest = it if it.kind == 'Sync' else newest
+                moments.append(Moment(newest, count - 1, count))
+        moments.append(Moment(newest, count, count))
+    moments.append(Moment(newest, len(lines), len(lines)))
+    return slave.counted, moments, sorted(settled(results, moments), key=lambda it: (it.moment, it.line))
 
 
-def judged(lines, tolerance):
-    """Each result: its own line, its verdict, why it is wrong or unjudged, and the members of its line of JSON."""
-    slave = Slave()
-    for count, said, sync, why in read(lines, slave):
-        offset, path = number(said['offset']), number(said['path'])
-        told = dict.fromkeys(('beyond', 'line', 'offset_error', 'path_error', 'path_is', 'sequence', 'sum_error', 'tags', 'time'))
-        name = 'unjudged'
-        if sync:
-            tags = [sync.line, sync.exchange and sync.exchange.line]
-            told |= {'line': sync.line, 'sequence': sync.number, 'tags': tags, 'time': sync.time}
-            why = 'no exchange came before its Sync'
-        if sync and sync.exchange:
-            more, name, why = verdict(sync, offset, path, tolerance)
-            told |= {key: decimals(it) if isinstance(it, Fraction) else it for key, it in more.items()}
-            others = slave.syncs[max(0, sync.place - NEWEST):sync.place + NEWEST + 1] if name == 'wrong' else ()
-            for it in sorted((it for it in others if it.exchange), key=lambda it: abs(it.place - sync.place)):
-                if (other := verdict(it, offset, path, tolerance)[1]) in VERDICTS[:4]:
-                    why += f'; at Sync {it.number}, on line {it.line}, it would be {other}'
-                    break
-        told |= {'offset': decimals(offset), 'path': decimals(path), 'verdict': name}
-        yield count, name, why, dict(sorted(told.items()))
+def settled(results, moments):
+    """Each result with the moment at which it is judged. One that names its Sync waits for those before it that do."""
+    came, waiting, end = 0, 0, len(moments) - 1
+    for line, said in results:
+        while came + 1 < end and moments[came + 1].line < line:
+            came += 1
+        it = Told(line, said, came)
+        if it.names:
+            it.moment = max(came, waiting)
+        while not it.is_settled(*moments[it.moment][:2], it.moment == end):
+            it.moment += 1
+        if it.names:
+            waiting = it.moment
+        yield it
+
+
+def excuse(sync, counted, until, is_of_offset):
+    """What is missing beside a Sync and its exchange, as the next ones tell that come up to a line; where no Sync does, an offset alone may be
+    that of one that is missing."""
+    waits = ['Sync', 'exchange']
+    for it in counted[sync.place + 1:]:
+        if it.line > until or not waits:
+            break
+        if it.kind not in waits:
+            continue
+        waits.remove(it.kind)
+        if it.gap is None:
+            return f'the numbers of {"Syncs" if it.kind == "Sync" else "Delay_Reqs"} began anew behind its own'
+        if it.gap:
+            return f'Sync {it.gap[0]} is missing' if it.kind == 'Sync' else f'the exchange of Delay_Req {it.gap[0]} is missing'
+    return 'no Sync came behind its own, so it may be of one that is missing' if 'Sync' in waits and is_of_offset else ''
+
+
+class Answer(typing.NamedTuple):
+    """A result: its own line, its verdict, why it is wrong or unjudged, and the members of its line of JSON."""
+    line: int
+    verdict: str
+    why: str
+    told: dict
+
+
+def answer(it, counted, until, tolerance, has_path):
+    """What is said of a result, which is held until this line has come."""
+    offset, path = number(it.said['offset']), number(it.said['path']) if has_path else None
+    told, name, why = dict.fromkeys(MEMBERS), 'unjudged', it.why
+    if sync := it.sync:
+        more, name, why = verdict(sync, offset, path, tolerance)
+        is_of_offset = not has_path or all(abs(more[key]) > tolerance for key in ('offset_error', 'sum_error'))
+        if name == 'wrong' and (missed := excuse(sync, counted, until, is_of_offset)):
+            name, why = 'unjudged', missed
+        exchange = sync.exchange.line
+        told |= {'line': sync.line, 'sequence': sync.number, 'tags': [sync.line, None, exchange, exchange], 'time': sync.arrived, **more}
+        if not has_path:
+            told |= {'path_error': None, 'sum_error': None}
+    told |= {'offset': offset, 'path': path, 'verdict': name}
+    return Answer(it.line, name, why, {key: decimals(value) if isinstance(value, Fraction) else value for key, value in told.items()})
+
+
+def audited(lines, tolerance, has_path=True):
+    """What is said of each result, in order, and what is told on standard error."""
+    lines = list(lines)
+    counted, moments, results = read(lines)
+    untils = [moments[it.moment].line for it in results[HELD:]] + [len(lines)] * HELD
+    answers = [answer(it, counted, until, tolerance, has_path) for it, until in zip(results, untils)]
+    syncs = sum(it.kind == 'Sync' for it in counted) - len({it.sync.place for it in results if it.sync})
+    return answers, [*(f'line {it.line}: {it.verdict}: {it.why}' for it in answers if it.why), *summary(answers, syncs)]
+
+
+def judged(lines, tolerance, has_path=True):
+    return audited(lines, tolerance, has_path)[0]
+
+
+def summary(answers, without):
+    """What is told at the end, where so many Syncs have no result."""
+    counts = collections.Counter(it.verdict for it in answers)
+    several = f'{len(answers)} result{"" if len(answers) == 1 else "s"}' if answers else NO_RESULT
+    yield ', '.join([several, *(f'{counts[it]} {it}' for it in VERDICTS if counts[it])])
+    # The first of those whose offset is farthest off, by the newest delay or by path, whatever is nearer.
+    wrong = [(min(abs(Fraction(it.told[key])) for key in ('offset_error', 'sum_error') if it.told[key]), it.line)
+             for it in answers if it.verdict == 'wrong']
+    if wrong:
+        off, line = max(wrong, key=lambda it: it[0])
+        yield f'the worst is that of line {line}, whose offset is {decimals(off)} ns off at the least'
+    if without and answers:
+        yield f'no result of {without} Sync{"" if without == 1 else "s"}'
+    if answers:
+        yield "by the slave's own readings"
 
 
 def main():
     parser = argparse.ArgumentParser(description=__doc__, formatter_class=argparse.RawDescriptionHelpFormatter)
     parser.add_argument('--tolerance', type=number, default=Fraction(1))
-    counts = collections.Counter()
-    for count, name, why, told in judged(sys.stdin, parser.parse_args().tolerance):
-        counts[name] += 1
-        print(json.dumps(told, separators=(',', ':')))
-        if why:
-            print(f'judge: line {count}: {name}: {why}', file=sys.stderr)
-    print('judge: ' + ', '.join(f'{counts[it]} {it}' for it in VERDICTS), file=sys.stderr)
-    return counts['wrong'] > 0
+    parser.add_argument('--offset-only', action='store_true')
+    given = parser.parse_args()
+    answers, told = audited(sys.stdin, given.tolerance, not given.offset_only)
+    for it in answers:
+        print(json.dumps(it.told, separators=(',', ':')))
+    for it in told:
+        print(f'judge: {it}', file=sys.stderr)
+    return any(it.verdict == 'wrong' for it in answers)
 
 
 if __name__ == '__main__':

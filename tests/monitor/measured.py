@@ -19,7 +19,7 @@ def reports(lines, slave=None):
             continue
         slave = octets[20:28]
         for kind, them, master in told:
-            record = judge.Record(kind, them, master, count, None)
+            record = judge.Record(kind, them, master, count)
             if kind == 'Sync':
                 sync = record
             else:

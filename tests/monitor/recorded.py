@@ -35,7 +35,7 @@ def run(name):
         take()
     for octets in datagrams:
         [(kind, them, master)] = judge.records(octets)
-        record = judge.Record(kind, them, master, None, None)
+        record = judge.Record(kind, them, master, None)
         ordered.append(octets)
         if kind == 'exchange':
             exchange = record
