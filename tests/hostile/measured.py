@@ -1,6 +1,6 @@
 """A reader of recordings that was written apart from the program: what `measure` owes for an input and its options.
 That is what goes to standard output, the fault if there is one, what became of the datagrams of each kind, and what is
-told at the end."""
+told at the end. A slave's own readings are read by the records of tests/monitor/judge.py."""
 import collections
 import itertools
 import re
@@ -8,10 +8,11 @@ import typing
 from fractions import Fraction
 
 import announces
+import judge
 import shown
 import texts
 import worth
-from shown import message
+from shown import Message, message
 from told import compact
 from worth import nanoseconds
 
@@ -29,15 +30,17 @@ LOST = 16
 # A second, in units.
 SECOND = 10**9 * 2**16
 
-# A line: seconds, their decimals and the octets.
-LINE = re.compile(rb'(0|[1-9][0-9]{0,14})(?:\.([0-9]{1,9}))? ((?:[0-9a-fA-F]{2})*)')
+# A time: seconds and their decimals. A line: a time and the octets.
+TIME = re.compile(rb'(0|[1-9][0-9]{0,14})(?:\.([0-9]{1,9}))?')
+LINE = re.compile(TIME.pattern + rb' ((?:[0-9a-fA-F]{2})*)')
 
 # An identity as `show` prints it, and as pmc does.
 IDENTITIES = [re.compile(form) for form in (
     r'([0-9a-fA-F]{16})/([0-9]{1,5})', r'([0-9a-fA-F]{6}\.[0-9a-fA-F]{4}\.[0-9a-fA-F]{6})-([0-9]{1,5})')]
 
-# A line with what it said, and its octets; and what completed on either side, with the tick at which it did, when it left and came, and its corrections.
-Read = collections.namedtuple('Read', 'place time units said octets')
+# A line with what it said, its octets, and whether it is a slave's own reading; and what completed on either side, with the tick at which it did, when it
+# left and came, and its corrections.
+Read = collections.namedtuple('Read', 'place time units said octets is_own', defaults=[False])
 Completed = collections.namedtuple('Completed', 'tick bracket tags sequence left came correction')
 
 # The columns of a row, and those of it in full.
@@ -52,10 +55,14 @@ class Options(typing.NamedTuple):
     domain: int = None
     csv: bool = False
     full: bool = False
+    readings: str = None
+    limit: Fraction = None
+    strict: bool = False
 
 
 class Measured(typing.NamedTuple):
-    """What is owed: the output, the fault with its line, the counts, and what is told as soon as it is known, before the fault, and at the end."""
+    """What is owed: the status and the output, the fault with its line, the counts, and what is told as soon as it is known, before the fault, and at the end."""
+    status: int
     output: bytes
     fault: tuple
     counts: collections.Counter
@@ -102,16 +109,20 @@ def options(arguments):
     """What these arguments after `measure` say, or None where they are no command."""
     said, rest = {}, []
     for one in arguments:
-        rest += one.split('=', 1) if re.match('--(slave|master|domain)=', one) else [one]
+        rest += one.split('=', 1) if re.match('--(slave|master|domain|readings|limit)=', one) else [one]
     while rest:
         name = rest.pop(0)
-        if name[2:] in said or name not in ('--slave', '--master', '--domain', '--csv', '--full'):
+        if name[2:] in said or name not in ('--slave', '--master', '--domain', '--readings', '--limit', '--csv', '--full', '--strict'):
             return None
-        value = True if name in ('--csv', '--full') else rest.pop(0) if rest else ''
+        value = True if name in ('--csv', '--full', '--strict') else rest.pop(0) if rest else ''
         if name in ('--slave', '--master'):
             value = identity(value)
         elif name == '--domain':
             value = int(value) if re.fullmatch('[0-9]{1,3}', value) and int(value) < 256 else None
+        elif name == '--readings':
+            value = value if value in ('own', 'capture') else None
+        elif name == '--limit':
+            value = Fraction(value) if TIME.fullmatch(value.encode()) and int(value.split('.')[0]) < 2**48 else None
         if value is None:
             return None
         said[name[2:]] = value
@@ -387,6 +398,7 @@ class Measurer:
         synced, answered = self.port.synced, self.port.answered
         correction = answered.correction if by == 'response' else synced.correction
         self.reports.append(worth.Report(read.place, read.units, by, offset2, path2, correction, abs(synced.came - answered.left)))
+        by = f'own {by}' if read.is_own else by
         if self.csv:
             columns = ''.join(f',{it}' for it in self.exchange().values()) if self.full else ''
             return f'{read.time},{nanoseconds(offset2)},{nanoseconds(path2)},{by},{read.place}{columns}\n'
@@ -413,6 +425,43 @@ def read(place, line):
     units = (int(said[1]) * 10**9 + int(decimals)) * 2**16
     octets = bytes.fromhex(said[3].decode())
     return Read(place, time, units, message(octets), octets), None
+
+
+def own_messages(read, slave):
+    """The messages that the readings of a slave stand for which a line tells, each at the time that its clock read."""
+    def heard(kind, source, at, correction, stamp, requesting=None):
+        said = Message(kind, read.octets[4], False, False, correction, source, shown.number(record[:2]), stamp * 2**16, requesting, 127, 0)
+        return Read(read.place, texts.seconds(at), at * 2**16, said, b'', True)
+
+    for kind, record, master in judge.records(read.octets):
+        first, last = (shown.number(it[:6]) * 10**9 + shown.number(it[6:]) for it in (record[2:12], record[-10:]))
+        correction = int.from_bytes(record[12:20], 'big', signed=True)
+        if kind == 'Sync':
+            yield heard('Sync', master, last, correction, first)
+        else:
+            yield heard('Delay_Req', slave, first, 0, first)
+            yield heard('Delay_Resp', master, first, correction, last, slave)
+
+
+def by_readings(lines, given):
+    """What is told beforehand, and what is heard in place of these lines where a slave's own readings are measured: those that are asked for, or those of
+    the first that tells any before there is a report."""
+    def slave_of(read):
+        return given.slave or read.octets[20:30]
+
+    told = [(place, read) for place, read in enumerate(lines) if isinstance(read.said, str) and judge.records(read.octets)
+            and given.domain in (None, read.octets[4]) and (given.slave is None or read.octets[20:28] == given.slave[:8])]
+    if given.readings == 'capture' or not told and not given.readings:
+        return [], lines
+    sentences = []
+    if not given.readings:
+        first, read = told[0]
+        before = reckoned(lines[:first], given)
+        if before.counts['reports']:
+            return [], lines
+        sentences = [*before.at_once, f"by the slave's own readings, which line {read.place} is the first to tell; --readings capture measures what was captured"]
+    own = [read for _, read in told if slave_of(read) == slave_of(told[0][1])]
+    return sentences, [it for read in own for it in own_messages(read, slave_of(read))]
 
 
 def kind_of(said):
@@ -476,11 +525,12 @@ def summary(counts, reads, written, became, announced, unit='line'):
 
 class Reckoned(typing.NamedTuple):
     """What is owed for lines that were read: the reports in order as they are written, what became of each line, what is told as soon as it is known,
-    and at the end."""
+    and at the end; and how far from 0 the farthest offset is, in nanoseconds."""
     written: list
     counts: collections.Counter
     at_once: list
     told: list
+    farthest: Fraction
 
 
 def reckoned(lines, given=Options(), unit='line'):
@@ -505,9 +555,9 @@ def reckoned(lines, given=Options(), unit='line'):
     reports, became, announced = (measurer.reports, measurer.became, measurer.announced) if measurer else ([], [], [])
     those, told = list(whom(watch, unit)), list(summary(counts.copy(), reads, reports, became, announced, unit))
     if measurer and reads:
-        return Reckoned(written, counts, those, told)
+        return Reckoned(written, counts, those, told, Fraction(max((abs(it.offset2) for it in reports), default=0), 2**17))
     messages = [said for _, said in reads if not isinstance(said, str)]
-    return Reckoned(written, counts, [], those + told + (list(callers(given, messages)) if reads else []))
+    return Reckoned(written, counts, [], those + told + (list(callers(given, messages)) if reads else []), Fraction(0))
 
 
 def measured(text, given=Options()):
@@ -520,6 +570,9 @@ def measured(text, given=Options()):
             break
         lines.append(told)
     head = [f'{HEAD}{FULL if given.full else ""}\n'] if given.csv else []
-    owed = reckoned(lines, given)
-    at_once, told = (texts.told(those).encode() for those in (owed.at_once, owed.told))
-    return Measured(''.join(itertools.chain(head, owed.written)).encode(), fault, owed.counts, at_once, told)
+    sentences, heard = by_readings(lines, given)
+    owed = reckoned(heard, given)
+    at_once, told = (texts.told(those).encode() for those in (sentences + owed.at_once, owed.told))
+    is_doubtful = not owed.counts['reports'] or any(it.startswith('beware: ') for it in owed.told)
+    is_refused = given.limit is not None and owed.farthest > given.limit or given.strict and is_doubtful
+    return Measured(3 if fault else int(is_refused), ''.join(itertools.chain(head, owed.written)).encode(), fault, owed.counts, at_once, told)

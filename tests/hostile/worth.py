@@ -52,10 +52,13 @@ class Became(typing.NamedTuple):
 
 class Shift(typing.NamedTuple):
     """A step in values: the place of the first value behind it, by how much the mean behind it is above that before, in thousandths of a nanosecond, and
-    what part of how the values vary it explains."""
+    what part of how the values vary it explains; also how many pairs of a value before it and one behind there are, and by how much those behind are
+    above those before in all pairs together."""
     place: int
     thousandths: int
     explains: Fraction
+    pairs: int
+    jump: int
 
 
 def nanoseconds(value2):
@@ -105,13 +108,23 @@ def whole(value2):
     return -size if value2 < 0 else size
 
 
-def slope(values):
-    """By how much values grow by their times, by least squares, and what part of how they vary a line explains; None where all times are one."""
+class Line(typing.NamedTuple):
+    """A line through values over their times, by least squares: how much both vary together, the times, and the values."""
+    rise: int
+    run: int
+    vary: int
+
+
+def line_of(values):
     count = len(values)
     times, offsets = [units for units, _, _ in values], [value for _, value, _ in values]
-    rise = count * sum(t * x for t, x in zip(times, offsets)) - sum(times) * sum(offsets)
-    run = count * sum(t * t for t in times) - sum(times)**2
-    vary = count * sum(x * x for x in offsets) - sum(offsets)**2
+    return Line(count * sum(t * x for t, x in zip(times, offsets)) - sum(times) * sum(offsets),
+                count * sum(t * t for t in times) - sum(times)**2, count * sum(x * x for x in offsets) - sum(offsets)**2)
+
+
+def slope(values):
+    """By how much values grow by their times, by least squares, and what part of how they vary a line explains; None where all times are one."""
+    rise, run, vary = line_of(values)
     return (Fraction(rise, 2 * run), Fraction(rise * rise, run * vary) if vary else Fraction(1)) if run else (0, None)
 
 
@@ -129,16 +142,37 @@ def step(values):
     # each part still varies about its own mean
     all_of, left = varied(numbers), varied(before) + varied(behind)
     size = math.floor(Fraction(math.floor(abs(by)) * 1000, NANOSECOND2) + Fraction(1, 2))
-    return Shift(values[at][2], -size if by < 0 else size, 1 - left / all_of if all_of else Fraction(0))
+    jump = at * sum(behind) - len(behind) * sum(before)
+    return Shift(values[at][2], -size if by < 0 else size, 1 - left / all_of if all_of else Fraction(0), at * len(behind), jump)
+
+
+def front(number):
+    """A number by its first 63 bits, as the program compares products of long ones."""
+    behind = max(number.bit_length() - 63, 0)
+    return number >> behind << behind
+
+
+def front_of_product(*factors):
+    made, *others = map(front, factors)
+    for it in others:
+        made = front(made * it)
+    return made
+
+
+def explains_most(shift, line):
+    """Whether a step explains more than half of how values vary, and more than a line does. By their fronts, for both are alike where one time is far
+    from all others."""
+    jump, rise = abs(shift.jump), abs(line.rise)
+    return (front_of_product(shift.pairs, line.vary) < 2 * front_of_product(jump, jump)
+            and (not line.run or front_of_product(rise, rise, shift.pairs) < front_of_product(jump, jump, line.run)))
 
 
 def stepping(name, why, unit, values):
     """What is told of a step in values, each with its time and its place, that explains more than half of how they vary, and more than a line does."""
     if len(values) < VALUES:
         return
-    shift, (_, by_line) = step(values), slope(values)
-    # the program compares the first 63 bits of both, which are alike where one time is far from all others
-    if abs(shift.thousandths) >= STEP and 2 * shift.explains > 1 and (by_line is None or shift.explains > by_line + Fraction(1, 2**60)):
+    shift = step(values)
+    if abs(shift.thousandths) >= STEP and explains_most(shift, line_of(values)):
         yield f'the {name} steps by {thousandths(Fraction(shift.thousandths, 1000))} ns (rounded) at {unit} {shift.place}: {why}'
 
 
