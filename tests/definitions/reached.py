@@ -3,7 +3,7 @@
 
 A definition is reached where a clause of a public function or of a public trait, the value of a public type's model, the
 memory that it owns, which a caller in C owes, what a public conversion gives or how a public type shows names it, or where a definition that is
-reached names it. Views and invariants don't count: no caller sees them.
+reached names it. Views and invariants don't count, nor does the relation `is_at` by which a public task is seen: no caller sees what they say.
 """
 
 import re
@@ -108,6 +108,20 @@ def clauses_of(lines):
             yield line
 
 
+def seen_at():
+    """The relations by which public tasks are seen."""
+    for path in sorted(TOP.glob("crates/*/src/**/*.rt")):
+        lines = path.read_text().splitlines()
+        public_types = set(re.findall(r"^pub (?:struct|enum) (\w+)", "\n".join(lines), re.M))
+        names, files = imports_of(lines)
+        of = None
+        for line in lines:
+            if found := re.match(r"^impl\b.* for (\w+)", line):
+                of = found.group(1)
+            if of in public_types and (found := re.match(r"^    ghost is_at = \{ (\w+) \};$", line)):
+                yield from resolved(found.group(1), names, files, None)
+
+
 def named_by_clauses(definitions):
     for path in sorted(TOP.glob("crates/*/src/**/*.rt")):
         if "tests" in path.relative_to(TOP).parts or path.name == "tests.rt":
@@ -121,10 +135,10 @@ def named_by_clauses(definitions):
 def rests_on(definitions, start):
     """The definitions that these rest on, themselves included."""
     waiting = list(start)
-    found = set()
+    found, views = set(), set(seen_at())
     while waiting:
         key = waiting.pop()
-        if key in found or key not in definitions:
+        if key in found or key in views or key not in definitions:
             continue
         found.add(key)
         waiting.extend(resolved(*definitions[key]))
