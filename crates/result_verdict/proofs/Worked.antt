@@ -8,6 +8,7 @@ use Rattle.result_verdict.specs.declared.verdict.Verdict.TheVariants.{Exact, Wit
 use Rattle.result_verdict.specs.Exact.{of_twice, decimals, exact_text, exact_in}
 use Rattle.result_verdict.specs.Inner.Normal.{with_parts}
 use Rattle.result_verdict.specs.Delays.{in_order, twice_median, total, least, greatest, beyond}
+use Rattle.result_verdict.specs.Seconds.{whole_seconds}
 use Rattle.result_verdict.specs.Verdict.{offset_error, path_error, sum_error, beyond_known, path_is_of, verdict_of, IsCut}
 
 -- so many thousandths of a nanosecond
@@ -262,3 +263,22 @@ wrong_at_one = refl
 
 filtered_at_two : verdict_of known (ns 453) (ns 545) (ns 2) ≡ Filtered
 filtered_at_two = refl
+
+-- ---- whole seconds: 37 of them and half a nanosecond, either way, at 1 ns and at none; a second and a half; nothing
+seconds_near : whole_seconds (ns 1) (neg_ℤ (pos (37 * 10 ^ 26 + 5 * 10 ^ 16))) ≡ Some 37
+seconds_near = refl
+
+seconds_below : whole_seconds (ns 1) (pos (37 * 10 ^ 26 - 5 * 10 ^ 16)) ≡ Some 37
+seconds_below = refl
+
+seconds_off : whole_seconds (ns 0) (pos (37 * 10 ^ 26 + 5 * 10 ^ 16)) ≡ None
+seconds_off = refl
+
+seconds_exact : whole_seconds (ns 0) (pos (37 * 10 ^ 26)) ≡ Some 37
+seconds_exact = refl
+
+seconds_and_half : whole_seconds (ns 1) (pos (15 * 10 ^ 25)) ≡ None
+seconds_and_half = refl
+
+no_second : whole_seconds (ns 1) (pos 0) ≡ None
+no_second = refl

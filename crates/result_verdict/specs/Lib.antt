@@ -1,4 +1,5 @@
 pub mod Exact
 pub mod Delays
+pub mod Seconds
 pub mod Verdict
 pub mod Inner

@@ -2,7 +2,10 @@ ghost use Rattle.std.specs.Prelude.{◌≡◌, ◌==◌, ◌<◌, ◌^◌, ◌*�
 ghost use Rattle.std.specs.Int.{int_max};
 ghost use Rattle.result_verdict.specs.Exact.{of_twice, decimals, exact_text, nanosecond, IsWithin};
 ghost use Rattle.result_verdict.specs.Inner.Normal.{with_parts};
+ghost use Rattle.result_verdict.specs.Seconds.{nearest_seconds, from_seconds, whole_seconds};
 
+use crate::delays::is_within;
+use crate::exact::Exact;
 use std::fmt;
 use std::fmt::{Display, Formatter};
 use std::marker::Model;
@@ -12,6 +15,9 @@ const NANOSECOND: u64 = 100_000_000_000_000_000;
 
 /// 2^-17 ns in units of 10^-17 ns: 5^17.
 const UNIT: u64 = 762_939_453_125;
+
+/// A second in nanoseconds.
+const SECOND: u128 = 1_000_000_000;
 
 /// Decimals of nanoseconds, at most.
 const PLACES: u32 = 17;
@@ -131,6 +137,36 @@ impl Difference {
             self.negated()
         } else {
             self
+        }
+    }
+
+    /// How many seconds it is without its sign, rounded to the nearest number.
+    fn nearest_seconds(self) -> u128
+        ensures value { result ≡ nearest_seconds self }
+        ensures within { result < 2 ^ 91 }
+    {
+        (self.size().nanoseconds.unsigned_abs() + SECOND / 2) / SECOND
+    }
+
+    /// How far it is from so many seconds, less than 2^91 of them.
+    fn from_seconds(self, seconds: u128) -> Difference
+        requires few { seconds < 2 ^ 91 }
+        requires near { IsWithin (2 ^ 120) (from_seconds self seconds) }
+        ensures { result ≡ from_seconds self seconds }
+    {
+        let size = self.size();
+        joined(size.nanoseconds - (seconds * SECOND) as i128, size.parts)
+    }
+
+    /// The whole number of seconds that it is within the tolerance, without its sign; none where that is 0.
+    pub fn whole_seconds(self, tolerance: Exact) -> Option<u128>
+        ensures { result ≡ whole_seconds tolerance self }
+    {
+        let seconds = self.nearest_seconds();
+        if 1 <= seconds && is_within(tolerance.value(), self.from_seconds(seconds)) {
+            Some(seconds)
+        } else {
+            None
         }
     }
 

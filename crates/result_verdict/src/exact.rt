@@ -47,7 +47,7 @@ impl Exact {
     }
 
     /// The number, as a sum or a difference of such.
-    pub(crate) fn value(self) -> Difference
+    pub fn value(self) -> Difference
         ensures value { result ≡ self }
         ensures within { IsWithin (2 ^ 111) self }
     {
