@@ -9,6 +9,7 @@ from fractions import Fraction
 import beware
 import cases
 import exchanging
+import recorded
 import texts
 import worth
 from asking import EXAMPLE, fail
@@ -70,7 +71,7 @@ def measured(values):
 
 def by_reports(reports):
     """What is owed of the reports in full."""
-    those = {by: [it for it in reports if it['by'] == by] for by in ('sync', 'response')}
+    those = {by: [it for it in reports if it['by'].removeprefix('own ') == by] for by in ('sync', 'response')}
     of = lambda by, name: [(units(it[name]), it['line']) for it in those[by]]
     return {'reports': len(reports), 'offset': measured(of('sync', 'offset')), 'path': measured(of('response', 'path')),
             'age': ends(of('sync', 't2_to_t3')),
@@ -145,6 +146,9 @@ def try_one(name, octets, options, seconds=None):
     for key, owed in by_reports(reports).items():
         if line[key] != owed:
             fail(f'{name}: {key} is {line[key]}, and {owed} is owed')
+    own = any(it['by'].startswith('own ') for it in reports) or options == ['--readings', 'own']
+    if line['readings'] != ('own' if own else 'capture'):
+        fail(f'{name}: the readings are {line["readings"]!r}')
     # of a capture of which no place is measured nothing is counted
     if seconds is not None and line['seconds'] != (seconds if line['place'] is not None else None):
         fail(f'{name}: it is {line["seconds"]} s long, and {seconds} s are owed')
@@ -189,6 +193,10 @@ def inputs():
     yield 'one of two taps', taps, ['--interface', 'right']
     yield 'lines', (EXAMPLES / 'slave.lines').read_bytes(), []
     yield 'lines and one that is none', (EXAMPLES / 'slave.lines').read_bytes() + b'\n', []
+    telling = ''.join(f'{it}\n' for it in recorded.lines('l2-1s') if it[0] != '{').encode()
+    for options in [], ['--readings', 'own'], ['--readings', 'capture']:
+        yield f'own readings {options}', telling, options
+        yield f'lines {options}', (EXAMPLES / 'slave.lines').read_bytes(), options
     yield 'nothing', b'', []
     yield 'no capture', b'nothing', []
     yield 'exchanges', many_exchanges(), []

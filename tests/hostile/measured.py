@@ -443,25 +443,49 @@ def own_messages(read, slave):
             yield heard('Delay_Resp', master, first, correction, last, slave)
 
 
+class Heard(typing.NamedTuple):
+    """What is heard of an input: what is told beforehand, the lines, what is told in place of all of them where there is none, and what behind all else."""
+    beforehand: list
+    lines: list
+    in_vain: list
+    aside: list
+
+
+def tells_readings(read):
+    return isinstance(read.said, str) and bool(judge.records(read.octets))
+
+
+def left_aside(captured, telling, why):
+    """What is told of so many messages that were captured, and of so many that tell readings, and aren't heard."""
+    said = ((captured, 'captured message', '', '; --readings capture measures what was captured'), (telling, 'message', ' with own readings', why))
+    return [f'{texts.counted(count, noun)}{of} left aside{then}' for count, noun, of, then in said if count]
+
+
 def by_readings(lines, given):
-    """What is told beforehand, and what is heard in place of these lines where a slave's own readings are measured: those that are asked for, or those of
-    the first that tells any before there is a report."""
+    """What is heard of these lines: in their place the readings of a slave, where they are measured: those that are asked for, or those of the first that
+    tells any before there is a report."""
     def slave_of(read):
         return given.slave or read.octets[20:30]
 
-    told = [(place, read) for place, read in enumerate(lines) if isinstance(read.said, str) and judge.records(read.octets)
+    telling = [read for read in lines if tells_readings(read)]
+    told = [(place, read) for place, read in enumerate(lines) if tells_readings(read)
             and given.domain in (None, read.octets[4]) and (given.slave is None or read.octets[20:28] == given.slave[:8])]
+    as_captured = Heard([], lines, [], left_aside(0, len(telling), "; --readings own measures a slave's own readings"))
     if given.readings == 'capture' or not told and not given.readings:
-        return [], lines
+        return as_captured
     sentences = []
     if not given.readings:
         first, read = told[0]
         before = reckoned(lines[:first], given)
         if before.counts['reports']:
-            return [], lines
+            return as_captured
         sentences = [*before.at_once, f"by the slave's own readings, which line {read.place} is the first to tell; --readings capture measures what was captured"]
     own = [read for _, read in told if slave_of(read) == slave_of(told[0][1])]
-    return sentences, [it for read in own for it in own_messages(read, slave_of(read))]
+    aside = left_aside(sum(not isinstance(it.said, str) for it in lines), len(telling) - len(own), ', of another slave or domain')
+    who = 'slave that is asked for' if telling else 'slave'
+    how = '' if telling else ': ptp4l does to its slave_event_monitor, and examples/monitor writes them as lines'
+    in_vain = [] if own else [f'no {who} tells readings of its own{how}', 'no report']
+    return Heard(sentences, [it for read in own for it in own_messages(read, slave_of(read))], in_vain, aside)
 
 
 def kind_of(said):
@@ -570,9 +594,9 @@ def measured(text, given=Options()):
             break
         lines.append(told)
     head = [f'{HEAD}{FULL if given.full else ""}\n'] if given.csv else []
-    sentences, heard = by_readings(lines, given)
-    owed = reckoned(heard, given)
-    at_once, told = (texts.told(those).encode() for those in (sentences + owed.at_once, owed.told))
+    heard = by_readings(lines, given)
+    owed = reckoned(heard.lines, given)
+    at_once, told = (texts.told(those).encode() for those in (heard.beforehand + owed.at_once, (heard.in_vain or owed.told) + heard.aside))
     is_doubtful = not owed.counts['reports'] or any(it.startswith('beware: ') for it in owed.told)
     is_refused = given.limit is not None and owed.farthest > given.limit or given.strict and is_doubtful
     return Measured(3 if fault else int(is_refused), ''.join(itertools.chain(head, owed.written)).encode(), fault, owed.counts, at_once, told)

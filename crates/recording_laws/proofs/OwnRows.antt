@@ -28,7 +28,7 @@ use Rattle.recording_measure.specs.declared.readings.By.{By}
 use Rattle.recording_measure.specs.declared.readings.By.TheVariants.{Any, Captured, Own}
 use Rattle.recording_measure.specs.declared.watch.WantedPorts.{WantedPorts}
 use Rattle.recording_measure.specs.Chosen.{settled}
-use Rattle.recording_measure.specs.Measure.{Recording, Reads, TakesOwn, begun, by_asked, captured_by, with_own, with_row, is_asked, is_captured, slave_by, are_by, has_reported}
+use Rattle.recording_measure.specs.Measure.{Recording, Reads, TakesOwn, begun, by_asked, captured_by, counted_with, with_own, with_row, is_asked, is_captured, slave_by, are_by, has_reported}
 use Rattle.recording_measure.specs.Own.{Begins, IsOwn, own_header, own_message, messages_of}
 use Rattle.recording_measure.specs.Places.{PlacedRow, PlaceName, name_in, placed}
 use Rattle.recording_measure.specs.Row.{Row, row_of}
@@ -385,19 +385,21 @@ takes_by told header slave (own ∷ readings) r later takes =
 
 reads_stands : (w : WantedPorts) (d : DatagramOf) (ds : List DatagramOf) (r later : Recording) → d.own ≡ false → Stands w ds r
     → Reads d r later → AreOf w (d ∷ ds) later.by later.rows
-reads_stands w d ds r later captured stands (None, told, same) =
-    subst (λ (x : Recording). AreOf w (d ∷ ds) x.by x.rows) (sym same) (captured_stands w d ds r.by r captured refl stands.rows)
-reads_stands w d ds r later captured stands (Some m, told, takes) =
+reads_stands w d ds r later captured stands (None, told, tells, tell, same) =
+    subst (λ (x : Recording). AreOf w (d ∷ ds) x.by x.rows) (sym same)
+    (captured_stands w d ds r.by (counted_with d false tells r) captured refl stands.rows)
+reads_stands w d ds r later captured stands (Some m, told, tells, tell, takes) =
+    let counted = counted_with d true tells r in
     let slave : PortIdentity = slave_by r.wanted m.header in
     let rest = and_parts (nat_lt 0 (length (readings_of m.tlvs)))
     (is_asked r.wanted m.header && are_by r.by slave (has_reported r)) told.1 in
     let by = and_parts (is_asked r.wanted m.header) (are_by r.by slave (has_reported r)) rest.1 in
-    let begins = own_begins w d ds slave r.by r (has_reported r) by.1 stands.rows in
+    let begins = own_begins w d ds slave r.by counted (has_reported r) by.1 stands.rows in
     let known = told_records w ds d slave m told.0 (ap (λ (x : WantedPorts). is_asked x m.header) (sym stands.wanted) ∙ by.0)
     (ap (λ (x : WantedPorts). slave_by x m.header) (sym stands.wanted)) in
-    let rows = takes_readings w ds d slave m.header (readings_of m.tlvs) (with_own r.by slave r) later known begins.rows takes in
+    let rows = takes_readings w ds d slave m.header (readings_of m.tlvs) (with_own r.by slave counted) later known begins.rows takes in
     subst (λ (b : By). AreOf w (d ∷ ds) b later.rows)
-    (sym (takes_by d m.header slave (readings_of m.tlvs) (with_own r.by slave r) later takes ∙ begins.by)) rows
+    (sym (takes_by d m.header slave (readings_of m.tlvs) (with_own r.by slave counted) later takes ∙ begins.by)) rows
 
 begun_stands : (form : Form) (w : WantedPorts) → Stands w [] (begun form w)
 begun_stands form w = record { wanted = refl; rows = by (by_asked w.readings) }

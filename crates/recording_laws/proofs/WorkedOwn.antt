@@ -24,7 +24,7 @@ use Rattle.recording_model.specs.Listening.{is_used}
 use Rattle.recording_model.specs.Recorded.{Recorded}
 use Rattle.recording_measure.specs.declared.form.Form.TheVariants.{Table}
 use Rattle.recording_measure.specs.Chosen.{input_watched}
-use Rattle.recording_measure.specs.Measure.{Recording, Reads, begun, is_captured, measured_so_far, with_own, with_row, written_of}
+use Rattle.recording_measure.specs.Measure.{Recording, Reads, begun, counted_with, is_captured, measured_so_far, with_own, with_row, written_of}
 use Rattle.recording_measure.specs.Own.{IsOwn, messages_in, own_message}
 use Rattle.recording_measure.specs.Exchanged.{exchange_at}
 use Rattle.recording_measure.specs.Places.{placed}
@@ -374,16 +374,16 @@ abbrev start : Recording
 start = begun Table anybody
 
 abbrev after_first : Recording
-after_first = with_row (placed Line response_read) (with_row (placed Line request_read) (with_own start.by slave start))
+after_first = with_row (placed Line response_read) (with_row (placed Line request_read) (with_own start.by slave (counted_with first true true start)))
 
 abbrev after_second : Recording
-after_second = with_row (placed Line sync_read) (with_own after_first.by slave after_first)
+after_second = with_row (placed Line sync_read) (with_own after_first.by slave (counted_with second true true after_first))
 
 reads_first : Reads first start after_first
-reads_first = (Some delay_message, ((lit≤ tt, is_delay), refl), (request_read, request_read_is, (response_read, response_read_is, refl)))
+reads_first = (Some delay_message, ((lit≤ tt, is_delay), refl), true, (delay_message, (lit≤ tt, is_delay), refl), (request_read, request_read_is, (response_read, response_read_is, refl)))
 
 reads_second : Reads second after_first after_second
-reads_second = (Some sync_message, ((lit≤ tt, is_sync), refl), (sync_read, sync_read_is, refl))
+reads_second = (Some sync_message, ((lit≤ tt, is_sync), refl), true, (sync_message, (lit≤ tt, is_sync), refl), (sync_read, sync_read_is, refl))
 
 abbrev lines : List DatagramOf
 lines = second ∷ first ∷ []

@@ -1,5 +1,5 @@
 -- Reports that weren't handed on.
-use Rattle.std.proofs.Common.{◌≡◌, ◌∙◌, ◌+◌, ◌++◌, ℕ, List, [], ◌∷◌, length, map, reverse, refl, sym, ap}
+use Rattle.std.proofs.Common.{◌≡◌, ◌∙◌, ◌++◌, ℕ, List, [], ◌∷◌, map, sym, ap}
 use Rattle.std.proofs.lemmas.List.{reverse-append}
 use Rattle.recording_measure.specs.Made.{Measured}
 use Rattle.recording_measure.specs.declared.completion.Completion.{Completion}

@@ -18,6 +18,7 @@ use Rattle.recording_measure.specs.Measured.{measured_at}
 use Rattle.recording_measure.specs.Places.{PlaceName, PlacedRow, is_same_place, rows_at, is_among, places_in}
 use Rattle.recording_measure.specs.Chosen.{is_enough, watched_at, chosen, heard_at, input_watched, input_measured}
 use Rattle.recording_measure.specs.Measure.{Recording as Read, with_row, measured_so_far}
+use Rattle.recording_measure.specs.Inner.Handing.{handing_of}
 use Rattle.std.proofs.lemmas.Option.{slice_get-get_or}
 use Rattle.recording_measure.specs.Summary.{whom_in}
 use Rattle.recording_measure.specs.Inner.Stages.{whom_at, input_whom}
@@ -38,8 +39,9 @@ use Rattle.recording_measure.proofs.Chosen.{chosen-after, unlooked, unknown, kno
 pub still_looking : (task : Measuring) (k : Read) (r : PlacedRow) (count : ℕ) → task.reports.reports.form ≡ k.form
     → task.wanted ≡ k.wanted → task.stage ≡ Looking count → count ≡ min (length k.rows + 1) kept_most
     → chosen k.wanted (r ∷ k.rows) ≡ None → AreRecordings k.wanted (r ∷ k.rows) task.recordings.recordings.items
-    → IsCounts [] task.reports.reports.tally.counts → AreRecents [] task.reports.reports.recents → IsMeasuring task (with_row r k)
-still_looking task k r count form wanted stage counted none are nothing recents = record {
+    → IsCounts [] task.reports.reports.tally.counts → AreRecents [] task.reports.reports.recents
+    → task.reports.reports.recents.fresh.handing ≡ handing_of k → IsMeasuring task (with_row r k)
+still_looking task k r count form wanted stage counted none are nothing recents handing = record {
   form = form;
   wanted = wanted;
   stage = subst (IsStage k.wanted (r ∷ k.rows) task.recordings.recordings.items) (sym stage) (none, are, omega (arith, counted));
@@ -48,6 +50,7 @@ still_looking task k r count form wanted stage counted none are nothing recents 
   counts = none_so_far k.wanted (r ∷ k.rows) task.reports.reports.tally.counts none nothing;
   recents = subst (λ (ms : List Measured). AreRecents ms task.reports.reports.recents)
       (sym (measured-unknown k.wanted (r ∷ k.rows) none)) recents;
+  handing = handing;
 }
 
 -- what one more row adds, whatever it is

@@ -1,5 +1,6 @@
 -- What is done with a datagram is one thing, but for faults of the writer and of memory.
-use Rattle.std.proofs.Common.{◌≡◌, ◌∙◌, ℕ, List, [], ◌∷◌, take, Option, Some, None, true, true≢false, refl, sym, ap, subst}
+use Rattle.std.proofs.Common.{◌≡◌, ◌∙◌, ℕ, Bool, List, [], ◌∷◌, take, Option, Some, None, true, false, true≢false, refl, sym, ap, subst}
+use Rattle.std.specs.Prelude.{is_some}
 use Rattle.std.proofs.lemmas.List.{append_cancel_left}
 use Rattle.text_lines.specs.declared.line_fault.LineFault.{LineFault}
 use Rattle.text_lines.specs.declared.line_fault.LineFault.TheVariants.{Write, Field, Memory}
@@ -16,7 +17,7 @@ use Rattle.recording_measure.specs.Row.{row_of}
 use Rattle.recording_measure.specs.Places.{name_in, placed}
 use Rattle.recording_measure.specs.Own.{Begins, messages_in, IsOwn}
 use Rattle.recording_measure.specs.Measure.{Recording, Takes, Stops, written_of, measure_rules, with_row, with_own, slave_by}
-use Rattle.recording_measure.specs.Measure.{IsTold, TakesOwn, ReadsTold}
+use Rattle.recording_measure.specs.Measure.{IsTold, TellsReadings, TakesOwn, ReadsTold, counted_with}
 
 -- ---- a datagram tells one thing
 same_row : (told one other : DatagramOf) (m : OwnMessage) → IsOwn told m one → IsOwn told m other → row_of other ≡ row_of one
@@ -48,6 +49,12 @@ told_same r octets None (Some n) h k = absurd (true≢false (sym k.1 ∙ h n k.0
 told_same r octets (Some m) None h k = absurd (true≢false (sym h.1 ∙ k m h.0))
 told_same r octets (Some m) (Some n) h k = ap Some (begins_same m n octets h.0 k.0)
 
+tells_same : (octets : List ℕ) (one other : Bool) → TellsReadings octets one → TellsReadings octets other → other ≡ one
+tells_same octets true true h k = refl
+tells_same octets true false h k = absurd (true≢false (sym h.2 ∙ k h.0 h.1))
+tells_same octets false true h k = absurd (true≢false (sym k.2 ∙ h k.0 k.1))
+tells_same octets false false h k = refl
+
 reads_same : (d : DatagramOf) (r one other : Recording) (told : Option Signaling) → ReadsTold d told r one → ReadsTold d told r other
     → other ≡ one
 reads_same d r one other None h k = k ∙ sym h
@@ -57,9 +64,12 @@ reads_same d r one other (Some m) h k =
 
 one_taken : (d : DatagramOf) (r one other : Recording) (text text' : List ℕ) → Takes d r one text → Takes d r other text'
     → (other ≡ one) × (text' ≡ text)
-one_taken d r one other text text' ((told, is, reads), out) ((told', is', reads'), out') =
-    let again = subst (λ (t : Option Signaling). ReadsTold d t r other) (told_same r d.octets told told' is is') reads' in
-    let same : other ≡ one = reads_same d r one other told reads again in
+one_taken d r one other text text' ((told, is, tells, tell, reads), out) ((told', is', tells', tell', reads'), out') =
+    let counted = subst (λ (b : Bool). ReadsTold d told' (counted_with d (is_some told') b r) other)
+    (tells_same d.octets tells tells' tell tell') reads' in
+    let again = subst (λ (t : Option Signaling). ReadsTold d t (counted_with d (is_some t) tells r) other)
+    (told_same r d.octets told told' is is') counted in
+    let same : other ≡ one = reads_same d (counted_with d (is_some told) tells r) one other told reads again in
     (same, append_cancel_left (written_of r) text' text (sym out' ∙ ap written_of same ∙ out))
 
 never : (Device : LineFault → Type 0) → Device Write → Device Memory → (d : DatagramOf) (r : Recording) (text : List ℕ) (fault : LineFault)

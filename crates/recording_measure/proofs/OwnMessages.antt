@@ -1,7 +1,7 @@
 -- The messages that a slave's own readings stand for, as they are taken one after the other.
-use Rattle.std.proofs.Common.{◌≡◌, ◌∙◌, ℕ, true, true≢false, List, [], ◌∷◌, ◌++◌, length, Option, Some, None, Result, Ok, Err}
-use Rattle.std.proofs.Common.{refl, sym, ap, subst, arith}
-use Rattle.std.specs.Prelude.{not, nat_lt, ◌&&◌, MatchResult}
+use Rattle.std.proofs.Common.{◌≡◌, ◌∙◌, ℕ, Bool, true, false, true≢false, List, [], ◌∷◌, ◌++◌, length, Option, Some, None, Result, Ok, Err}
+use Rattle.std.proofs.Common.{◌⊎◌, inl, inr, refl, sym, ap, subst, arith}
+use Rattle.std.specs.Prelude.{not, nat_lt, ◌&&◌, is_some, MatchResult}
 use Rattle.std.specs.Io.KnownBytes.{Appends}
 use Rattle.std.proofs.KnownBytes.{Appends-nil}
 use Rattle.std.proofs.lemmas.Bool.{and_parts, lt-ltb}
@@ -32,10 +32,10 @@ use Rattle.recording_measure.specs.Chosen.{settled}
 use Rattle.recording_measure.specs.Own.{IsOwn}
 use Rattle.recording_measure.specs.Places.{placed}
 use Rattle.recording_measure.specs.Measure.{Recording, measured_so_far, with_row, captured_by, with_own, is_asked, slave_by, are_by, has_reported}
-use Rattle.recording_measure.specs.Measure.{TakesOwn, TakesSome, IsTold, ReadsTold, ReadsSome, measure_rules}
+use Rattle.recording_measure.specs.Measure.{TakesOwn, TakesSome, IsTold, TellsReadings, ReadsTold, ReadsSome, counted_with, measure_rules}
 use Rattle.recording_measure.specs.Inner.Hearing.{GoesUntil}
-use Rattle.recording_measure.specs.Inner.Measuring.{AddsRow}
-use Rattle.recording_measure.specs.Inner.Task.{IsTask, Adds, AddsOwn}
+use Rattle.recording_measure.specs.Inner.Measuring.{IsMeasuring, AddsRow}
+use Rattle.recording_measure.specs.Inner.Task.{AreCounted, IsTask, Adds, AddsOwn}
 use Rattle.recording_measure.proofs.Goes.{texts-append, texts-after, GoesUntil-after, until_whole}
 
 -- octets of a message say it
@@ -76,16 +76,17 @@ module _ (told : DatagramOf) where
 -- one of them
 pub adds_one : {T : Type 0} (result : Result T LineFault) (told d : DatagramOf) (m : OwnMessage) (r : Recording) (new : Measuring)
     (task : MeasureTask) (a b : Option (List ℕ)) → IsOwn told m d → task.measuring ≡ new → task.by ≡ r.by
+    → AreCounted r.captured r.untaken task.passed
     → AddsRow result r (placed told.place d) new a b → AddsOwn result told (m ∷ []) r task a b
-adds_one (Ok x) told d m r new task a b is same by (at, ms, grown, goes) = (
+adds_one (Ok x) told d m r new task a b is same by passed (at, ms, grown, goes) = (
   with_row (placed told.place d) r,
   (d, is, refl),
-  record { measuring = rw same at; by = by },
+  record { measuring = rw same at; by = by; passed = passed },
   ms,
   grown,
   goes,
 )
-adds_one (Err fault) told d m r new task a b is same by (at, ms, grown, goes) =
+adds_one (Err fault) told d m r new task a b is same by passed (at, ms, grown, goes) =
     (with_row (placed told.place d) r, (m ∷ [], [], refl, (d, is, refl)), ms, grown, goes)
 
 -- none
@@ -128,6 +129,10 @@ adds_after (Err fault) told first next r mid ms task a b c before brought went (
 pub captured_nothing : (by : By) (own : Option PortIdentity) (d : DatagramOf) (r : Recording) → by ≡ Own own → r ≡ captured_by by d r
 captured_nothing by own d r is = ap (λ (b : By). captured_by b d r) (sym is)
 
+pub not_own : (by : By) → (by ≡ Any) ⊎ (by ≡ Captured) → (own : Option PortIdentity) → by ≡ Own own → ⊥
+not_own by (inl any) own is = absurd (cc (any, is))
+not_own by (inr captured) own is = absurd (cc (captured, is))
+
 captured_row : (by : By) (d : DatagramOf) (r : Recording) → ((own : Option PortIdentity) → by ≡ Own own → ⊥)
     → captured_by by d r ≡ with_row (placed (settled r.wanted r.rows d) d) r
 captured_row Any d r other = refl
@@ -136,17 +141,18 @@ captured_row (Own own) d r other = absurd (other own refl)
 
 pub adds_captured : {T : Type 0} (result : Result T LineFault) (d : DatagramOf) (r : Recording) (new : Measuring) (task : MeasureTask)
     (a b : Option (List ℕ)) → ((own : Option PortIdentity) → r.by ≡ Own own → ⊥) → task.measuring ≡ new → task.by ≡ r.by
+    → AreCounted r.captured r.untaken task.passed
     → AddsRow result r (placed (settled r.wanted r.rows d) d) new a b
     → Adds result (λ later. later ≡ captured_by r.by d r) (λ upto. upto ≡ captured_by r.by d r) r task a b
-adds_captured (Ok x) d r new task a b other same by (at, ms, grown, goes) = (
+adds_captured (Ok x) d r new task a b other same by passed (at, ms, grown, goes) = (
   with_row (placed (settled r.wanted r.rows d) d) r,
   sym (captured_row r.by d r other),
-  record { measuring = rw same at; by = by },
+  record { measuring = rw same at; by = by; passed = passed },
   ms,
   grown,
   goes,
 )
-adds_captured (Err fault) d r new task a b other same by (at, ms, grown, goes) =
+adds_captured (Err fault) d r new task a b other same by passed (at, ms, grown, goes) =
     (with_row (placed (settled r.wanted r.rows d) d) r, sym (captured_row r.by d r other), ms, grown, goes)
 
 -- ---- where they begin
@@ -177,56 +183,74 @@ reads_form d (Some m) r later takes =
     let slave = slave_by r.wanted m.header in own_form d _ (with_own r.by slave r) later takes ∙ own_begins r.by slave r
 
 -- ---- a datagram
+-- what is counted of it changes nothing of what is kept
+pub counted_measuring : (d : DatagramOf) (is_taken tells : Bool) (r : Recording) (m : Measuring) → IsMeasuring m r
+    → IsMeasuring m (counted_with d is_taken tells r)
+counted_measuring d is_taken tells r m is = record {
+  form = is.form;
+  wanted = is.wanted;
+  stage = is.stage;
+  whom = is.whom;
+  counts = is.counts;
+  recents = is.recents;
+  handing = is.handing;
+}
+
 abbrev pub IsRead : {T : Type 0} → Result T LineFault → DatagramOf → Recording → MeasureTask → (a b : Option (List ℕ)) → Type 0
 IsRead result d r task a b = MatchResult result
     (λ _. (later : Recording) × (out : List ℕ) × IsTask task later × measure_rules.Takes d r later out × Appends a b out)
     (λ fault. (out : List ℕ) × measure_rules.Stops d r fault out × WentOut (is_write fault) (Appends a b out))
 
-reads : {T : Type 0} (result : Result T LineFault) (d : DatagramOf) (told : Option Signaling) (r from : Recording) (task : MeasureTask)
-    (a b : Option (List ℕ)) → IsTold r d.octets told → from.form ≡ r.form → measured_so_far from ≡ measured_so_far r
-    → Adds result (ReadsTold d told r) (ReadsSome d told r) from task a b → IsRead result d r task a b
-reads (Ok x) d told r from task a b is form same (later, takes, at, ms, grown, went) = (
+reads : {T : Type 0} (result : Result T LineFault) (d : DatagramOf) (told : Option Signaling) (tells : Bool) (r from : Recording)
+    (task : MeasureTask) (a b : Option (List ℕ)) → IsTold r d.octets told → TellsReadings d.octets tells → from.form ≡ r.form
+    → measured_so_far from ≡ measured_so_far r
+    → Adds result (ReadsTold d told (counted_with d (is_some told) tells r)) (ReadsSome d told (counted_with d (is_some told) tells r)) from
+    task a b → IsRead result d r task a b
+reads (Ok x) d told tells r from task a b is tell form same (later, takes, at, ms, grown, went) = (
   later,
   texts_as r.form ms,
   at,
   (
-    (told, is, takes),
+    (told, is, tells, tell, takes),
     ap (texts_as later.form) (grown ∙ ap (λ (x : List Measured). ms ++ x) same)
-        ∙ ap (λ f. texts_as f (ms ++ measured_so_far r)) (reads_form d told r later takes)
+        ∙ ap (λ f. texts_as f (ms ++ measured_so_far r)) (reads_form d told (counted_with d (is_some told) tells r) later takes)
         ∙ texts-append r.form ms (measured_so_far r),
   ),
   subst (λ (f : Form). Appends a b (texts_as f ms)) form went,
 )
-reads (Err Write) d told r from task a b is form same (upto, takes, ms, grown, until) =
+reads (Err Write) d told tells r from task a b is tell form same (upto, takes, ms, grown, until) =
     let (left, may, out, whole, known) = until_whole r.form Write ms (measured_so_far r) (measured_so_far upto) a b
     (grown ∙ ap (λ (x : List Measured). ms ++ x) same) (subst (λ (f : Form). GoesUntil f Write ms a b) form until) in
-    (out, (left, may, (told, is, upto, takes, whole)), known)
-reads (Err Field) d told r from task a b is form same (upto, takes, ms, grown, until) =
+    (out, (left, may, (told, is, tells, tell, upto, takes, whole)), known)
+reads (Err Field) d told tells r from task a b is tell form same (upto, takes, ms, grown, until) =
     absurd (until_whole r.form Field ms (measured_so_far r) (measured_so_far upto) a b
     (grown ∙ ap (λ (x : List Measured). ms ++ x) same) (subst (λ (f : Form). GoesUntil f Field ms a b) form until)).1
-reads (Err Memory) d told r from task a b is form same (upto, takes, ms, grown, until) =
+reads (Err Memory) d told tells r from task a b is tell form same (upto, takes, ms, grown, until) =
     let (left, may, out, whole, known) = until_whole r.form Memory ms (measured_so_far r) (measured_so_far upto) a b
     (grown ∙ ap (λ (x : List Measured). ms ++ x) same) (subst (λ (f : Form). GoesUntil f Memory ms a b) form until) in
-    (out, (left, (told, is, upto, takes, whole)), known)
+    (out, (left, (told, is, tells, tell, upto, takes, whole)), known)
 
 -- one that was captured
-pub reads_captured : {T : Type 0} (result : Result T LineFault) (d : DatagramOf) (r : Recording) (task : MeasureTask)
-    (a b : Option (List ℕ)) → IsTold r d.octets None
-    → Adds result (λ later. later ≡ captured_by r.by d r) (λ upto. upto ≡ captured_by r.by d r) r task a b
-    → IsRead result d r task a b
-reads_captured result d r task a b is adds = reads result d None r r task a b is refl refl adds
+pub reads_captured : {T : Type 0} (result : Result T LineFault) (d : DatagramOf) (tells : Bool) (r : Recording) (task : MeasureTask)
+    (a b : Option (List ℕ)) → IsTold r d.octets None → TellsReadings d.octets tells
+    → Adds result (ReadsTold d None (counted_with d false tells r)) (ReadsSome d None (counted_with d false tells r))
+    (counted_with d false tells r) task a b → IsRead result d r task a b
+reads_captured result d tells r task a b is tell adds =
+    reads result d None tells r (counted_with d false tells r) task a b is tell refl refl adds
 
 -- one that tells a slave's own readings
-pub reads_own : {T : Type 0} (result : Result T LineFault) (d : DatagramOf) (m : Signaling) (r : Recording) (task : MeasureTask)
-    (a b : Option (List ℕ)) → IsTold r d.octets (Some m)
-    → Adds result (ReadsTold d (Some m) r) (ReadsSome d (Some m) r) (with_own r.by (slave_by r.wanted m.header) r) task a b
-    → IsRead result d r task a b
-reads_own result d m r task a b is adds =
+pub reads_own : {T : Type 0} (result : Result T LineFault) (d : DatagramOf) (m : Signaling) (tells : Bool) (r : Recording)
+    (task : MeasureTask) (a b : Option (List ℕ)) → IsTold r d.octets (Some m) → TellsReadings d.octets tells
+    → Adds result (ReadsTold d (Some m) (counted_with d true tells r)) (ReadsSome d (Some m) (counted_with d true tells r))
+    (with_own r.by (slave_by r.wanted m.header) (counted_with d true tells r)) task a b → IsRead result d r task a b
+reads_own result d m tells r task a b is tell adds =
     let slave = slave_by r.wanted m.header in
+    let counted = counted_with d true tells r in
     let rest = and_parts (nat_lt 0 (length (readings_of m.tlvs)))
     (is_asked r.wanted m.header && are_by r.by slave (has_reported r)) is.1 in
     let by = and_parts (is_asked r.wanted m.header) (are_by r.by slave (has_reported r)) rest.1 in
-    reads result d (Some m) r (with_own r.by slave r) task a b is (own_begins r.by slave r) (own_measures r.by slave r by.1) adds
+    reads result d (Some m) tells r (with_own r.by slave counted) task a b is tell (own_begins r.by slave counted)
+    (own_measures r.by slave counted by.1) adds
 
 -- no fault leaves what is kept
 pub never_kept : {T : Type 0} (result : Result T LineFault) (what : LineFault) (d : DatagramOf) (r : Recording) (task : MeasureTask)

@@ -13,7 +13,7 @@ use Rattle.recording_measure.specs.declared.readings.By.TheVariants.{Any, Captur
 use Rattle.recording_measure.specs.Chosen.{settled}
 use Rattle.recording_measure.specs.Own.{messages_in}
 use Rattle.recording_measure.specs.Places.{PlacedRow, name_in, placed}
-use Rattle.recording_measure.specs.Measure.{Recording, Reads, TakesOwn, with_row, captured_by, with_own, is_captured}
+use Rattle.recording_measure.specs.Measure.{Recording, Reads, TakesOwn, with_row, captured_by, counted_with, with_own, is_captured}
 use Rattle.recording_measure.specs.Measure.{is_asked, slave_by, are_by, has_reported}
 use Rattle.recording_measure.proofs.Settled.{settled_line}
 
@@ -85,16 +85,27 @@ begins_own Any slave r reported are = (refl, refl, refl, λ at. All-nil (λ (x :
 begins_own Captured slave r reported are = absurd cc
 begins_own (Own own) slave r reported are = (refl, refl, refl, λ at. at)
 
+-- as it is after what was counted
+counted_one : (d : DatagramOf) (r later : Recording) (tells : Bool) → IsReadOne d (counted_with d false tells r) later → IsReadOne d r later
+counted_one d r later tells one = record {
+  form = one.form;
+  wanted = one.wanted;
+  before = one.before;
+  row = one.row;
+  nameless = one.nameless;
+}
+
 pub one_read : (d : DatagramOf) (r later : Recording) → Reads d r later → IsReadOne d r later
-one_read d r later (None, told, same) =
-    subst (λ (x : Recording). IsReadOne d r x) (sym same) (captured_one r.by d r refl)
-one_read d r later (Some m, told, takes) =
+one_read d r later (None, told, tells, tell, same) =
+    subst (λ (x : Recording). IsReadOne d r x) (sym same) (counted_one d r _ tells (captured_one r.by d (counted_with d false tells r) refl))
+one_read d r later (Some m, told, tells, tell, takes) =
     let slave = slave_by r.wanted m.header in
+    let counted = counted_with d true tells r in
     let rest = and_parts (nat_lt 0 (length (readings_of m.tlvs)))
     (is_asked r.wanted m.header && are_by r.by slave (has_reported r)) told.1 in
     let by = and_parts (is_asked r.wanted m.header) (are_by r.by slave (has_reported r)) rest.1 in
-    let begins = begins_own r.by slave r (has_reported r) by.1 in
-    let one = own_one d (messages_in slave m) (with_own r.by slave r) later takes in
+    let begins = begins_own r.by slave counted (has_reported r) by.1 in
+    let one = own_one d (messages_in slave m) (with_own r.by slave counted) later takes in
     let own : is_captured later.by ≡ false = ap is_captured one.2 ∙ begins.2 in record {
       form = one.0 ∙ begins.0;
       wanted = one.1 ∙ begins.1;

@@ -10,3 +10,4 @@ pub mod Measuring
 pub mod Stages
 pub mod Counting
 pub mod Task
+pub mod Handing

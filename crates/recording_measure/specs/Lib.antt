@@ -18,5 +18,6 @@ pub mod Summed
 pub mod Meetings
 pub mod Announced
 pub mod Counts
+pub mod Aside
 pub mod Told
 pub mod Inner

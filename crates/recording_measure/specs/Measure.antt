@@ -1,6 +1,8 @@
 -- What `measure` makes of the datagrams of an input.
-use Rattle.std.specs.Prelude.{◌≡◌, ◌≢◌, ℕ, Bool, true, false, not, ◌==◌, ◌&&◌, nat_lt, List, [], ◌∷◌, ◌++◌, length, Option, Some, None}
+use Rattle.std.specs.Prelude.{◌≡◌, ◌≢◌, ℕ, ◌+◌, Bool, true, false, not, ◌==◌, ◌&&◌, nat_lt, List, [], ◌∷◌, ◌++◌, length}
+use Rattle.std.specs.Prelude.{Option, Some, None, is_some}
 use Rattle.std.specs.Option.{option_map_or}
+use Rattle.std.specs.Result.{is_ok}
 use Rattle.std.specs.Str.{bytes_eq}
 use Rattle.text_lines.specs.declared.line_fault.LineFault.{LineFault}
 use Rattle.text_lines.specs.declared.line_fault.LineFault.TheVariants.{Write, Field, Memory}
@@ -35,16 +37,20 @@ by_asked None = Any
 by_asked (Some readings.Captured) = Captured
 by_asked (Some readings.Own) = Own None
 
--- what is asked for, which readings are measured, and the rows that were read of these, newest first
+-- what is asked for, which readings are measured, the rows that were read of these, newest first, and how many of the reports at these
+-- were handed on; how many of the four messages were captured, and how many messages told readings that weren't taken
 pub record Recording : Type 0 where
   pub form : Form
   pub wanted : WantedPorts
   pub by : By
   pub rows : List PlacedRow
+  pub handed : ℕ
+  pub captured : ℕ
+  pub untaken : ℕ
 
 -- before the first datagram
 abbrev pub begun : Form → WantedPorts → Recording
-begun form w = record { form = form; wanted = w; by = by_asked w.readings; rows = [] }
+begun form w = record { form = form; wanted = w; by = by_asked w.readings; rows = []; handed = 0; captured = 0; untaken = 0 }
 
 -- all that is measured once these were read
 abbrev pub measured_so_far : Recording → List Measured
@@ -53,6 +59,10 @@ measured_so_far r = input_measured r.wanted r.rows
 -- all that is written of them
 abbrev pub written_of : Recording → List ℕ
 written_of r = input_written r.form r.wanted r.rows
+
+-- all reports so far were handed on
+abbrev pub handed_on : Recording → Recording
+handed_on r = record r { handed = length (measured_so_far r) }
 
 -- after one more row
 abbrev pub with_row : PlacedRow → Recording → Recording
@@ -97,9 +107,9 @@ has_reported r = nat_lt 0 (length (measured_so_far r))
 abbrev pub is_taken : Recording → Signaling → Bool
 is_taken r m = nat_lt 0 (length (readings_of m.tlvs)) && (is_asked r.wanted m.header && are_by r.by (slave_by r.wanted m.header) (has_reported r))
 
--- from here on those of this slave are measured, and what was captured before isn't
+-- from here on those of this slave are measured, and what was captured before isn't, at which there was no report
 abbrev pub with_own : By → (slave : PortIdentity) → Recording → Recording
-with_own Any slave r = record r { by = Own (Some slave); rows = [] }
+with_own Any slave r = record r { by = Own (Some slave); rows = []; handed = 0 }
 with_own Captured slave r = r
 with_own (Own own) slave r = record r { by = Own (Some slave) }
 
@@ -108,6 +118,24 @@ abbrev pub TakesOwn : DatagramOf → List OwnMessage → Recording → Recording
 TakesOwn told [] r later = later ≡ r
 TakesOwn told (m ∷ messages) r later =
     (d : DatagramOf) × IsOwn told m d × TakesOwn told messages (with_row (placed told.place d) r) later
+
+-- ---- what is counted
+-- octets begin with a Signaling message that tells readings, or don't
+abbrev pub TellsReadings : List ℕ → Bool → Type 0
+TellsReadings octets true = (m : Signaling) × Begins m octets × (nat_lt 0 (length (readings_of m.tlvs)) ≡ true)
+TellsReadings octets false = (m : Signaling) → Begins m octets → nat_lt 0 (length (readings_of m.tlvs)) ≡ false
+
+-- one more, where it counts
+abbrev pub more_if : Bool → ℕ → ℕ
+more_if true count = count + 1
+more_if false count = count
+
+-- once a datagram is counted: as one of the four messages, or as one that tells readings which aren't taken
+abbrev pub counted_with : DatagramOf → (is_taken tells : Bool) → Recording → Recording
+counted_with d is_taken tells r = record r {
+  captured = more_if (is_ok d.said) r.captured;
+  untaken = more_if (tells && not is_taken) r.untaken;
+}
 
 -- ---- a datagram
 -- octets begin with a Signaling message that tells readings which are measured, or don't
@@ -132,9 +160,10 @@ ReadsSome d None r upto = upto ≡ captured_by r.by d r
 ReadsSome d (Some m) r upto =
     let slave = slave_by r.wanted m.header in TakesSome d (messages_in slave m) (with_own r.by slave r) upto
 
--- after one more datagram
+-- after one more datagram, which is counted
 abbrev pub Reads : DatagramOf → Recording → Recording → Type 0
-Reads d r later = (told : Option Signaling) × IsTold r d.octets told × ReadsTold d told r later
+Reads d r later = (told : Option Signaling) × IsTold r d.octets told × (tells : Bool) × TellsReadings d.octets tells
+    × ReadsTold d told (counted_with d (is_some told) tells r) later
 
 -- a datagram is read, and what this adds to all that is written goes out
 abbrev pub Takes : DatagramOf → Recording → Recording → List ℕ → Type 0
@@ -142,7 +171,8 @@ Takes d r later out = Reads d r later × (written_of later ≡ written_of r ++ o
 
 -- where a datagram is read, or some of the readings that it tells, the texts of some reports that this adds go out, and these are left
 abbrev pub GoesInPart : DatagramOf → Recording → (left : List Measured) → List ℕ → Type 0
-GoesInPart d r left out = (told : Option Signaling) × IsTold r d.octets told × (upto : Recording) × ReadsSome d told r upto
+GoesInPart d r left out = (told : Option Signaling) × IsTold r d.octets told × (tells : Bool) × TellsReadings d.octets tells
+    × (upto : Recording) × ReadsSome d told (counted_with d (is_some told) tells r) upto
     × GoesWhole r.form (measured_so_far r) (measured_so_far upto) left out
 
 -- Why a datagram isn't taken: memory failed, or the writer did, at a report. Before that some of its reports may have gone out,

@@ -1,8 +1,9 @@
 //! Reports for whoever goes on with them, in place of their texts.
 
-ghost use Rattle.std.specs.Prelude.{◌≡◌, ◌∷◌, [], List, OnOk};
+ghost use Rattle.std.specs.Prelude.{◌≡◌, ◌∷◌, [], true, length, List, OnOk};
 ghost use Rattle.recording_measure.specs.Made.{Measured};
-ghost use Rattle.recording_measure.specs.Fresh.{IsFresh, IsHandedOn};
+ghost use Rattle.recording_measure.specs.Fresh.{IsFresh, hands_on};
+ghost use Rattle.recording_measure.specs.Inner.Handing.{begun_handing};
 ghost use Rattle.recording_measure.specs.Inner.Hearing.{made_of};
 
 use crate::form::Form;
@@ -24,34 +25,53 @@ pub struct Completion {
     pub exchange: Option<LastExchange>,
 }
 
+/// Whether reports are handed on, and how many were.
+#[derive(Clone, Copy)]
+pub(crate) struct Handing {
+    is_asked: bool,
+    handed: u64,
+}
+
 /// Reports that weren't handed on yet, where they are asked for.
 #[derive(Drop)]
 pub(crate) struct Fresh {
-    is_asked: bool,
-    /// How many were handed on.
-    handed: u64,
+    handing: Handing,
     /// The newest is the last.
     completions: Vec<Completion>,
+}
+
+/// Whether reports are handed on in this form.
+fn hands_on(form: Form) -> bool
+    ensures { result ≡ hands_on form }
+{
+    match form {
+        Form::Completions => true,
+        Form::Json | Form::Table | Form::FullJson | Form::FullTable | Form::Sums => false,
+    }
 }
 
 impl Fresh {
     /// No report came yet.
     pub(crate) fn new(alloc: Global, form: Form) -> Fresh
-        ensures { IsFresh [] result }
+        ensures fresh { IsFresh [] result }
+        ensures handing { result.handing ≡ begun_handing form }
     {
         Fresh {
-            is_asked: matches!(form, Form::Completions),
-            handed: 0,
+            handing: Handing {
+                is_asked: hands_on(form),
+                handed: 0,
+            },
             completions: Vec::new(alloc),
         }
     }
 
     /// Takes one more report.
     pub(crate) fn take(&mut self, made: &Made<'_>) -> Result<(), AllocError>
-        ensures { (earlier : List Measured) → IsFresh earlier self.old
+        ensures fresh { (earlier : List Measured) → IsFresh earlier self.old
             → OnOk result (IsFresh (made_of made.now ∷ earlier) self.new) }
+        ensures handing { self.new.handing ≡ self.old.handing }
     {
-        if self.is_asked {
+        if self.handing.is_asked {
             let measured = &made.measured;
             let completion = Completion {
                 by: measured.by,
@@ -73,12 +93,17 @@ impl Fresh {
 
     /// They are handed on. More than can be counted would be want of memory.
     pub(crate) fn hand_on(&mut self) -> Result<(), AllocError>
-        ensures { (all : List Measured) → IsFresh all self.old → OnOk result (IsHandedOn all self.new) }
+        ensures { (all : List Measured) → IsFresh all self.old → self.old.handing.is_asked ≡ true
+            → OnOk result (IsFresh all self.new × (self.new.handing ≡ record { is_asked = true; handed = length all })) }
     {
-        let Some(handed) = self.handed.checked_add(self.completions.len() as u64) else {
+        let Some(handed) = self
+            .handing
+            .handed
+            .checked_add(self.completions.len() as u64)
+        else {
             return Err(AllocError);
         };
-        self.handed = handed;
+        self.handing.handed = handed;
         self.completions.clear();
         Ok(())
     }

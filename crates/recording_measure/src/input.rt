@@ -8,12 +8,13 @@ ghost use Rattle.datagram_source.specs.Input.{AnswersInput, OutcomeFailed};
 ghost use Rattle.datagram_source.specs.Left.{LeavesInput};
 ghost use Rattle.recording_measure.specs.Measure.{begun, head_text, measure_rules};
 ghost use Rattle.recording_measure.specs.Summed.{WritesLine};
-ghost use Rattle.recording_measure.specs.Told.{whom_told, counts_told, interface_told, recents_told, IsSummary};
+ghost use Rattle.recording_measure.specs.Told.{whom_told, counts_told, interface_told, recents_told, is_own_told, aside_told, IsSummary};
 ghost use Rattle.recording_measure.specs.Made.{Measured};
 ghost use Rattle.recording_measure.specs.Recents.{AreRecents, offsets, paths};
 ghost use Rattle.statistics.specs.Median.{last};
 ghost use Rattle.statistics.specs.Percentile.{AreRanks};
 
+use crate::aside::Aside;
 use crate::form::Form;
 use crate::places_text::PlacesText;
 use crate::task::MeasureTask;
@@ -31,6 +32,8 @@ use text_lines::{Counted, LineFault, write_text};
 pub struct Summary {
     whom: Whom,
     counts: Counts,
+    is_own: bool,
+    aside: Aside,
     task: MeasureTask,
     /// How many packets there were of each kind; of lines there is none.
     packets: Option<PacketCounts>,
@@ -50,6 +53,20 @@ impl Summary {
         ensures { result ≡ counts_told self.now }
     {
         self.counts
+    }
+
+    /// How many datagrams are left aside.
+    pub fn aside(&self) -> Aside
+        ensures { result ≡ aside_told self.now }
+    {
+        self.aside
+    }
+
+    /// Whether a slave's own readings are measured.
+    pub fn is_own(&self) -> bool
+        ensures { result ≡ is_own_told self.now }
+    {
+        self.is_own
     }
 
     /// What the interface of a capture is called that is measured, once that is known.
@@ -92,6 +109,7 @@ impl Summary {
             offsets: self.offset_ranks(alloc)?,
             paths: self.path_ranks(alloc)?,
             places: PlacesText(&self.task.measuring),
+            is_own: self.is_own,
         };
         let mut text = String::new(alloc);
         write!(text, "{sums}")?;
@@ -103,13 +121,13 @@ impl Summary {
     pub fn tell<E: Write>(&self, errors: &mut E) {
         match &self.packets {
             Some(packets) => packets.tell_packets(errors),
-            None if self.task.measuring.is_nowhere() => {
+            None if self.task.measuring.is_nowhere() && !self.task.is_in_vain() => {
                 self.whom.tell("line", errors);
                 self.counts.tell("line", errors);
             }
             None => {}
         }
-        self.task.measuring.tell(&self.counts, errors);
+        self.task.tell_counts(&self.counts, errors);
     }
 }
 
@@ -148,6 +166,8 @@ pub fn measure<R: Read, W: Write, E: Write>(
     let summary = Summary {
         whom: task.measuring.whom(),
         counts: task.measuring.counts(),
+        is_own: task.is_own(),
+        aside: task.aside(),
         task,
         packets,
     };

@@ -2,6 +2,7 @@
 //! what it was made of.
 #![tactic(auto)]
 
+mod aside;
 mod completion;
 mod exchange;
 mod form;
@@ -23,6 +24,7 @@ mod tally;
 mod task;
 mod watch;
 
+pub use aside::Aside;
 pub use completion::Completion;
 pub use form::Form;
 pub use input::{Summary, measure};

@@ -1,6 +1,6 @@
 //! What is done with the datagrams of an input that is measured.
 
-ghost use Rattle.std.specs.Prelude.{◌≡◌, ◌++◌, ◌<◌, List, [], length, get_or, MatchResult, OnOk, option_map, option_and_then, if◌then◌else◌};
+ghost use Rattle.std.specs.Prelude.{◌≡◌, ◌++◌, ◌<◌, List, [], length, get_or, true, MatchResult, OnOk, option_map, option_and_then, if◌then◌else◌};
 ghost use Rattle.text_lines.specs.Counted.{device_of, HasNotFailed, HasFailedIf};
 ghost use Rattle.text_lines.specs.Fault.{is_write};
 ghost use Rattle.event_codec.specs.Reading.{IsReading};
@@ -10,9 +10,9 @@ ghost use Rattle.recording_measure.specs.Row.{Row, row_of};
 ghost use Rattle.recording_measure.specs.Places.{name_in, placed};
 ghost use Rattle.recording_measure.specs.Chosen.{stays_at, settled};
 ghost use Rattle.recording_measure.specs.Measured.{measurements};
-ghost use Rattle.recording_measure.specs.Fresh.{IsHandedOn};
 ghost use Rattle.recording_measure.specs.Recents.{AreRecents};
-ghost use Rattle.recording_measure.specs.Measure.{Recording as Read, begun, has_reported, measured_so_far};
+ghost use Rattle.recording_measure.specs.Measure.{Recording as Read, begun, handed_on, has_reported};
+ghost use Rattle.recording_measure.specs.Fresh.{hands_on};
 ghost use Rattle.recording_measure.specs.Summary.{told_whom};
 ghost use Rattle.recording_measure.specs.Counts.{Fate, fates, told_fates, IsCounts};
 ghost use Rattle.recording_measure.specs.Told.{place_at, called};
@@ -77,7 +77,7 @@ impl Measuring {
 
     /// Forgets each datagram that came.
     pub(crate) fn begin_anew(&mut self)
-        ensures { (r : Read) → IsMeasuring self.old r → IsMeasuring self.new (record r { rows = [] }) }
+        ensures { (r : Read) → IsMeasuring self.old r → IsMeasuring self.new (record r { rows = []; handed = 0 }) }
     {
         *self = Measuring::new(self.alloc, &self.wanted, self.reports.reports.form);
     }
@@ -229,6 +229,7 @@ impl Measuring {
             → BeginsWith is_kept self.old.recordings.recordings.items index (row_of (datagram_of datagram.now)) rows
             → AreRecents [] self.old.reports.reports.recents
             → OnOk result (AreRecents (measurements watched rows) self.new.reports.reports.recents) }
+        ensures handing { self.new.reports.reports.recents.fresh.handing ≡ self.old.reports.reports.recents.fresh.handing }
         ensures wanted { self.new.wanted ≡ self.old.wanted }
         ensures recordings { self.new.recordings ≡ self.old.recordings }
         ensures failures { MatchResult result
@@ -290,8 +291,7 @@ impl Measuring {
 
     /// The reports that weren't handed on are. More than can be counted would be want of memory.
     pub(crate) fn hand_on(&mut self) -> Result<(), AllocError>
-        ensures { (r : Read) → IsMeasuring self.old r → OnOk result (IsMeasuring self.new r
-            × IsHandedOn (measured_so_far r) self.new.reports.reports.recents.fresh) }
+        ensures { (r : Read) → IsMeasuring self.old r → hands_on r.form ≡ true → OnOk result (IsMeasuring self.new (handed_on r)) }
     {
         self.reports.reports.recents.fresh.hand_on()
     }

@@ -1,9 +1,10 @@
 //! The last numbers of reports.
 
-ghost use Rattle.std.specs.Prelude.{◌∷◌, List, [], OnOk, MatchResult, ⊤};
+ghost use Rattle.std.specs.Prelude.{◌≡◌, ◌∷◌, List, [], OnOk, MatchResult, ⊤};
 ghost use Rattle.statistics.specs.Median.{last};
 ghost use Rattle.statistics.specs.Percentile.{AreRanks};
 ghost use Rattle.recording_measure.specs.Made.{Measured};
+ghost use Rattle.recording_measure.specs.Inner.Handing.{begun_handing};
 ghost use Rattle.recording_measure.specs.Recents.{AreRecents, offsets, paths};
 ghost use Rattle.recording_measure.specs.Inner.Hearing.{made_of};
 
@@ -26,7 +27,8 @@ pub(crate) struct Recents {
 impl Recents {
     /// No report came yet.
     pub(crate) fn new(alloc: Global, form: Form) -> Recents
-        ensures { AreRecents [] result }
+        ensures recents { AreRecents [] result }
+        ensures handing { result.fresh.handing ≡ begun_handing form }
     {
         Recents {
             offsets: Recent::new(alloc),
@@ -37,8 +39,9 @@ impl Recents {
 
     /// Takes one more report.
     pub(crate) fn take(&mut self, made: &Made<'_>) -> Result<(), AllocError>
-        ensures { (earlier : List Measured) → AreRecents earlier self.old
+        ensures recents { (earlier : List Measured) → AreRecents earlier self.old
             → OnOk result (AreRecents (made_of made.now ∷ earlier) self.new) }
+        ensures handing { self.new.fresh.handing ≡ self.old.fresh.handing }
     {
         self.fresh.take(made)?;
         let report = &made.measured.report;

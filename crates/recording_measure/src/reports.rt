@@ -10,6 +10,7 @@ ghost use Rattle.datagram_source.specs.Datagram.{datagram_of};
 ghost use Rattle.recording_measure.specs.Row.{Row, row_of, datagrams};
 ghost use Rattle.recording_measure.specs.Made.{Measured};
 ghost use Rattle.recording_measure.specs.Measured.{half_of, text_as, measured_at, measurements};
+ghost use Rattle.recording_measure.specs.Inner.Handing.{begun_handing};
 ghost use Rattle.recording_measure.specs.Recents.{AreRecents};
 ghost use Rattle.recording_measure.specs.Counts.{Fate, fate_in, fate_at, fates, IsCounts};
 ghost use Rattle.recording_measure.specs.Inner.Recordings.{AreKeptRows};
@@ -130,6 +131,7 @@ impl Reports {
         ensures form { result.form ≡ form }
         ensures counted { IsCounts [] result.tally.counts }
         ensures recents { AreRecents [] result.recents }
+        ensures handing { result.recents.fresh.handing ≡ begun_handing form }
     {
         Reports {
             form,
@@ -195,6 +197,7 @@ impl Reports {
             → OnOk result (IsCounts (record fate { measured = Some (made_of made.now) } ∷ all) self.new.tally.counts) }
         ensures recents { (earlier : List Measured) → AreRecents earlier self.old.recents
             → OnOk result (AreRecents (made_of made.now ∷ earlier) self.new.recents) }
+        ensures handing { self.new.recents.fresh.handing ≡ self.old.recents.fresh.handing }
         ensures form { self.new.form ≡ self.old.form }
         ensures failures { MatchResult result
             (λ _. HasNotFailed output.old output.new)
@@ -223,6 +226,7 @@ impl TimedReports {
         ensures form { result.reports.form ≡ form }
         ensures counted { IsCounts [] result.reports.tally.counts }
         ensures recents { AreRecents [] result.reports.recents }
+        ensures handing { result.reports.recents.fresh.handing ≡ begun_handing form }
     {
         TimedReports {
             reports: Reports::new(alloc, form),
@@ -249,6 +253,7 @@ impl TimedReports {
             → StandsFor watched listener.old (after_all watched (datagrams earlier)) → AreRecents all self.old.reports.recents
             → OnOk result (AreRecents (option_to_list (measured_at watched earlier (row_of (datagram_of datagram.now))) ++ all)
             self.new.reports.recents) }
+        ensures handing { self.new.reports.recents.fresh.handing ≡ self.old.reports.recents.fresh.handing }
         ensures of_output { MatchResult result (λ _. ⊤) IsOfOutput }
         ensures form { self.new.reports.form ≡ self.old.reports.form }
         ensures failures { MatchResult result
@@ -285,6 +290,7 @@ impl TimedReports {
         ensures recents { (watched : Watched) (rows : List Row) → AreKeptRows [] kept.now rows
             → StandsFor watched listener.old (after_all watched []) → AreRecents [] self.old.reports.recents
             → OnOk result (AreRecents (measurements watched rows) self.new.reports.recents) }
+        ensures handing { self.new.reports.recents.fresh.handing ≡ self.old.reports.recents.fresh.handing }
         ensures of_output { MatchResult result (λ _. ⊤) IsOfOutput }
         ensures form { self.new.reports.form ≡ self.old.reports.form }
         ensures failures { MatchResult result

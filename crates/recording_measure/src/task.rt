@@ -1,8 +1,9 @@
 //! What is done with the datagrams of an input that is measured: those that were captured, or the messages that a slave's own readings
 //! stand for.
 
-ghost use Rattle.std.specs.Prelude.{◌≡◌, ◌++◌, ◌&&◌, nat_lt, List, [], ◌∷◌, length, not, MatchResult, OnOk};
+ghost use Rattle.std.specs.Prelude.{◌≡◌, ◌++◌, ◌&&◌, nat_lt, true, List, [], ◌∷◌, length, not, MatchResult, OnOk};
 ghost use Rattle.std.specs.List.{flat_map};
+ghost use Rattle.std.specs.Result.{is_ok};
 ghost use Rattle.text_lines.specs.Counted.{device_of, HasNotFailed, HasFailedIf};
 ghost use Rattle.text_lines.specs.Fault.{is_write};
 ghost use Rattle.event_codec.specs.Packet.{Packet};
@@ -12,11 +13,14 @@ ghost use Rattle.datagram_source.specs.Said.{reading_of};
 ghost use Rattle.datagram_source.specs.Datagram.{datagram_of};
 ghost use Rattle.signaling_codec.specs.Tlv.{readings_of};
 ghost use Rattle.recording_measure.specs.Measure.{Recording, begun, measure_rules, is_asked, is_captured, slave_by, are_by, has_reported};
-ghost use Rattle.recording_measure.specs.Measure.{IsTold, captured_by, with_own};
+ghost use Rattle.recording_measure.specs.Measure.{IsTold, TellsReadings, captured_by, counted_with, with_own, handed_on, measured_so_far};
+ghost use Rattle.recording_measure.specs.Aside.{IsAside};
 ghost use Rattle.recording_measure.specs.Own.{messages_in, messages_of};
-ghost use Rattle.recording_measure.specs.Handed.{HasHandedOn, completions_of};
+ghost use Rattle.recording_measure.specs.Fresh.{AreFresh, hands_on};
+ghost use Rattle.recording_measure.specs.Handed.{completions_of};
 ghost use Rattle.recording_measure.specs.Inner.Task.{IsTask, Adds, AddsOwn};
 
+use crate::aside::{Aside, Passed};
 use crate::completion::Completion;
 use crate::form::Form;
 use crate::measuring::Measuring;
@@ -27,6 +31,7 @@ use capture_file::InterfaceName;
 use datagram_source::{Datagram, DatagramTask, LineForm, Place, Stamp, message_in};
 use event_codec::{Header, PortIdentity, encode};
 use ptp_units::ScaledTime;
+use recording_summary::Counts;
 use signaling_codec::{OwnReading, Reading, Readings, Signaling, decode_signaling};
 use std::alloc::{AllocError, Global};
 use std::io::Write;
@@ -40,6 +45,7 @@ const MESSAGE_MOST: usize = 54;
 pub struct MeasureTask {
     pub(crate) measuring: Measuring,
     by: By,
+    passed: Passed,
 }
 
 impl DatagramTask for MeasureTask {
@@ -73,9 +79,16 @@ impl DatagramTask for MeasureTask {
         output: &mut Counted<W>,
         errors: &mut E,
     ) -> Result<(), LineFault> {
-        match self.told(datagram) {
-            Some(signaling) => self.take_own(&signaling, datagram, output, errors),
-            None => self.take_captured(datagram, output, errors),
+        let (told, tells) = self.told(datagram);
+        match told {
+            Some(signaling) => {
+                self.count(datagram, true, tells);
+                self.take_own(&signaling, datagram, output, errors)
+            }
+            None => {
+                self.count(datagram, false, tells);
+                self.take_captured(datagram, output, errors)
+            }
         }
     }
 
@@ -120,6 +133,23 @@ fn has_readings(signaling: &Signaling<'_>) -> bool
     signaling.readings().next().is_some()
 }
 
+/// Whether a datagram is one of the four messages.
+fn is_message(datagram: &Datagram<'_>) -> bool
+    ensures { result ≡ is_ok (datagram_of datagram.now).said }
+{
+    match &datagram.said {
+        Ok(_) => true,
+        Err(_) => false,
+    }
+}
+
+/// Whether a datagram tells readings that aren't taken.
+fn is_untaken(is_taken: bool, tells: bool) -> bool
+    ensures { result ≡ (tells && not is_taken) }
+{
+    tells && !is_taken
+}
+
 /// Whether readings under this header are of the domain and the slave that are asked for.
 fn is_asked(wanted: &WantedPorts, header: &Header) -> bool
     ensures { result ≡ is_asked wanted.now header.now }
@@ -138,6 +168,7 @@ impl MeasureTask {
         MeasureTask {
             measuring: Measuring::new(alloc, wanted, form),
             by: By::asked(wanted.readings),
+            passed: Passed::new(),
         }
     }
 
@@ -150,14 +181,15 @@ impl MeasureTask {
 
     /// The reports that weren't handed on, in order.
     pub fn completions(&self) -> &[Completion]
-        ensures { result.now ≡ completions_of self.now }
+        ensures kept { result.now ≡ completions_of self.now }
+        ensures fresh { (r : Recording) → IsTask self.now r → hands_on r.form ≡ true → AreFresh (measured_so_far r) r.handed result.now }
     {
         self.measuring.recents().fresh.completions()
     }
 
     /// They are handed on. More than can be counted would be want of memory.
     pub fn hand_on(&mut self) -> Result<(), AllocError>
-        ensures { (r : Recording) → IsTask self.old r → OnOk result (HasHandedOn self.new r) }
+        ensures { (r : Recording) → IsTask self.old r → hands_on r.form ≡ true → OnOk result (IsTask self.new (handed_on r)) }
     {
         self.measuring.hand_on()
     }
@@ -179,9 +211,39 @@ impl MeasureTask {
         }
     }
 
+    /// How many datagrams are left aside.
+    pub fn aside(&self) -> Aside
+        ensures { (r : Recording) → IsTask self.now r → IsAside r result }
+    {
+        let captured = match self.by {
+            By::Any | By::Captured => 0,
+            By::Own(_) => self.passed.captured,
+        };
+        Aside {
+            captured,
+            untaken: self.passed.untaken,
+        }
+    }
+
     /// Tells in lines what came of the datagrams. What can't be written is lost.
     pub fn tell<E: Write>(&self, errors: &mut E) {
-        self.measuring.tell(&self.measuring.counts(), errors);
+        self.tell_counts(&self.measuring.counts(), errors);
+    }
+
+    /// The same, with these counts.
+    pub(crate) fn tell_counts<E: Write>(&self, counts: &Counts, errors: &mut E) {
+        let aside = self.aside();
+        if self.is_in_vain() {
+            aside.tell_in_vain(errors);
+            return;
+        }
+        self.measuring.tell(counts, errors);
+        aside.tell(matches!(self.by, By::Own(_)), errors);
+    }
+
+    /// Whether a slave's own readings are asked for, and none came.
+    pub(crate) fn is_in_vain(&self) -> bool {
+        matches!(self.by, By::Own(None))
     }
 
     /// The slave that tells its own readings under this header.
@@ -202,16 +264,29 @@ impl MeasureTask {
                 .takes(self.slave_by(header), self.measuring.has_reported())
     }
 
-    /// The Signaling message that a datagram is, where its readings are measured.
-    fn told<'a>(&self, datagram: &Datagram<'a>) -> Option<Signaling<'a>>
-        ensures { (r : Recording) → IsTask self.now r → IsTold r datagram.now.octets.now result }
+    /// The Signaling message that a datagram is, where its readings are measured; and whether it tells any.
+    fn told<'a>(&self, datagram: &Datagram<'a>) -> (Option<Signaling<'a>>, bool)
+        ensures told { (r : Recording) → IsTask self.now r → IsTold r datagram.now.octets.now result.0 }
+        ensures tells { TellsReadings datagram.now.octets.now result.1 }
     {
         match decode_signaling(datagram.octets) {
-            Ok(signaling) if has_readings(&signaling) && self.takes(&signaling.header) => {
-                Some(signaling)
+            Ok(signaling) if has_readings(&signaling) => {
+                if self.takes(&signaling.header) {
+                    (Some(signaling), true)
+                } else {
+                    (None, true)
+                }
             }
-            _ => None,
+            _ => (None, false),
         }
+    }
+
+    /// Counts a datagram, whose readings are taken or not, if it tells any.
+    fn count(&mut self, datagram: &Datagram<'_>, is_taken: bool, tells: bool)
+        ensures { (r : Recording) → IsTask self.old r → IsTask self.new (counted_with (datagram_of datagram.now) is_taken tells r) }
+    {
+        self.passed
+            .count(is_message(datagram), is_untaken(is_taken, tells));
     }
 
     /// Takes a datagram that was captured, unless a slave's own readings are measured.

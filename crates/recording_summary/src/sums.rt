@@ -35,6 +35,8 @@ pub struct Sums<'a, P> {
     pub paths: Option<Ranks>,
     /// What shows as the members `place` and `places`: where it was measured, and where not.
     pub places: P,
+    /// Whether the readings are a slave's own.
+    pub is_own: bool,
 }
 
 /// A value, or null where there is none.
@@ -370,6 +372,11 @@ fn domain(known: Option<Known<u8>>) -> OrNull<u8> {
     }
 }
 
+/// Whose readings these are.
+fn readings(is_own: bool) -> &'static str {
+    if is_own { "own" } else { "capture" }
+}
+
 impl<P: Display> Sums<'_, P> {
     /// The members up to those of the place, each with a comma behind it.
     fn write_front<W: fmt::Write>(&self, f: &mut Formatter<W>) -> fmt::Result {
@@ -421,8 +428,9 @@ impl<P: Display> Display for Sums<'_, P> {
         self.write_front(f)?;
         write!(
             f,
-            "{},\"reports\":{},\"seconds\":{},\"slave\":{},{}}}",
+            "{},\"readings\":\"{}\",\"reports\":{},\"seconds\":{},\"slave\":{},{}}}",
             self.places,
+            readings(self.is_own),
             self.counts.reports,
             Length(&self.counts.quality.times),
             port(&self.whom.slave),

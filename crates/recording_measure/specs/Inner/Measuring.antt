@@ -14,6 +14,7 @@ use Rattle.recording_measure.specs.Row.{Row, datagrams, kept_most}
 use Rattle.recording_measure.specs.Places.{PlacedRow}
 use Rattle.recording_measure.specs.Chosen.{chosen, heard_at, input_watched}
 use Rattle.recording_measure.specs.Measure.{Recording, measured_so_far, with_row}
+use Rattle.recording_measure.specs.Inner.Handing.{handing_of}
 use Rattle.recording_measure.specs.Counts.{IsCounts}
 use Rattle.recording_measure.specs.Recents.{AreRecents}
 use Rattle.recording_measure.specs.Told.{place_in}
@@ -46,6 +47,7 @@ pub record IsMeasuring (task : Measuring) (r : Recording) : Type 0 where
   pub whom : whom_at task.stage task.recordings.recordings.items ≡ input_whom r.wanted r.rows
   pub counts : CountsSoFar r.wanted (chosen r.wanted r.rows) r.rows task.reports.reports.tally.counts
   pub recents : AreRecents (measured_so_far r) task.reports.reports.recents
+  pub handing : task.reports.reports.recents.fresh.handing ≡ handing_of r
 
 -- A datagram comes by which it isn't known yet whom to watch. It was counted, and is kept where few came before.
 pub record IsLooking (task : Measuring) (r : Recording) (is_kept : Bool) : Type 0 where
@@ -56,6 +58,7 @@ pub record IsLooking (task : Measuring) (r : Recording) (is_kept : Bool) : Type 
   pub kept : is_kept ≡ nat_lt (length r.rows) kept_most
   pub nothing : IsCounts [] task.reports.reports.tally.counts
   pub recents : AreRecents [] task.reports.reports.recents
+  pub handing : task.reports.reports.recents.fresh.handing ≡ handing_of r
   pub counted : (count : ℕ) × (task.stage ≡ Looking count) × (count ≡ min (length r.rows + 1) kept_most)
 
 -- one more row was taken, and the reports that it brings went out, or some of them before a fault

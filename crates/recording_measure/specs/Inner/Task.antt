@@ -5,16 +5,24 @@ use Rattle.text_lines.specs.declared.line_fault.LineFault.{LineFault}
 use Rattle.datagram_source.specs.Datagram.{DatagramOf}
 use Rattle.recording_measure.specs.Made.{Measured}
 use Rattle.recording_measure.specs.Measured.{texts_as}
+use Rattle.recording_measure.specs.Counts.{at_most}
+use Rattle.recording_measure.specs.declared.aside.Passed.{Passed}
 use Rattle.recording_measure.specs.declared.own.OwnMessage.{OwnMessage}
 use Rattle.recording_measure.specs.declared.task.MeasureTask.{MeasureTask}
 use Rattle.recording_measure.specs.Measure.{Recording, measured_so_far, TakesOwn, TakesSome}
 use Rattle.recording_measure.specs.Inner.Hearing.{GoesUntil}
 use Rattle.recording_measure.specs.Inner.Measuring.{IsMeasuring}
 
+-- so many were counted, as far as is counted
+pub record AreCounted (messages telling : ℕ) (passed : Passed) : Type 0 where
+  pub captured : passed.captured ≡ at_most messages
+  pub untaken : passed.untaken ≡ at_most telling
+
 -- what is kept is that of these rows
 pub record IsTask (task : MeasureTask) (r : Recording) : Type 0 where
   pub measuring : IsMeasuring task.measuring r
   pub by : task.by ≡ r.by
+  pub passed : AreCounted r.captured r.untaken task.passed
 
 -- it was read on so, and the reports that this brings went out, or before a fault some of those that a part of it brings
 abbrev pub Adds : {T : Type 0} → Result T LineFault → (Whole Part : Recording → Type 0) → Recording → MeasureTask

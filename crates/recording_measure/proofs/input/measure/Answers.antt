@@ -21,6 +21,8 @@ returns-clause-summary g c = λ octets known.
     let summary : Summary = record {
       whom = c.whom.result;
       counts = c.counts.result;
+      is_own = c.is_own.result;
+      aside = c.aside.result;
       task = outcome.result.1;
       packets = outcome.result.2;
     } in
@@ -32,4 +34,6 @@ returns-clause-summary g c = λ octets known.
           outcome.result.1.measuring.stage at.measuring.stage);
       counts = c.counts.ensures r at.measuring;
       recents = at.measuring.recents;
+      own = c.is_own.ensures r at;
+      aside = c.aside.ensures r at;
     }) outcome.result.0 (outcome.ensures.left (begun c.args.form c.args.wanted.now) c.new-task.ensures octets known)

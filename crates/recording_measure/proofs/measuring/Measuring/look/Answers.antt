@@ -44,7 +44,7 @@ returns-in_default-clause-taken g c = λ k at.
     let none : chosen k.wanted (r ∷ k.rows) ≡ None = unlooked_still k.wanted k.rows r at.unchosen
     (not_found r.place (places_in (r ∷ k.rows)) c.in_ok-found.found c.take.new.self.recordings.items found c.in_default.not-Some) in (
       still_looking _ k r at.counted.0 at.form at.wanted at.counted.1 at.counted.2 none
-          (subst (λ (w : WantedPorts). AreRecordings w (r ∷ k.rows) c.take.new.self.recordings.items) at.wanted are) at.nothing at.recents,
+          (subst (λ (w : WantedPorts). AreRecordings w (r ∷ k.rows) c.take.new.self.recordings.items) at.wanted are) at.nothing at.recents at.handing,
       [],
       measured-still k.wanted k.rows r at.unchosen none,
       Appends-nil _,
@@ -94,6 +94,7 @@ returns-in-Some-watched-clause-taken g c = λ k at.
             ((same_place r.place r.place).1 refl) known
             (input-first k.wanted k.rows r c.in-Some-watched.watched is known) refl same)) counted);
         recents = subst (λ (ms : List Measured). AreRecents ms c.begin.new.self.reports.reports.recents) (sym measured) last;
+        handing = c.begin.ensures.handing ∙ at.handing;
       }) begun.0 counts recents,
       measurements c.in-Some-watched.watched heard,
       measured-first k.wanted k.rows r c.in-Some-watched.watched heard at.unchosen
@@ -118,7 +119,7 @@ returns-in-None-clause-taken g c = λ k at.
     ∙ sym (c.watched.ensures k.wanted (datagrams (rows_at r.place (r ∷ k.rows))) d
     (noticed_there k.wanted k.rows r recordings c.in-Some.index are within there d)) ∙ c.in-None.is) in
     let none : chosen k.wanted (r ∷ k.rows) ≡ None = unknown_still k.wanted k.rows r at.unchosen not_known in (
-      still_looking _ k r at.counted.0 at.form at.wanted at.counted.1 at.counted.2 none are at.nothing at.recents,
+      still_looking _ k r at.counted.0 at.form at.wanted at.counted.1 at.counted.2 none are at.nothing at.recents at.handing,
       [],
       measured-still k.wanted k.rows r at.unchosen none,
       Appends-nil _,

@@ -9,4 +9,5 @@ returns c = record {
   whom = refl;
   counts = c.new-2.ensures.counted;
   recents = c.new-2.ensures.recents;
+  handing = c.new-2.ensures.handing;
 }

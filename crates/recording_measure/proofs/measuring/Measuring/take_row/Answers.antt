@@ -40,6 +40,7 @@ returns-after-is_kept-clause-taken g c = λ k at.
         nothing = none_known k.wanted k.rows c.args.self.now.reports.reports.tally.counts none at.counts;
         recents = subst (λ (ms : List Measured). AreRecents ms c.args.self.now.reports.reports.recents)
             (measured-unknown k.wanted k.rows none) at.recents;
+        handing = at.handing;
         counted = (c.in-Looking.count + 1, refl, omega (arith, counted, w.if-is_kept.true));
       })
       | else-is_kept w ↦ rw w.self-is (record {
@@ -51,6 +52,7 @@ returns-after-is_kept-clause-taken g c = λ k at.
         nothing = none_known k.wanted k.rows c.args.self.now.reports.reports.tally.counts none at.counts;
         recents = subst (λ (ms : List Measured). AreRecents ms c.args.self.now.reports.reports.recents)
             (measured-unknown k.wanted k.rows none) at.recents;
+        handing = at.handing;
         counted = (c.in-Looking.count, refl, omega (arith, counted, w.if-is_kept.false));
       })
     ])
@@ -91,6 +93,7 @@ returns-then-is_at-clause-taken g c = λ k at.
             (place_in (get_or recordings c.in-Hearing.index d)) watched (is d) known));
         counts = so;
         recents = subst (λ (ms : List Measured). AreRecents ms c.hear.new.self.reports.recents) (sym more) last;
+        handing = c.hear.ensures.handing ∙ at.handing;
       }) heard.0 counted recents,
       option_to_list (measured_at watched (heard_at k.wanted k.rows) r.row),
       more,
@@ -122,6 +125,7 @@ returns-else-is_at-clause-taken g c = λ k at.
             (so_far_known k.wanted k.rows (place_in (get_or recordings c.in-Hearing.index d))
             c.args.self.now.reports.reports.tally.counts (is d) at.counts)));
         recents = subst (λ (ms : List Measured). AreRecents ms c.args.self.now.reports.reports.recents) (sym none) at.recents;
+        handing = at.handing;
       },
       [],
       none,

@@ -15,19 +15,19 @@ with_value : (value given : ℤ) (earlier : List ℤ) (new : Recent) → given �
     → IsRecent (value ∷ earlier) new
 with_value value given earlier new same is = subst (λ (it : ℤ). IsRecent (it ∷ earlier) new) same is
 
-pub returns-in-Sync : goal.returns-in-Sync
-returns-in-Sync c = λ earlier so.
+pub returns-in-Sync-clause-recents : goal.returns-in-Sync-clause-recents
+returns-in-Sync-clause-recents c = λ earlier so.
     let report = c.args.made.now.measured.report in
     let fits : SFits w128 report.offset2 = search rules in
     on_ok_then c.take-in-Sync.result (λ taken. record {
       offsets = subst (λ (by : Half). IsRecent (cons_option (offset_by by report) (offsets earlier)) c.take-in-Sync.new.self) (sym c.in-Sync.is)
           (with_value report.offset2 _ (offsets earlier) c.take-in-Sync.new.self (to_z-of_z w128 report.offset2 fits) taken);
       paths = subst (λ (by : Half). IsRecent (cons_option (path_by by report) (paths earlier)) c.args.self.now.paths) (sym c.in-Sync.is) so.paths;
-      fresh = c.in_ok-take.ensures earlier so.fresh;
+      fresh = c.in_ok-take.ensures.fresh earlier so.fresh;
     }) (c.take-in-Sync.ensures (offsets earlier) so.offsets)
 
-pub returns-in-Response : goal.returns-in-Response
-returns-in-Response c = λ earlier so.
+pub returns-in-Response-clause-recents : goal.returns-in-Response-clause-recents
+returns-in-Response-clause-recents c = λ earlier so.
     let report = c.args.made.now.measured.report in
     let fits : SFits w128 report.path2 = search rules in
     on_ok_then c.take-in-Response.result (λ taken. record {
@@ -35,5 +35,5 @@ returns-in-Response c = λ earlier so.
           (sym c.in-Response.is) so.offsets;
       paths = subst (λ (by : Half). IsRecent (cons_option (path_by by report) (paths earlier)) c.take-in-Response.new.self) (sym c.in-Response.is)
           (with_value report.path2 _ (paths earlier) c.take-in-Response.new.self (to_z-of_z w128 report.path2 fits) taken);
-      fresh = c.in_ok-take.ensures earlier so.fresh;
+      fresh = c.in_ok-take.ensures.fresh earlier so.fresh;
     }) (c.take-in-Response.ensures (paths earlier) so.paths)

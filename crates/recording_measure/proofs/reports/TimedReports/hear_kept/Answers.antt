@@ -50,6 +50,7 @@ loop-it-preserved g c = record {
             (c.in_ok-hear.ensures.recents watched earlier (measurements watched earlier) listens (recents so)),
       );
   form = c.in_ok-hear.ensures.form ∙ c.loop-it.invariant.form;
+  handing = c.in_ok-hear.ensures.handing ∙ c.loop-it.invariant.handing;
   writer = search rules;
 }
 

@@ -23,5 +23,6 @@ invariant-loop-it g l = record {
       × (IsCounts [] l.fn.self.reports.tally.counts → IsCounts (fates watched earlier) l.self.reports.tally.counts)
       × (AreRecents [] l.fn.self.reports.recents → AreRecents (measurements watched earlier) l.self.reports.recents);
   form : l.self.reports.form ≡ l.fn.self.reports.form;
+  handing : l.self.reports.recents.fresh.handing ≡ l.fn.self.reports.recents.fresh.handing;
   writer : HasNotFailed l.fn.output l.output;
 }

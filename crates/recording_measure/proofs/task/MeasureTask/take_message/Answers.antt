@@ -26,4 +26,4 @@ returns-clause-taken g c = λ r at.
       said = says_packet (contents_of own.message) c.octets_of-octets.result.now (reading_of c.message_in.result) c.octets_of-octets.ensures
           c.message_in.ensures;
       own = refl;
-    }) refl at.by (c.take_row.ensures.taken r at.measuring)
+    }) refl at.by at.passed (c.take_row.ensures.taken r at.measuring)
