@@ -1,11 +1,11 @@
 -- Those that are held, one after the other, and those that wait.
-use Rattle.std.proofs.Common.{arith, ◌≡◌, ◌∙◌, ◌<◌, ◌+◌, ◌++◌, ℕ, zero, suc, List, [], ◌∷◌, length, map, take, drop, Option, Some, None, refl, sym, ap, append_assoc}
+use Rattle.std.proofs.Common.{arith, ◌≡◌, ◌∙◌, ◌<◌, ◌+◌, ◌++◌, ℕ, zero, suc, List, [], ◌∷◌, length, map, take, drop, Option, Some, None, refl, ap, append_assoc}
 use Rattle.recording_lines.specs.declared.measurement.Half.{Half}
 use Rattle.result_audit.specs.declared.course.Gap.{Gap}
 use Rattle.result_audit.specs.declared.held.Held.{Held}
 use Rattle.result_audit.specs.declared.told.Told.{Told}
 use Rattle.result_audit.specs.Held.{learned}
-use Rattle.result_audit.specs.Auditor.{Auditing, settled, held_now, settled_from, settled_with}
+use Rattle.result_audit.specs.Auditor.{Auditing, settled, held_now, settled_from, settled_with, with_judged}
 use Rattle.result_audit.specs.Inner.Turning.{turned}
 
 -- so many of them learned, and are the last
@@ -38,47 +38,24 @@ turned_by-one half gap count held within =
     ∙ ap (λ (them : List Held). drop (suc count) held ++ them) (map-take half gap count held within)
     ∙ ap (λ (n : ℕ). turned_by half gap n held) next
 
--- none waits
-pub settled-none : (now : Told → Option Held) (held : List Held) → settled_from now [] held ≡ ([], held)
-unfolding settled_from
-settled-none now held = refl
-
--- the first one waits on
-pub settled-later : (now : Told → Option Held) (told : Told) (others : List Told) (held : List Held) → now told ≡ None
-    → settled_from now (told ∷ others) held ≡ (told ∷ others, held)
-unfolding settled_from
-settled-later now told others held later = ap (λ (one : Option Held). settled_with now one told others (settled_from now others) held) later
-
--- the first one is judged
-pub settled-now : (now : Told → Option Held) (told : Told) (others : List Told) (held : List Held) (one : Held) → now told ≡ Some one
-    → settled_from now (told ∷ others) held ≡ settled_from now others (held ++ one ∷ [])
-unfolding settled_from
-settled-now now told others held one is = ap (λ (it : Option Held). settled_with now it told others (settled_from now others) held) is
-
 -- ---- what settling leaves
-with_parts : Auditing → List Told × List Held → Auditing
-with_parts a parts = record a { awaiting = parts.0; held = parts.1 }
-
 -- none waits: nothing changes
 pub settled-empty : (a : Auditing) → a.awaiting ≡ [] → settled a ≡ a
-unfolding with_parts
-settled-empty a none = ap (with_parts a)
-    (ap (λ (them : List Told). settled_from (held_now a) them a.held) none ∙ settled-none (held_now a) a.held
-    ∙ ap (λ (them : List Told). (them, a.held)) (sym none))
+unfolding settled_from
+settled-empty a none = ap (λ (them : List Told). settled_from them a) none
 
 -- the first waits on: nothing changes
 pub settled-waits : (a : Auditing) (told : Told) (others : List Told) → a.awaiting ≡ told ∷ others → held_now a told ≡ None → settled a ≡ a
-unfolding with_parts
-settled-waits a told others are later = ap (with_parts a)
-    (ap (λ (them : List Told). settled_from (held_now a) them a.held) are ∙ settled-later (held_now a) told others a.held later
-    ∙ ap (λ (them : List Told). (them, a.held)) (sym are))
+unfolding settled_from
+settled-waits a told others are later = ap (λ (them : List Told). settled_from them a) are
+    ∙ ap (λ (one : Option Held). settled_with one others (settled_from others) a) later
 
 -- the first is judged: what is left comes to the same
 pub settled-judged : (a : Auditing) (told : Told) (others : List Told) (one : Held) → a.awaiting ≡ told ∷ others → held_now a told ≡ Some one
-    → settled a ≡ settled (record a { awaiting = others; held = a.held ++ one ∷ [] })
-unfolding with_parts
-settled-judged a told others one are is = ap (with_parts a)
-    (ap (λ (them : List Told). settled_from (held_now a) them a.held) are ∙ settled-now (held_now a) told others a.held one is)
+    → settled a ≡ settled (with_judged one (record a { awaiting = others }))
+unfolding settled_from
+settled-judged a told others one are is = ap (λ (them : List Told). settled_from them a) are
+    ∙ ap (λ (it : Option Held). settled_with it others (settled_from others) a) is
 
 -- nothing is left of what loses its first and stays the same
 pub nothing_left : {X : Type 0} (xs : List X) → xs ≡ drop 1 xs → xs ≡ []

@@ -1,25 +1,29 @@
 -- What becomes of results, as reports and results come.
-use Rattle.std.specs.Prelude.{◌≡◌, ◌==◌, ◌||◌, ◌&&◌, ℕ, nat_le, nat_lt, max, Bool, true, false, not, ℤ, List, [], ◌∷◌, ◌++◌, ◌-◌, length, map, Option, Some, None, if◌then◌else◌, MatchOption}
-use Rattle.std.specs.Option.{option_map_or}
+use Rattle.std.specs.Prelude.{◌≡◌, ◌==◌, ◌||◌, ◌&&◌, ℕ, nat_lt, max, Bool, true, false, not, ℤ, List, [], ◌∷◌, ◌++◌, ◌-◌, length, map, Option, Some, None, if◌then◌else◌, MatchOption}
 use Rattle.ptp_units.specs.Sequence.{is_newer}
 use Rattle.ptp_units.specs.declared.sequence.Seq.{Seq}
 use Rattle.result_audit.specs.declared.answer.Answer.{Answer}
 use Rattle.result_audit.specs.declared.auditor.Auditor.{Auditor}
 use Rattle.result_audit.specs.declared.auditor.Stand.{Stand}
 use Rattle.result_audit.specs.declared.auditor.Stand.TheVariants as stands
-use Rattle.result_audit.specs.declared.course.AtSync.{AtSync}
+use Rattle.result_audit.specs.declared.course.AtReport.{AtReport}
 use Rattle.result_audit.specs.declared.course.Course.{Course}
 use Rattle.result_audit.specs.declared.course.Gap.{Gap}
+use Rattle.result_audit.specs.declared.course.Gaps.{Gaps}
+use Rattle.result_audit.specs.declared.coverage.Coverage.{Coverage}
 use Rattle.result_audit.specs.declared.held.Held.{Held}
 use Rattle.result_audit.specs.declared.report_at.ReportAt.{ReportAt}
 use Rattle.result_audit.specs.declared.told.Of.{Of}
 use Rattle.result_audit.specs.declared.told.Of.TheVariants as of
 use Rattle.result_audit.specs.declared.told.Told.{Told}
 use Rattle.result_audit.specs.declared.why.Why.TheVariants as why
-use Rattle.result_audit.specs.Course.{IsUntold, TakesReport, number_of}
-use Rattle.result_audit.specs.Held.{held_at, held_without_sync, learned, is_decided, last_word}
+use Rattle.result_audit.specs.Course.{IsUntold, TakesReport, first_of}
+use Rattle.recording_lines.specs.declared.measurement.Half.{Half}
+use Rattle.recording_lines.specs.declared.measurement.Half.TheVariants as halves
+use Rattle.result_audit.specs.Coverage.{covers_nothing, with_half, with_held}
+use Rattle.result_audit.specs.Held.{held_at, held_without_sync, better, learned, is_decided, last_word}
 
--- what was read; the results whose Sync may come yet, and those that are judged, both in order
+-- what was read; the results whose Sync may come yet, and those that are judged, both in order; and how many Syncs have results
 pub record Auditing : Type 0 where
   pub tolerance : ℤ
   pub course : Course
@@ -27,6 +31,7 @@ pub record Auditing : Type 0 where
   pub held : List Held
   pub passed : ℕ
   pub has_ended : Bool
+  pub coverage : Coverage
 
 abbrev pub auditing_of : Auditor → Auditing
 auditing_of auditor = record {
@@ -36,6 +41,7 @@ auditing_of auditor = record {
   held = auditor.held.items;
   passed = auditor.passed;
   has_ended = auditor.has_ended;
+  coverage = auditor.coverage;
 }
 
 -- nothing was told
@@ -46,10 +52,11 @@ pub record Begins (tolerance : ℤ) (a : Auditing) : Type 0 where
   pub held : a.held ≡ []
   pub passed : a.passed ≡ 0
   pub ended : a.has_ended ≡ false
+  pub coverage : a.coverage ≡ covers_nothing
 
 -- ---- where the Sync of a result stands
 -- the newest one, which came at this line or in front of it
-abbrev pub stand_behind : (line : ℕ) → Option AtSync → Stand
+abbrev pub stand_behind : (line : ℕ) → Option AtReport → Stand
 stand_behind line None = stands.Nowhere why.NothingCame
 stand_behind line (Some at) =
     if nat_lt line at.at.line then stands.Nowhere (why.Passed line) else stands.Newest
@@ -65,8 +72,8 @@ stand_of_number (Some newest) number has_ended =
 -- that which a result names
 abbrev pub stand_of : Auditing → Of → Stand
 stand_of a (of.Line line) =
-    if not a.has_ended && nat_lt a.passed line then stands.Later else stand_behind line a.course.newest
-stand_of a (of.Sequence number) = stand_of_number (number_of a.course) number a.has_ended
+    if not a.has_ended && nat_lt a.passed line then stands.Later else stand_behind line (first_of a.course)
+stand_of a (of.Sequence number) = stand_of_number a.course.sync number a.has_ended
 
 -- that of a result: where it names none, the newest one
 abbrev pub stand : Auditing → Option Of → Stand
@@ -74,52 +81,78 @@ stand a None = stands.Newest
 stand a (Some it) = stand_of a it
 
 -- ---- what is said of it
--- by the newest Sync
-abbrev pub held_of_newest : Auditing → Told → Option AtSync → Held
-held_of_newest a told None = held_without_sync told why.NothingCame
-held_of_newest a told (Some at) = held_at told at a.tolerance
+-- by the report at the newest Sync, or by that behind it
+abbrev pub held_of : Auditing → Told → (newest behind : Option AtReport) → Held
+held_of a told None None = held_without_sync told why.NothingCame
+held_of a told (Some at) None = held_at told at a.tolerance
+held_of a told None (Some at) = held_at told at a.tolerance
+held_of a told (Some at) (Some behind) = better (held_at told at a.tolerance) (held_at told behind a.tolerance)
+
+abbrev pub held_of_newest : Auditing → Told → Held
+held_of_newest a told = held_of a told a.course.newest a.course.behind
 
 -- one whose Sync stands so; none where that may come yet
 abbrev pub held_as : Auditing → Told → Stand → Option Held
-held_as a told stands.Newest = Some (held_of_newest a told a.course.newest)
+held_as a told stands.Newest = Some (held_of_newest a told)
 held_as a told stands.Later = None
 held_as a told (stands.Nowhere because) = Some (held_without_sync told because)
 
 abbrev pub held_now : Auditing → Told → Option Held
 held_now a told = held_as a told (stand a told.of)
 
--- one of those whose Sync may come yet is judged, or waits on, and so do those behind it
-abbrev pub settled_with : (Told → Option Held) → Option Held → Told → List Told → (rest : List Held → List Told × List Held) → List Held → List Told × List Held
-settled_with now None told others rest held = (told ∷ others, held)
-settled_with now (Some one) told others rest held = rest (held ++ one ∷ [])
+-- one more is judged, and its Sync has a result
+abbrev pub with_judged : Held → Auditing → Auditing
+with_judged one a = record a { held = a.held ++ one ∷ []; coverage = with_held one a.coverage }
 
--- the first ones, up to one whose Sync may come yet, are judged
-unfoldable pub settled_from : (Told → Option Held) → List Told → List Held → List Told × List Held
-settled_from now [] held = ([], held)
-settled_from now (told ∷ others) held = settled_with now (now told) told others (settled_from now others) held
+-- the first of those whose Sync may come yet is judged, and then the rest; or it waits on, and so do the others
+abbrev pub settled_with : Option Held → (others : List Told) → (rest : Auditing → Auditing) → Auditing → Auditing
+settled_with None others rest a = a
+settled_with (Some one) others rest a = rest (with_judged one (record a { awaiting = others }))
+
+-- the first ones of those that wait, up to one whose Sync may come yet, are judged
+unfoldable pub settled_from : List Told → Auditing → Auditing
+settled_from [] a = a
+settled_from (told ∷ others) a = settled_with (held_now a told) others (settled_from others) a
 
 abbrev pub settled : Auditing → Auditing
-settled a = let parts = settled_from (held_now a) a.awaiting a.held in record a { awaiting = parts.0; held = parts.1 }
+settled a = settled_from a.awaiting a
 
 -- ---- what comes
 -- all up to this line or packet was taken
 abbrev pub passed_by : ℕ → Auditing → Auditing
 passed_by number a = settled (record a { passed = max a.passed number })
 
--- a report: those that are held learn what lies before its message
-abbrev pub with_report : ReportAt → Course → Gap → Auditing → Auditing
-with_report c course gap a = settled (record a { course = course; held = map (learned c.by gap) a.held })
+-- those that are held learn what lies before a message of a half, where one came
+abbrev pub all_learned : Half → Option Gap → List Held → List Held
+all_learned half None held = held
+all_learned half (Some gap) held = map (learned half gap) held
 
+-- they learn what lies before the exchange of a report and before its Sync, where these are new
+abbrev pub learned_gaps : Gaps → List Held → List Held
+learned_gaps gaps held = all_learned halves.Sync gaps.sync (all_learned halves.Response gaps.exchange held)
+
+-- a report
+abbrev pub with_report : ReportAt → Course → Gaps → Auditing → Auditing
+with_report c course gaps a = settled (record a {
+  course = course;
+  held = learned_gaps gaps a.held;
+  coverage = with_half c.by gaps.sync a.coverage;
+})
+
+abbrev pub TakesReportNow : ReportAt → (before after : Auditing) → Type 0
+TakesReportNow c before after =
+    (course : Course) × (gaps : Gaps) × TakesReport c before.course course gaps × (after ≡ with_report c course gaps before)
+
+-- all in front of it was taken
 abbrev pub TakesReportAt : ReportAt → (before after : Auditing) → Type 0
-TakesReportAt c before after = (course : Course) × (gap : Gap) × TakesReport c before.course course gap
-    × (after ≡ with_report c course gap (passed_by (c.line - 1) before))
+TakesReportAt c before after = TakesReportNow c (passed_by (c.line - 1) before) after
 
 -- a result, which names its Sync, or is of the newest one
 abbrev pub awaiting_with : Told → Auditing → Auditing
 awaiting_with told a = settled (record a { awaiting = a.awaiting ++ told ∷ [] })
 
 abbrev pub told_as : Option Of → Told → Auditing → Auditing
-told_as None told a = record a { held = a.held ++ held_of_newest a told a.course.newest ∷ [] }
+told_as None told a = with_judged (held_of_newest a told) a
 told_as (Some it) told a = awaiting_with told a
 
 abbrev pub with_told : Told → Auditing → Auditing

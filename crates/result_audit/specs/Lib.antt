@@ -1,5 +1,9 @@
 pub mod Course
 pub mod Held
+pub mod Coverage
 pub mod Auditor
 pub mod Lines
+pub mod Law
+pub mod Totals
+pub mod Told
 pub mod Inner

@@ -19,9 +19,6 @@ cell_text false None = codes "null"
 cell_text true (Some value) = exact_text value
 cell_text true None = []
 
-abbrev pub path_cell_text : (is_table : Bool) → Option ℤ → List ℕ
-path_cell_text is_table path = cell_text is_table path
-
 -- a verdict in a word
 abbrev pub word_text : Option Verdict → List ℕ
 word_text None = codes "unjudged"
@@ -44,7 +41,7 @@ if_told told value = option_map (λ path. value) told.path
 abbrev pub json_front : Told → Found → List ℕ
 json_front told found = codes "{\"beyond\":\"" ++ exact_text found.judged.beyond ++ codes "\",\"line\":" ++ decimal found.at.line
     ++ codes ",\"offset\":\"" ++ exact_text told.offset ++ codes "\",\"offset_error\":\"" ++ exact_text found.judged.offset_error
-    ++ codes "\",\"path\":" ++ path_cell_text false told.path
+    ++ codes "\",\"path\":" ++ cell_text false told.path
     ++ codes ",\"path_error\":" ++ cell_text false (if_told told found.judged.path_error)
 
 abbrev pub json_middle : Told → Found → List ℕ
@@ -67,7 +64,7 @@ json_end answer found = codes ",\"time\":\"" ++ time_text found.at.exchange.t2
 -- one of which no Sync is known
 abbrev pub json_unfound : Answer → List ℕ
 json_unfound answer = codes "{\"beyond\":null,\"line\":null,\"offset\":\"" ++ exact_text answer.told.offset
-    ++ codes "\",\"offset_error\":null,\"path\":" ++ path_cell_text false answer.told.path
+    ++ codes "\",\"offset_error\":null,\"path\":" ++ cell_text false answer.told.path
     ++ codes ",\"path_error\":null,\"path_is\":null,\"sequence\":null,\"sum_error\":null,\"tags\":null,\"time\":null,\"verdict\":\""
     ++ word_text answer.verdict ++ codes "\"}\n"
 
@@ -83,7 +80,7 @@ table_head = codes "beyond_ns,line,offset_ns,offset_error_ns,path_ns,path_error_
 abbrev pub row_front : Told → Found → List ℕ
 row_front told found = exact_text found.judged.beyond ++ codes "," ++ decimal found.at.line
     ++ codes "," ++ exact_text told.offset ++ codes "," ++ exact_text found.judged.offset_error
-    ++ codes "," ++ path_cell_text true told.path
+    ++ codes "," ++ cell_text true told.path
     ++ codes "," ++ cell_text true (if_told told found.judged.path_error)
 
 abbrev pub row_rest : Answer → Found → List ℕ
@@ -95,7 +92,7 @@ row_rest answer found = codes "," ++ path_text found.judged.path_is
 
 -- one of which no Sync is known
 abbrev pub row_unfound : Answer → List ℕ
-row_unfound answer = codes ",," ++ exact_text answer.told.offset ++ codes ",," ++ path_cell_text true answer.told.path
+row_unfound answer = codes ",," ++ exact_text answer.told.offset ++ codes ",," ++ cell_text true answer.told.path
     ++ codes ",,,,,," ++ word_text answer.verdict ++ codes "\n"
 
 -- as a row

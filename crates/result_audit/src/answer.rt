@@ -8,10 +8,10 @@ use crate::told::Told;
 use crate::why::Why;
 use result_verdict::{Judged, Verdict};
 
-/// What a result is by its Sync.
+/// What a result is by the report that it is of.
 #[derive(Clone, Copy, Debug)]
 pub struct Found {
-    /// The report at the Sync.
+    /// The report, at its Sync or at a Delay_Resp behind that.
     pub at: ReportAt,
     /// What the result is by that.
     pub judged: Judged,
@@ -22,7 +22,7 @@ pub struct Found {
 pub struct Answer {
     /// The result.
     pub told: Told,
-    /// What it is by its Sync, where this is known.
+    /// What it is by its report, where there is one.
     pub found: Option<Found>,
     /// Its verdict; none where it isn't judged.
     pub verdict: Option<Verdict>,

@@ -1,13 +1,16 @@
 //! Results that wait for their Syncs, and those that are judged.
 
-ghost use Rattle.std.specs.Prelude.{◌≡◌, [], ◌∷◌, ◌++◌, map, OnOk};
-ghost use Rattle.result_audit.specs.Auditor.{Begins, TakesReportAt, HandsOut, auditing_of, passed_by, with_told, at_end, settled};
+ghost use Rattle.std.specs.Prelude.{◌≡◌, Some, [], ◌∷◌, ◌++◌, map, OnOk};
+ghost use Rattle.result_audit.specs.Auditor.{Begins, TakesReportAt, HandsOut, auditing_of, passed_by, with_told, at_end, settled, with_judged, all_learned, learned_gaps};
+ghost use Rattle.result_audit.specs.Course.{first_of};
 ghost use Rattle.result_audit.specs.Auditor.{is_ready, stand_behind, stand_of_number, stand_of, stand, held_of_newest, held_as, held_now};
+ghost use Rattle.result_audit.specs.Coverage.{without_result};
 ghost use Rattle.result_audit.specs.Held.{learned};
-ghost use Rattle.result_audit.specs.Inner.Turning.{turned};
+ghost use Rattle.result_audit.specs.Inner.Turning.{turned, with_held_as};
 
 use crate::answer::Answer;
-use crate::course::{AtSync, Course, Gap};
+use crate::course::{AtReport, Course, Gap, Gaps};
+use crate::coverage::Coverage;
 use crate::held::Held;
 use crate::report_at::ReportAt;
 use crate::told::{Of, Told};
@@ -32,31 +35,6 @@ pub(crate) enum Stand {
     Nowhere(Why),
 }
 
-/// How many reports at Syncs there are, and how many of these Syncs have results.
-#[derive(Clone, Copy)]
-struct Coverage {
-    syncs: u64,
-    with_result: u64,
-    /// The line of the newest one that has no result yet.
-    without: Option<u64>,
-}
-
-impl Coverage {
-    /// One more report at a Sync.
-    fn count_sync(&mut self, line: u64) {
-        self.syncs = self.syncs.saturating_add(1);
-        self.without = Some(line);
-    }
-
-    /// A result is of the Sync of this line.
-    fn count_result(&mut self, line: u64) {
-        if self.without == Some(line) {
-            self.without = None;
-            self.with_result = self.with_result.saturating_add(1);
-        }
-    }
-}
-
 /// Judges results by the reports that are measured, in order.
 #[derive(Drop)]
 pub struct Auditor {
@@ -73,13 +51,23 @@ pub struct Auditor {
 }
 
 /// Where the newest Sync stands that came at this line or in front of it.
-fn stand_behind(line: u64, newest: &Option<AtSync>) -> Stand
-    ensures { result ≡ stand_behind line newest.now }
+fn stand_behind(line: u64, course: &Course) -> Stand
+    ensures { result ≡ stand_behind line (first_of course.now) }
 {
-    match newest {
-        None => Stand::Nowhere(Why::NothingCame),
-        Some(at) if line < at.at.line => Stand::Nowhere(Why::Passed(line)),
-        Some(_) => Stand::Newest,
+    match (&course.newest, &course.behind) {
+        (Some(at), _) | (None, Some(at)) => stand_at(line, at),
+        (None, None) => Stand::Nowhere(Why::NothingCame),
+    }
+}
+
+/// Where the Sync of a report stands that came at this line or in front of it.
+fn stand_at(line: u64, at: &AtReport) -> Stand
+    ensures { result ≡ stand_behind line (Some at.now) }
+{
+    if line < at.at.line {
+        Stand::Nowhere(Why::Passed(line))
+    } else {
+        Stand::Newest
     }
 }
 
@@ -124,11 +112,7 @@ impl Auditor {
             held: VecDeque::new(alloc),
             passed: 0,
             has_ended: false,
-            coverage: Coverage {
-                syncs: 0,
-                with_result: 0,
-                without: None,
-            },
+            coverage: Coverage::new(),
         }
     }
 
@@ -137,11 +121,9 @@ impl Auditor {
         ensures { OnOk result (TakesReportAt at.now (auditing_of self.old) (auditing_of self.new)) }
     {
         self.pass(at.line.saturating_sub(1))?;
-        let gap = self.course.take(at);
-        self.learn(at.by, gap)?;
-        if let Half::Sync = at.by {
-            self.coverage.count_sync(at.line);
-        }
+        let gaps = self.course.take(at);
+        self.learn_gaps(gaps)?;
+        self.coverage.take(at.by, gaps.sync);
         self.settle()
     }
 
@@ -152,7 +134,7 @@ impl Auditor {
         match told.of {
             None => {
                 let held = self.held_of_newest(&told);
-                self.hold(held)
+                self.hold(held, true)
             }
             Some(_) => {
                 push_back(&mut self.awaiting, told)?;
@@ -190,10 +172,10 @@ impl Auditor {
     }
 
     /// How many reports at Syncs have no result.
-    pub fn without_result(&self) -> u64 {
-        self.coverage
-            .syncs
-            .saturating_sub(self.coverage.with_result)
+    pub fn without_result(&self) -> u64
+        ensures { result ≡ without_result (auditing_of self.now).coverage }
+    {
+        self.coverage.without_result()
     }
 
     /// Whether the first of those that are held may be handed out.
@@ -203,14 +185,33 @@ impl Auditor {
         held.is_decided() || self.has_ended || HELD_MOST < self.held.len()
     }
 
-    /// One more is held.
-    fn hold(&mut self, held: Held) -> Result<(), AllocError>
-        ensures { OnOk result (auditing_of self.new ≡ record (auditing_of self.old) { held = self.old.held.items ++ held ∷ [] }) }
+    /// One more is held. One that is judged now counts as a result of its Sync.
+    fn hold(&mut self, held: Held, is_new: bool) -> Result<(), AllocError>
+        ensures { OnOk result (auditing_of self.new ≡ with_held_as is_new held (auditing_of self.old)) }
     {
-        if let Some(found) = &held.answer.found {
-            self.coverage.count_result(found.at.line);
-        }
+        self.coverage = match &held.answer.found {
+            Some(_) if is_new => self.coverage.with_result(),
+            _ => self.coverage,
+        };
         push_back(&mut self.held, held)
+    }
+
+    /// Those that are held learn what lies before the messages of a report.
+    fn learn_gaps(&mut self, gaps: Gaps) -> Result<(), AllocError>
+        ensures { OnOk result (auditing_of self.new ≡ record (auditing_of self.old) { held = learned_gaps gaps self.old.held.items }) }
+    {
+        self.learn_if(Half::Response, gaps.exchange)?;
+        self.learn_if(Half::Sync, gaps.sync)
+    }
+
+    /// Those that are held learn what lies before a message of this half, where one came.
+    fn learn_if(&mut self, half: Half, gap: Option<Gap>) -> Result<(), AllocError>
+        ensures { OnOk result (auditing_of self.new ≡ record (auditing_of self.old) { held = all_learned half gap self.old.held.items }) }
+    {
+        match gap {
+            Some(gap) => self.learn(half, gap),
+            None => Ok(()),
+        }
     }
 
     /// Those that are held learn what lies before a message of this half.
@@ -229,7 +230,7 @@ impl Auditor {
         ensures { OnOk result (auditing_of self.new ≡ record (auditing_of self.old) { held = turned half gap self.old.held.items }) }
     {
         match self.held.pop_front() {
-            Some(held) => self.hold(held.learned(half, gap)),
+            Some(held) => self.hold(held.learned(half, gap), false),
             None => Ok(()),
         }
     }
@@ -250,20 +251,23 @@ impl Auditor {
     {
         match of {
             Of::Line(line) if !self.has_ended && self.passed < line => Stand::Later,
-            Of::Line(line) => stand_behind(line, &self.course.newest),
-            Of::Sequence(number) => {
-                stand_of_number(self.course.number(), number, self.has_ended)
-            }
+            Of::Line(line) => stand_behind(line, &self.course),
+            Of::Sequence(number) => { stand_of_number(self.course.sync, number, self.has_ended) }
         }
     }
 
-    /// What is said of a result by the newest Sync.
+    /// What is said of a result by the report at the newest Sync, or by that behind it.
     fn held_of_newest(&self, told: &Told) -> Held
-        ensures { result ≡ held_of_newest (auditing_of self.now) told.now self.now.course.newest }
+        ensures { result ≡ held_of_newest (auditing_of self.now) told.now }
     {
-        match &self.course.newest {
-            Some(at) => Held::at(*told, at, self.tolerance),
-            None => Held::without_sync(*told, Why::NothingCame),
+        match (&self.course.newest, &self.course.behind) {
+            (Some(at), Some(behind)) => Held::at(*told, at, self.tolerance).or_better(Held::at(
+                *told,
+                behind,
+                self.tolerance,
+            )),
+            (Some(at), None) | (None, Some(at)) => Held::at(*told, at, self.tolerance),
+            (None, None) => Held::without_sync(*told, Why::NothingCame),
         }
     }
 
@@ -287,7 +291,7 @@ impl Auditor {
                 self.awaiting.push_front(told)?;
                 break;
             };
-            self.hold(held)?;
+            self.hold(held, true)?;
         }
         Ok(())
     }

@@ -1,8 +1,8 @@
-//! What a slave's readings tell at its newest Sync.
+//! What a slave's readings tell at its newest Sync, and at the newest response behind that.
 
-ghost use Rattle.std.specs.Prelude.{◌≡◌, ◌≤◌, ◌+◌, min, length, MatchOption, option_map};
-ghost use Rattle.result_audit.specs.Course.{gap_between, with_delay, known_of, without_newest, delays_at_sync};
-ghost use Rattle.result_audit.specs.Course.{delays_at_exchange, since_at_exchange, bracket2_of, IsTooFar, IsAtSync, IsUntold, number_of, at_with, TakesSync};
+ghost use Rattle.std.specs.Prelude.{◌≡◌, ◌≤◌, ◌+◌, min, length, Some, None, MatchOption, option_map};
+ghost use Rattle.result_audit.specs.Course.{gap_between, gap_to_other, with_delay, known_of, without_newest, delays_at_sync, delays_with, since_with, delays_at_other, since_at_other, delays_behind_other, since_behind_other, newest_behind_other};
+ghost use Rattle.result_audit.specs.Course.{delays_at_exchange, since_at_exchange, bracket2_of, IsTooFar, IsAtReport, IsUntold, at_with, sync_gaps, exchange_gap, other_sync, TakesSync};
 ghost use Rattle.result_audit.specs.Course.{TakesExchange, TakesReport};
 
 use crate::report_at::ReportAt;
@@ -46,6 +46,25 @@ impl Gap {
             Gap::Anew
         }
     }
+
+    /// What lies between the last number and that of a report, where it is another one; none where it is the same, or the first.
+    fn to_other(last: Option<Seq>, number: Seq) -> Option<Gap>
+        ensures { result ≡ gap_to_other last number }
+    {
+        let last = last?;
+        if last.0 == number.0 {
+            None
+        } else {
+            Some(Gap::between(Some(last), number))
+        }
+    }
+}
+
+/// What lies before the messages of a report that are new: before its exchange, and before its Sync.
+#[derive(Clone, Copy, Debug)]
+pub(crate) struct Gaps {
+    pub(crate) exchange: Option<Gap>,
+    pub(crate) sync: Option<Gap>,
 }
 
 /// The delays at the last responses, the newest in front; none where messages are missing.
@@ -116,29 +135,29 @@ impl Delays {
     }
 }
 
-/// What is known at a Sync.
+/// What is known at a report.
 #[derive(Drop)]
-pub(crate) struct AtSync {
+pub(crate) struct AtReport {
     /// The report at it.
     pub(crate) at: ReportAt,
     /// The bracket and the delays.
     pub(crate) known: Known,
     /// Whether each delay at the last responses is known.
     pub(crate) is_whole: bool,
-    /// What lies between its exchange and the next one, once that came.
+    /// What lies before the exchanges behind it, once one came.
     pub(crate) behind_exchange: Option<Gap>,
 }
 
-impl AtSync {
+impl AtReport {
     /// By the report at it, and the delays until then. The bracket has to be less than 2^110 ns, either way.
-    fn new(at: &ReportAt, delays: &Delays) -> Option<AtSync>
-        ensures { MatchOption result (IsTooFar at.now) (IsAtSync at.now delays.now.delays.items) }
+    fn new(at: &ReportAt, delays: &Delays) -> Option<AtReport>
+        ensures { MatchOption result (IsTooFar at.now) (IsAtReport at.now delays.now.delays.items) }
     {
         let report = &at.report;
         let bracket2 = report.offset2.checked_add(report.path2)?;
         let responses = known_of(delays.delays.as_slice());
         let is_whole = responses.is_full();
-        Some(AtSync {
+        Some(AtReport {
             at: *at,
             known: Known {
                 bracket: Exact::from_twice(bracket2),
@@ -149,15 +168,14 @@ impl AtSync {
             behind_exchange: None,
         })
     }
-}
 
-impl AtSync {
-    /// The exchange behind it came, unless it had come before, and this lies before it.
+    /// One more exchange behind it came, and this lies before it. What is missing stays.
     fn learn_behind(&mut self, gap: Gap)
         ensures { self.new ≡ at_with gap self.old }
     {
-        if self.behind_exchange.is_none() {
-            self.behind_exchange = Some(gap);
+        match self.behind_exchange {
+            None | Some(Gap::None) => self.behind_exchange = Some(gap),
+            Some(Gap::Missing(_) | Gap::Anew) => {}
         }
     }
 }
@@ -165,8 +183,13 @@ impl AtSync {
 /// What a slave's readings told so far.
 #[derive(Drop)]
 pub(crate) struct Course {
-    pub(crate) newest: Option<AtSync>,
-    /// The number of the newest exchange.
+    /// At the newest Sync.
+    pub(crate) newest: Option<AtReport>,
+    /// At the newest response, if it came behind that.
+    pub(crate) behind: Option<AtReport>,
+    /// The number of the Sync of the last report.
+    pub(crate) sync: Option<Seq>,
+    /// The number of its exchange.
     request: Option<Seq>,
     delays: Delays,
     /// So many delays came behind the newest Sync.
@@ -198,6 +221,8 @@ impl Course {
     {
         Course {
             newest: None,
+            behind: None,
+            sync: None,
             request: None,
             delays: Delays {
                 delays: ArrayVec::new(),
@@ -206,18 +231,8 @@ impl Course {
         }
     }
 
-    /// The number of the newest Sync.
-    pub(crate) fn number(&self) -> Option<Seq>
-        ensures { result ≡ number_of self.now }
-    {
-        match &self.newest {
-            Some(newest) => Some(newest.at.exchange.sync_number),
-            None => None,
-        }
-    }
-
-    /// Takes a report. Answers what lies between the message that completed it and the last of its kind.
-    pub(crate) fn take(&mut self, at: &ReportAt) -> Gap
+    /// Takes a report. Answers what lies before its messages that are new.
+    pub(crate) fn take(&mut self, at: &ReportAt) -> Gaps
         ensures { TakesReport at.now self.old self.new result }
     {
         match at.by {
@@ -227,28 +242,78 @@ impl Course {
     }
 
     /// Takes a report at a Sync.
-    fn take_sync(&mut self, at: &ReportAt) -> Gap
-        ensures { TakesSync at.now self.old self.new result }
+    fn take_sync(&mut self, at: &ReportAt) -> Gaps
+        ensures gaps { result ≡ sync_gaps at.now self.old }
+        ensures taken { TakesSync at.now self.old self.new }
     {
-        let gap = Gap::between(self.number(), at.exchange.sync_number);
+        let gap = Gap::between(self.sync, at.exchange.sync_number);
+        let other = Gap::to_other(self.request, at.exchange.request_number);
+        self.add_other(other);
         self.delays.meet_sync(gap, self.since);
         self.since = 0;
+        self.sync = Some(at.exchange.sync_number);
         self.request = Some(at.exchange.request_number);
-        self.newest = AtSync::new(at, &self.delays);
-        gap
+        self.newest = AtReport::new(at, &self.delays);
+        self.behind = None;
+        Gaps {
+            exchange: other,
+            sync: Some(gap),
+        }
+    }
+
+    /// This lies before an exchange of which no report was made at its response, where there is one.
+    fn add_other(&mut self, gap: Option<Gap>)
+        ensures delays { self.new.delays.delays.items ≡ delays_at_other gap self.old.delays.delays.items }
+        ensures others { self.new ≡ record self.old { delays = self.new.delays; since = since_at_other gap self.old.since } }
+    {
+        if let Some(gap) = gap {
+            self.add_exchange(gap, None);
+        }
+    }
+
+    /// This lies before an exchange, and this is the delay at its response, where it is known.
+    fn add_exchange(&mut self, gap: Gap, delay: Option<Exact>)
+        ensures delays { self.new.delays.delays.items ≡ delays_with delay gap self.old.delays.delays.items }
+        ensures others { self.new ≡ record self.old { delays = self.new.delays; since = since_with gap self.old.since } }
+    {
+        self.delays.meet_exchange(gap);
+        self.delays.take(delay);
+        self.since = one_more(since_at_exchange(gap, self.since));
     }
 
     /// Takes a report at a response.
-    fn take_exchange(&mut self, at: &ReportAt) -> Gap
-        ensures { TakesExchange at.now self.old self.new result }
+    fn take_exchange(&mut self, at: &ReportAt) -> Gaps
+        ensures gaps { result ≡ record { exchange = Some (exchange_gap at.now self.old); sync = other_sync at.now self.old } }
+        ensures taken { TakesExchange at.now self.old self.new }
     {
         let gap = Gap::between(self.request, at.exchange.request_number);
+        let other = Gap::to_other(self.sync, at.exchange.sync_number);
+        self.leave_sync(other);
+        self.add_exchange(gap, Some(Exact::from_twice(at.report.path2)));
+        self.sync = Some(at.exchange.sync_number);
         self.request = Some(at.exchange.request_number);
-        self.delays.meet_exchange(gap);
-        self.delays.take(Some(Exact::from_twice(at.report.path2)));
-        self.since = one_more(since_at_exchange(gap, self.since));
         self.learn_behind(gap);
-        gap
+        self.behind = AtReport::new(at, &self.delays);
+        Gaps {
+            exchange: Some(gap),
+            sync: other,
+        }
+    }
+
+    /// This lies before a Sync at which no report was made, where there is one.
+    fn leave_sync(&mut self, gap: Option<Gap>)
+        ensures delays { self.new.delays.delays.items ≡ delays_behind_other gap self.old.since self.old.delays.delays.items }
+        ensures others { self.new ≡ record self.old {
+          delays = self.new.delays;
+          since = since_behind_other gap self.old.since;
+          newest = newest_behind_other gap self.old.newest;
+        } }
+    {
+        if let Some(gap) = gap {
+            self.delays.meet_sync(gap, self.since);
+            self.since = 0;
+            self.newest = None;
+        }
     }
 
     /// The exchange behind the newest Sync came, and this lies before it.

@@ -1,11 +1,11 @@
-//! A result that is judged, and held while what is missing beside its Sync may still show.
+//! A result that is judged, and held while what is missing beside its messages may still show.
 
 ghost use Rattle.std.specs.Prelude.{◌≡◌};
-ghost use Rattle.result_audit.specs.Held.{held_without_sync, held_at, held_by, held_for, path_of, why_wrong, is_beyond_doubt, doubted, awaits, learned, with_doubt, is_of_offset};
+ghost use Rattle.result_audit.specs.Held.{held_without_sync, held_at, held_by, held_for, path_of, why_wrong, seconds_off, is_beyond_doubt, doubted, awaits, learned, with_doubt, with_gap, is_of_offset, rank_of, better};
 ghost use Rattle.result_audit.specs.Held.{is_decided, last_word};
 
 use crate::answer::{Answer, Found};
-use crate::course::{AtSync, Gap};
+use crate::course::{AtReport, Gap};
 use crate::told::Told;
 use crate::why::Why;
 use recording_lines::Half;
@@ -31,18 +31,30 @@ fn path_of(told: &Told, known: &Known) -> Option<Exact>
     }
 }
 
+/// So many whole seconds its offset is off by, from that by its path delay or else from that by the newest delay.
+fn seconds_off(judged: &Judged, tolerance: Exact) -> Option<u128>
+    ensures { result ≡ seconds_off judged.now tolerance }
+{
+    match judged.sum_error.whole_seconds(tolerance) {
+        Some(seconds) => Some(seconds),
+        None => judged.offset_error.whole_seconds(tolerance),
+    }
+}
+
 /// Why a wrong result is wrong.
 fn why_wrong(told: &Told, judged: &Judged, tolerance: Exact) -> Why
     ensures { result ≡ why_wrong told.now judged.now tolerance }
 {
     if told.path.is_none() {
-        Why::NoDelay(judged.offset_error)
+        let seconds = judged.offset_error.whole_seconds(tolerance);
+        Why::NoDelay(judged.offset_error, seconds)
     } else if tolerance.is_at_least(judged.sum_error.size()) {
         Why::PathBeyond(judged.beyond)
     } else if tolerance.is_at_least(judged.offset_error.size()) {
         Why::PathOff(judged.path_error)
     } else {
-        Why::OffsetOff(judged.sum_error, judged.offset_error)
+        let seconds = seconds_off(judged, tolerance);
+        Why::OffsetOff(judged.sum_error, judged.offset_error, seconds)
     }
 }
 
@@ -57,7 +69,7 @@ fn is_beyond_doubt(why: &Why) -> bool
 fn is_of_offset(why: &Option<Why>) -> bool
     ensures { result ≡ is_of_offset why.now }
 {
-    matches!(why, Some(Why::OffsetOff(..) | Why::NoDelay(_)))
+    matches!(why, Some(Why::OffsetOff(..) | Why::NoDelay(..)))
 }
 
 impl Held {
@@ -79,8 +91,8 @@ impl Held {
         }
     }
 
-    /// One of this Sync, which is the newest.
-    pub(crate) fn at(told: Told, at: &AtSync, tolerance: Exact) -> Held
+    /// One of this report.
+    pub(crate) fn at(told: Told, at: &AtReport, tolerance: Exact) -> Held
         ensures { result ≡ held_at told at.now tolerance }
     {
         let Some(path) = path_of(&told, &at.known) else {
@@ -90,8 +102,8 @@ impl Held {
         Held::by(told, at, tolerance, &judged)
     }
 
-    /// One of this Sync, by which it is this.
-    fn by(told: Told, at: &AtSync, tolerance: Exact, judged: &Judged) -> Held
+    /// One of this report, by which it is this.
+    fn by(told: Told, at: &AtReport, tolerance: Exact, judged: &Judged) -> Held
         ensures { result ≡ held_by told at.now tolerance judged.now }
     {
         let mut held = Held::of(Answer {
@@ -110,8 +122,33 @@ impl Held {
         held
     }
 
+    /// How good its verdict is: 0 is best, and none is better than a wrong one.
+    fn rank(&self) -> u8
+        ensures { result ≡ rank_of self.now.answer.verdict }
+    {
+        match self.answer.verdict {
+            Some(Verdict::Exact) => 0,
+            Some(Verdict::Within) => 1,
+            Some(Verdict::Filtered) => 2,
+            Some(Verdict::Older) => 3,
+            None => 4,
+            Some(Verdict::Wrong) => 5,
+        }
+    }
+
+    /// The better of the same result by two reports, and of equal ones the first.
+    pub(crate) fn or_better(self, other: Held) -> Held
+        ensures { result ≡ better self other }
+    {
+        if other.rank() < self.rank() {
+            other
+        } else {
+            self
+        }
+    }
+
     /// It is wrong, unless a message is missing.
-    fn doubt(&mut self, at: &AtSync, why: Why)
+    fn doubt(&mut self, at: &AtReport, why: Why)
         ensures { self.new ≡ doubted at.now why self.old }
     {
         if !at.is_whole && !is_beyond_doubt(&why) {
@@ -122,7 +159,7 @@ impl Held {
         self.awaits_sync = true;
         self.awaits_exchange = true;
         if let Some(gap) = at.behind_exchange {
-            self.learn(Half::Response, gap);
+            self.meet(Half::Response, gap);
         }
     }
 
@@ -137,6 +174,13 @@ impl Held {
             Half::Sync => self.awaits_sync = false,
             Half::Response => self.awaits_exchange = false,
         }
+        self.meet(half, gap);
+    }
+
+    /// This lies beside its message of a half.
+    fn meet(&mut self, half: Half, gap: Gap)
+        ensures { self.new ≡ with_gap half gap self.old }
+    {
         match gap {
             Gap::None => {}
             Gap::Missing(number) => self.doubt_wrong(Why::Missing(half, number)),
@@ -162,13 +206,16 @@ impl Held {
         }
     }
 
-    /// What is said of it when it is handed out: where no Sync came behind its own, an offset alone accuses nobody.
+    /// What is said of it when it is handed out: where no Sync came behind its own, an offset alone accuses nobody, and where no exchange did,
+    /// nothing does.
     pub(crate) fn last_word(&self) -> Answer
         ensures { result ≡ last_word self.now }
     {
         let mut answer = self.answer;
         if self.awaits_sync && answer.is_wrong() && is_of_offset(&answer.why) {
-            answer.excuse(Why::NothingBehind);
+            answer.excuse(Why::NothingBehind(Half::Sync));
+        } else if self.awaits_exchange && answer.is_wrong() {
+            answer.excuse(Why::NothingBehind(Half::Response));
         }
         answer
     }

@@ -4,10 +4,13 @@
 mod answer;
 mod auditor;
 mod course;
+mod coverage;
 mod held;
+pub mod laws;
 mod lines;
 mod report_at;
 mod told;
+mod totals;
 mod why;
 
 pub use answer::{Answer, Found};
@@ -15,4 +18,5 @@ pub use auditor::Auditor;
 pub use lines::{push_json, push_row, table_head};
 pub use report_at::ReportAt;
 pub use told::{Of, Told, read_told};
+pub use totals::{Counts, Totals, Worst};
 pub use why::Why;

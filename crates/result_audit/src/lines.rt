@@ -2,13 +2,13 @@
 
 ghost use Rattle.std.specs.Prelude.{◌≡◌, ◌++◌, Some, OnOk};
 ghost use Rattle.std.specs.String.{string_bytes};
-ghost use Rattle.result_audit.specs.Lines.{cell_text, path_cell_text, word_text, tag_text, time_text, if_told, json_front, json_middle, json_tags, json_end, json_unfound, json_text};
+ghost use Rattle.result_audit.specs.Lines.{cell_text, word_text, tag_text, time_text, if_told, json_front, json_middle, json_tags, json_end, json_unfound, json_text};
 ghost use Rattle.result_audit.specs.Lines.{table_head, row_front, row_rest, row_unfound, row_text};
 
 use crate::answer::{Answer, Found};
 use crate::told::Told;
 use ptp_units::ScaledTime;
-use result_verdict::{Difference, Exact, Verdict};
+use result_verdict::{Difference, Verdict};
 use slave_port::Report;
 use std::alloc::AllocError;
 use std::fmt;
@@ -29,26 +29,6 @@ impl Display for Cell {
             (false, Some(value)) => write!(f, "\"{value}\""),
             (false, None) => f.write_str("null"),
             (true, Some(value)) => value.fmt(f),
-            (true, None) => Ok(()),
-        }
-    }
-}
-
-/// A path delay so.
-#[derive(Clone, Copy)]
-struct PathCell {
-    is_table: bool,
-    path: Option<Exact>,
-}
-
-impl Display for PathCell {
-    ghost output = { λ cell. Some (path_cell_text cell.is_table cell.path) };
-
-    fn fmt<W: fmt::Write>(&self, f: &mut Formatter<W>) -> fmt::Result {
-        match (self.is_table, &self.path) {
-            (false, Some(path)) => write!(f, "\"{path}\""),
-            (false, None) => f.write_str("null"),
-            (true, Some(path)) => path.fmt(f),
             (true, None) => Ok(()),
         }
     }
@@ -108,6 +88,16 @@ fn if_told(told: &Told, value: Difference) -> Option<Difference>
     }
 }
 
+/// The path delay of a result, where one was told.
+fn path_told(told: &Told) -> Option<Difference>
+    ensures { result ≡ told.now.path }
+{
+    match told.path {
+        Some(path) => Some(path.value()),
+        None => None,
+    }
+}
+
 /// Appends the numbers of a result whose Sync is known.
 fn push_json_front(text: &mut String, told: &Told, found: &Found) -> Result<(), AllocError>
     ensures { OnOk result (string_bytes text.new ≡ string_bytes text.old ++ json_front told.now found.now) }
@@ -123,9 +113,9 @@ fn push_json_front(text: &mut String, told: &Told, found: &Found) -> Result<(), 
         found.at.line,
         told.offset,
         found.judged.offset_error,
-        PathCell {
+        Cell {
             is_table: false,
-            path: told.path
+            value: path_told(told)
         }
     )
 }
@@ -179,9 +169,9 @@ fn push_json_unfound(text: &mut String, answer: &Answer) -> Result<(), AllocErro
         text,
         "{{\"beyond\":null,\"line\":null,\"offset\":\"{}\",\"offset_error\":null,\"path\":{},\"path_error\":null,\"path_is\":null,\"sequence\":null,\"sum_error\":null,\"tags\":null,\"time\":null,\"verdict\":\"{}\"}}\n",
         answer.told.offset,
-        PathCell {
+        Cell {
             is_table: false,
-            path: answer.told.path
+            value: path_told(&answer.told)
         },
         Word(answer.verdict)
     )
@@ -224,9 +214,9 @@ fn push_row_front(text: &mut String, told: &Told, found: &Found) -> Result<(), A
         found.at.line,
         told.offset,
         found.judged.offset_error,
-        PathCell {
+        Cell {
             is_table: true,
-            path: told.path
+            value: path_told(told)
         }
     )
 }
@@ -257,9 +247,9 @@ fn push_row_unfound(text: &mut String, answer: &Answer) -> Result<(), AllocError
         text,
         ",,{},,{},,,,,,{}\n",
         answer.told.offset,
-        PathCell {
+        Cell {
             is_table: true,
-            path: answer.told.path
+            value: path_told(&answer.told)
         },
         Word(answer.verdict)
     )

@@ -1,7 +1,9 @@
 //! A result as it is told: a line of JSON.
 
-ghost use Rattle.std.specs.Prelude.{◌≡◌, false, IfOk, IfErr, IfSome};
-ghost use Rattle.text_lines.specs.Fault.{is_write};
+ghost use Rattle.std.specs.Prelude.{◌≡◌, codes, Some, MatchResult};
+ghost use Rattle.json.specs.Json.{Json};
+ghost use Rattle.json.specs.Find.{BeginsWith, get};
+ghost use Rattle.result_audit.specs.Told.{exact_of, exact_at, of_sequence, IsOf, path_in, IsToldBy, IsTold, IsUntold};
 
 use json::{Element, Error, Scratch, Tape};
 use ptp_units::Seq;
@@ -32,7 +34,9 @@ pub struct Told {
 }
 
 /// The number that an element is, or a text of it.
-fn exact_at(element: &Element<'_, '_>) -> Option<Exact> {
+fn exact_of(element: &Element<'_, '_>) -> Option<Exact>
+    ensures { (j : Json) → BeginsWith element.now j → result ≡ exact_of j }
+{
     match element.as_number() {
         Some(text) => Exact::from_text(text),
         None => Exact::from_text(element.as_str()?),
@@ -40,15 +44,29 @@ fn exact_at(element: &Element<'_, '_>) -> Option<Exact> {
 }
 
 /// The number of a member.
-fn exact_of(root: &Element<'_, '_>, name: &str) -> Option<Exact> {
-    exact_at(&root.get(name)?)
+fn exact_at(root: &Element<'_, '_>, name: &str) -> Option<Exact>
+    ensures { (j : Json) → BeginsWith root.now j → result ≡ exact_at name.now j }
+{
+    exact_of(&root.get(name)?)
+}
+
+/// The Sync of a sequenceId, which has 16 bits.
+fn of_sequence(number: u64) -> Option<Option<Of>>
+    ensures { result ≡ of_sequence number }
+{
+    if number < 65536 {
+        Some(Some(Of::Sequence(Seq(number as u16))))
+    } else {
+        None
+    }
 }
 
 /// Of which Sync an object says that it is, where it does.
-fn of_at(root: &Element<'_, '_>) -> Option<Option<Of>> {
+fn of_at(root: &Element<'_, '_>) -> Option<Option<Of>>
+    ensures { (j : Json) → BeginsWith root.now j → IsOf (get (codes "sequence") j) (get (codes "line") j) result }
+{
     if let Some(sequence) = root.get("sequence") {
-        let number = u16::try_from(sequence.as_u64()?).ok()?;
-        return Some(Some(Of::Sequence(Seq(number))));
+        return of_sequence(sequence.as_u64()?);
     }
     match root.get("line") {
         Some(named) => Some(Some(Of::Line(named.as_u64()?))),
@@ -56,19 +74,28 @@ fn of_at(root: &Element<'_, '_>) -> Option<Option<Of>> {
     }
 }
 
+/// The path delay of a result, where that is read.
+fn path_in(root: &Element<'_, '_>, has_path: bool) -> Option<Option<Exact>>
+    ensures { (j : Json) → BeginsWith root.now j → result ≡ path_in has_path j }
+{
+    if has_path {
+        Some(Some(exact_at(root, "path")?))
+    } else {
+        Some(None)
+    }
+}
+
 /// The result that an object is.
 fn told_at(root: &Element<'_, '_>, line: u64, has_path: bool) -> Option<Told>
-    ensures { IfSome result (λ told. told.line ≡ line) }
+    ensures { (j : Json) → BeginsWith root.now j → IsToldBy has_path line j result }
 {
-    let path = if has_path {
-        Some(exact_of(root, "path")?)
-    } else {
-        None
-    };
+    let of = of_at(root)?;
+    let offset = exact_at(root, "offset")?;
+    let path = path_in(root, has_path)?;
     Some(Told {
         line,
-        of: of_at(root)?,
-        offset: exact_of(root, "offset")?,
+        of,
+        offset,
         path,
     })
 }
@@ -81,8 +108,9 @@ pub fn read_told(
     line: u64,
     has_path: bool,
 ) -> Result<Told, LineFault>
-    ensures line { IfOk result (λ told. told.line ≡ line) }
-    ensures fault { IfErr result (λ fault. is_write fault ≡ false) }
+    ensures { MatchResult result
+        (λ told. IsTold has_path line text.now (Some told))
+        (λ fault. IsUntold fault has_path line text.now) }
 {
     let tape = match Tape::parse_strict(text, scratch, Vec::new(alloc)) {
         Ok(tape) => tape,

@@ -1,4 +1,4 @@
-use Rattle.std.proofs.Common.{arith, ◌≡◌, ◌∙◌, ◌<◌, ◌≤◌, ◌++◌, ℤ, List, [], ◌∷◌, length, take, get_or, Option, Some, None, append-nil, sym, ap, subst}
+use Rattle.std.proofs.Common.{arith, ◌∙◌, ◌<◌, ◌++◌, ℤ, List, [], ◌∷◌, length, take, Option, append-nil, sym, ap, subst}
 use Rattle.std.specs.Prelude.{option_to_list}
 use Rattle.result_audit.specs.Course.{known_of}
 use Rattle.result_audit.proofs.Delays.{known_of-next, known_of-take}

@@ -1,4 +1,4 @@
-use Rattle.std.proofs.Common.{◌≡◌, ◌++◌, take, drop}
+use Rattle.std.proofs.Common.{◌≡◌, ◌++◌, take}
 use Rattle.result_audit.proofs.course.without_newest.Given as goal
 
 -- the mark, if there is one, and the delays so far

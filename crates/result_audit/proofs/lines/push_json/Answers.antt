@@ -1,9 +1,9 @@
-use Rattle.std.proofs.Common.{◌≡◌, ◌∙◌, ◌++◌, ℕ, List, Option, Some, sym, ap, append_assoc}
+use Rattle.std.proofs.Common.{◌≡◌, ◌∙◌, ◌++◌, ℕ, List, Option, sym, ap, append_assoc}
 use Rattle.std.specs.Option.{option_map_or}
 use Rattle.std.specs.String.{string_bytes}
 use Rattle.std.proofs.lemmas.Result.{IfOk-equal}
 use Rattle.result_audit.specs.declared.answer.Found.{Found}
-use Rattle.result_audit.specs.Lines.{json_front, json_middle, json_tags, json_end, json_unfound, json_text}
+use Rattle.result_audit.specs.Lines.{json_front, json_middle, json_tags, json_end, json_unfound}
 use Rattle.result_audit.proofs.lines.push_json.Goals as goal
 
 -- four texts, one behind the other

@@ -4,4 +4,4 @@ use Rattle.result_audit.proofs.lines.push_row_front.Goals as goal
 
 pub returns : goal.returns
 returns c =
-    IfOk-equal c.write.result _ _ _ c.write.ensures.bytes (rw (c.if_told.ensures) (simp append_assoc))
+    IfOk-equal c.write.result _ _ _ c.write.ensures.bytes (rw (c.if_told.ensures, c.path_told.ensures) (simp append_assoc))

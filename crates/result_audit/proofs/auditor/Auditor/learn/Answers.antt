@@ -1,8 +1,8 @@
-use Rattle.std.proofs.Common.{arith, ◌≡◌, ◌∙◌, ◌<◌, List, length, ap}
+use Rattle.std.proofs.Common.{arith, ◌∙◌, ◌<◌, List, length, ap}
 use Rattle.result_audit.specs.declared.held.Held.{Held}
 use Rattle.result_audit.specs.Auditor.{Auditing, auditing_of}
 use Rattle.result_audit.specs.Inner.Turning.{turned}
-use Rattle.result_audit.proofs.Turns.{turned_by, turned_by-one}
+use Rattle.result_audit.proofs.Turns.{turned_by-one}
 use Rattle.result_audit.proofs.auditor.Auditor.learn.Goals as goal
 
 pub loop-preserved : goal.loop-preserved

@@ -1,4 +1,4 @@
-use Rattle.std.proofs.Common.{◌≡◌, ◌∙◌, ◌++◌, List, [], ◌∷◌, Option, Some, None, sym, ap}
+use Rattle.std.proofs.Common.{◌∙◌, List, sym, ap}
 use Rattle.result_audit.specs.declared.told.Told.{Told}
 use Rattle.result_audit.specs.Auditor.{Auditing, auditing_of, settled}
 use Rattle.result_audit.proofs.Turns.{settled-empty, settled-waits, settled-judged, nothing_left}

@@ -1,4 +1,4 @@
-use Rattle.std.proofs.Common.{◌≡◌, ◌∙◌, ℕ, ap, append_assoc}
+use Rattle.std.proofs.Common.{◌∙◌, ℕ, ap, append_assoc}
 use Rattle.std.proofs.Output.{has_written_of_eq}
 use Rattle.ptp_units.specs.Moment.{Stamp}
 use Rattle.datagram_text.specs.Shown.{stamp_text}
