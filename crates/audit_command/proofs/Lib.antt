@@ -1,1 +1,4 @@
 pub mod Going
+pub mod InFront
+pub mod Inputs
+pub mod Failing

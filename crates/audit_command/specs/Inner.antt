@@ -1,2 +1,2 @@
-pub mod Audit
 pub mod Task
+pub mod Front

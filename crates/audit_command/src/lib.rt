@@ -2,6 +2,7 @@
 #![tactic(auto)]
 
 mod front;
+mod input;
 mod lines;
 mod run;
 mod tally;

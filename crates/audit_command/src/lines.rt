@@ -1,7 +1,7 @@
 //! Lines, each of which tells a time and a datagram, or a result.
 
 ghost use Rattle.std.specs.Prelude.{◌≡◌, ◌+◌, MatchResult};
-ghost use Rattle.audit_command.specs.Inner.Audit.{LinesRead, line_rules, is_told};
+ghost use Rattle.audit_command.specs.AuditLines.{LinesRead, line_rules, is_told};
 ghost use Rattle.audit_command.specs.Inner.Task.{IsAt};
 
 use crate::task::AuditTask;
@@ -9,11 +9,14 @@ use datagram_source::{DATAGRAM_LIMIT, DatagramTask, LineForm, read_datagram, tel
 use std::io::Write;
 use text_lines::{Counted, LineFault, LineTask};
 
+/// The most lines of an input.
+pub(crate) const LINES_MOST: u64 = u64::MAX - 1;
+
 /// With what a line begins that tells a result.
 pub(crate) const RESULT: u8 = b'{';
 
 /// Whether a line tells a result: it begins as an object does.
-fn begins_result(line: &[u8]) -> bool
+pub(crate) fn begins_result(line: &[u8]) -> bool
     ensures { result ≡ is_told line.now }
 {
     !line.is_empty() && line[0] == RESULT
@@ -29,6 +32,15 @@ fn next_number(count: u64) -> Result<u64, LineFault>
     }
 }
 
+/// What is known at the end of lines.
+#[derive(Clone, Copy)]
+pub(crate) struct Finished {
+    /// How many lines there were.
+    pub(crate) lines: u64,
+    /// Whether a result that was handed out is wrong.
+    pub(crate) is_wrong: bool,
+}
+
 /// Gives the datagrams and the results of lines to a task.
 #[derive(Drop)]
 pub(crate) struct AuditLines<'errors, E> {
@@ -40,7 +52,7 @@ pub(crate) struct AuditLines<'errors, E> {
 }
 
 impl<E: Write> LineTask for AuditLines<'_, E> {
-    type Answer = u64;
+    type Answer = Finished;
 
     type Fault = LineFault;
 
@@ -51,7 +63,7 @@ impl<E: Write> LineTask for AuditLines<'_, E> {
     ghost is_at = { λ source r. (source.count ≡ r.count) × IsAt source.task r.state };
 
     fn lines_limit() -> u64 {
-        u64::MAX - 1
+        LINES_MOST
     }
 
     fn take<W: Write>(&mut self, line: &[u8], output: &mut Counted<W>) -> Result<(), LineFault> {
@@ -73,8 +85,15 @@ impl<E: Write> LineTask for AuditLines<'_, E> {
         }
     }
 
-    fn finish<W: Write>(&mut self, lines: u64, output: &mut Counted<W>) -> Result<u64, LineFault> {
+    fn finish<W: Write>(
+        &mut self,
+        _lines: u64,
+        output: &mut Counted<W>,
+    ) -> Result<Finished, LineFault> {
         self.task.finish(output, self.errors)?;
-        Ok(lines)
+        Ok(Finished {
+            lines: self.count,
+            is_wrong: self.task.has_wrong(),
+        })
     }
 }

@@ -1,9 +1,9 @@
 //! How `audit` runs.
 
-ghost use Rattle.std.specs.Prelude.{◌≡◌};
-ghost use Rattle.audit_command.specs.Run.{RunsAudit, outcome_status, judged};
+ghost use Rattle.std.specs.Prelude.{◌≡◌, IfOk};
+ghost use Rattle.audit_command.specs.Run.{RunsAudit, outcome_status, judged, told_tolerance, tolerance_of};
 
-use crate::front::audit;
+use crate::input::audit;
 use crate::tally::Several;
 use crate::task::{AuditForm, AuditTask};
 use capture_report::finish_capture;
@@ -23,7 +23,9 @@ const LINES_HAVE_NO_INTERFACE: &[u8] =
     b"ptpx: lines have no interface, so --interface changes nothing\n";
 
 /// By so many nanoseconds a number may be off: the seconds of a time, with its decimals.
-fn nanoseconds_of(alloc: Global, tolerance: ScaledTime) -> Result<Exact, AllocError> {
+fn nanoseconds_of(alloc: Global, tolerance: ScaledTime) -> Result<Exact, AllocError>
+    ensures { IfOk result (λ exact. exact ≡ told_tolerance tolerance) }
+{
     let (stamp, _) = tolerance.split();
     let mut text = String::new(alloc);
     write!(text, "{}.{:09}", stamp.seconds(), stamp.nanos())?;
@@ -31,8 +33,10 @@ fn nanoseconds_of(alloc: Global, tolerance: ScaledTime) -> Result<Exact, AllocEr
 }
 
 /// By so much a number may be off: 1 ns, unless asked for.
-fn tolerance_of(alloc: Global, options: &AuditOptions) -> Result<Exact, AllocError> {
-    match options.tolerance {
+fn tolerance_of(alloc: Global, tolerance: Option<ScaledTime>) -> Result<Exact, AllocError>
+    ensures { IfOk result (λ exact. exact ≡ tolerance_of tolerance) }
+{
+    match tolerance {
         Some(tolerance) => nanoseconds_of(alloc, tolerance),
         None => Ok(Exact::from_text("1").unwrap_or_default()),
     }
@@ -55,7 +59,7 @@ pub fn run_audit<R: Read, W: Write, E: Write>(
         interface: options.interface,
         readings: options.readings,
     };
-    let Ok(tolerance) = tolerance_of(alloc, &options) else {
+    let Ok(tolerance) = tolerance_of(alloc, options.tolerance) else {
         let what = Cause::Task(LineFault::Memory);
         let outcome = InputOutcome::Lines(Err(Stopped { line: 0, what }));
         return judged(finish_outcome(errors, outcome, false), false);
@@ -66,11 +70,10 @@ pub fn run_audit<R: Read, W: Write, E: Write>(
         is_table: options.csv,
     };
     let task = AuditTask::new(alloc, &wanted, form);
-    let (outcome, task, packets) = audit(alloc, form.head(), task, input, output, errors);
-    let has_interface = options.interface.is_some();
-    let status = finish_outcome(errors, outcome, has_interface);
-    tell(&task, &packets, errors);
-    judged(status, task.tally.has_wrong())
+    let ended = audit(alloc, form.head(), task, input, output, errors);
+    let status = finish_outcome(errors, ended.outcome, options.interface.is_some());
+    tell(&ended.task, &ended.packets, errors);
+    judged(status, ended.is_wrong)
 }
 
 /// The exit status: 1 where a result is wrong, and nothing gives another.

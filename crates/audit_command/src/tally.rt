@@ -1,46 +1,33 @@
 //! How many results there are of each verdict, and the worst.
 
-ghost use Rattle.std.specs.Prelude.{◌<◌};
+ghost use Rattle.std.specs.Prelude.{◌≡◌, ◌||◌, false};
+ghost use Rattle.result_audit.specs.Held.{is_wrong};
+ghost use Rattle.result_audit.specs.Totals.{with_answer};
 
-use result_audit::Answer;
-use result_verdict::{Difference, Verdict};
+use result_audit::{Answer, Totals};
+use result_verdict::Verdict;
 use std::fmt;
 use std::fmt::{Display, Formatter};
 use std::io::Write;
 
-/// Verdicts, and none.
-const VERDICTS: usize = 6;
-
-/// The words of verdicts, in their order.
-const WORDS: [&str; VERDICTS] = ["exact", "within", "filtered", "older", "wrong", "unjudged"];
-
-/// The place of a verdict in their order.
-fn place_of(verdict: Option<Verdict>) -> usize
-    ensures { result < 6 }
-{
+/// A verdict in a word.
+fn word_of(verdict: Option<Verdict>) -> &'static str {
     match verdict {
-        Some(Verdict::Exact) => 0,
-        Some(Verdict::Within) => 1,
-        Some(Verdict::Filtered) => 2,
-        Some(Verdict::Older) => 3,
-        Some(Verdict::Wrong) => 4,
-        None => 5,
+        Some(Verdict::Exact) => "exact",
+        Some(Verdict::Within) => "within",
+        Some(Verdict::Filtered) => "filtered",
+        Some(Verdict::Older) => "older",
+        Some(Verdict::Wrong) => "wrong",
+        None => "unjudged",
     }
-}
-
-/// A wrong result, by how much its offset is off at the least.
-#[derive(Clone, Copy)]
-struct Worst {
-    line: u64,
-    off: Difference,
 }
 
 /// Results that were told and judged.
 #[derive(Clone, Copy)]
 pub(crate) struct Tally {
     told: u64,
-    counts: [u64; VERDICTS],
-    worst: Option<Worst>,
+    totals: Totals,
+    is_wrong: bool,
 }
 
 /// So many of one, in words.
@@ -58,16 +45,20 @@ impl Display for Several {
 
 impl Tally {
     /// There was none.
-    pub(crate) fn new() -> Tally {
+    pub(crate) fn new() -> Tally
+        ensures { result.is_wrong ≡ false }
+    {
         Tally {
             told: 0,
-            counts: [0; VERDICTS],
-            worst: None,
+            totals: Totals::new(),
+            is_wrong: false,
         }
     }
 
     /// One more was told.
-    pub(crate) fn count_told(&mut self) {
+    pub(crate) fn count_told(&mut self)
+        ensures { self.new.is_wrong ≡ self.old.is_wrong }
+    {
         self.told = self.told.saturating_add(1);
     }
 
@@ -77,40 +68,22 @@ impl Tally {
     }
 
     /// Whether one is wrong.
-    pub(crate) fn has_wrong(&self) -> bool {
-        self.counts[place_of(Some(Verdict::Wrong))] > 0
+    pub(crate) fn has_wrong(&self) -> bool
+        ensures { result ≡ self.now.is_wrong }
+    {
+        self.is_wrong
     }
 
     /// Counts a result, and tells why it is wrong or isn't judged. What can't be written is lost.
-    pub(crate) fn take<E: Write>(&mut self, answer: &Answer, errors: &mut E) {
-        let place = place_of(answer.verdict);
-        self.counts[place] = self.counts[place].saturating_add(1);
+    pub(crate) fn take<E: Write>(&mut self, answer: &Answer, errors: &mut E)
+        ensures wrong { self.new.is_wrong ≡ (self.old.is_wrong || is_wrong answer.now) }
+        ensures totals { self.new.totals ≡ with_answer answer.now self.old.totals }
+    {
+        self.is_wrong = self.is_wrong || answer.is_wrong();
+        self.totals.take(answer);
         if let Some(why) = &answer.why {
-            let _ = writeln!(
-                errors,
-                "ptpx: line {}: {}: {why}",
-                answer.told.line, WORDS[place]
-            );
-        }
-        if let Some(found) = &answer.found
-            && answer.is_wrong()
-        {
-            let judged = &found.judged;
-            let (by_path, by_newest) = (judged.sum_error.size(), judged.offset_error.size());
-            let off = if answer.told.path.is_some() && by_path.is_below(by_newest) {
-                by_path
-            } else {
-                by_newest
-            };
-            self.notice(answer.told.line, off);
-        }
-    }
-
-    /// Notices a wrong result.
-    fn notice(&mut self, line: u64, off: Difference) {
-        match &self.worst {
-            Some(worst) if !worst.off.is_below(off) => {}
-            _ => self.worst = Some(Worst { line, off }),
+            let word = word_of(answer.verdict);
+            let _ = writeln!(errors, "ptpx: line {}: {word}: {why}", answer.told.line);
         }
     }
 
@@ -123,21 +96,30 @@ impl Tally {
             return;
         }
         let _ = write!(errors, "ptpx: {}", Several(self.told, "result"));
+        let counts = &self.totals.counts;
+        let words = [
+            (counts.exact, "exact"),
+            (counts.within, "within"),
+            (counts.filtered, "filtered"),
+            (counts.older, "older"),
+            (counts.wrong, "wrong"),
+            (counts.unjudged, "unjudged"),
+        ];
         let mut answered: u64 = 0;
-        for (place, count) in self.counts.iter().enumerate() {
-            answered = answered.saturating_add(*count);
-            if *count > 0 {
-                let _ = write!(errors, ", {count} {}", WORDS[place]);
+        for (count, word) in words {
+            answered = answered.saturating_add(count);
+            if count > 0 {
+                let _ = write!(errors, ", {count} {word}");
             }
         }
         if answered < self.told {
             let _ = write!(errors, ", {} not answered", self.told - answered);
         }
         let _ = errors.write_all(b"\n");
-        if let Some(worst) = &self.worst {
+        if let Some(worst) = &self.totals.worst {
             let _ = writeln!(
                 errors,
-                "ptpx: the worst is that of line {}, whose offset is {} ns off at the least",
+                "ptpx: the worst is that of line {}, which is {} ns off at the least",
                 worst.line, worst.off
             );
         }

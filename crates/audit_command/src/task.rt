@@ -1,15 +1,15 @@
 //! What is done with the datagrams and the results of an input.
 
-ghost use Rattle.std.specs.Prelude.{◌≡◌, ◌<◌, ◌++◌, false, MatchResult, OnOk, List, ℕ, reverse, string_bytes};
-ghost use Rattle.std.specs.Io.KnownBytes.{Appends};
+ghost use Rattle.std.specs.Prelude.{◌≡◌, ◌≤◌, ◌++◌, true, length, MatchResult, OnOk, reverse, string_bytes};
 ghost use Rattle.text_lines.specs.Counted.{device_of, HasNotFailed, HasFailedIf};
 ghost use Rattle.text_lines.specs.Fault.{is_write};
-ghost use Rattle.text_lines.specs.Task.{WentOut};
-ghost use Rattle.recording_measure.specs.Measure.{begun};
-ghost use Rattle.recording_measure.specs.declared.form.Form.TheVariants as forms;
+ghost use Rattle.text_lines.specs.Lines.{line_limit};
 ghost use Rattle.result_audit.specs.Auditor.{Auditing, Begins, auditing_of};
-ghost use Rattle.audit_command.specs.Inner.Audit.{Audited, audit_rules, report_of, TakesCompletion, TakesAll, TakesReports, TakesTold, text_of};
-ghost use Rattle.audit_command.specs.Inner.Task.{IsAt, GoesAtOnce, Goes, GoesOr, Says, TakesNew};
+ghost use Rattle.audit_command.specs.Audit.{Audited, audit_begun, audit_rules, report_of, text_of};
+ghost use Rattle.audit_command.specs.Audit.{TakesCompletion, TakesAll, TakesReports, StopsReports, TakesTold, StopsTold};
+ghost use Rattle.audit_command.specs.AuditLines.{IsResult, IsNoResult, TakesAs, StopsAs};
+ghost use Rattle.audit_command.specs.Input.{head_text};
+ghost use Rattle.audit_command.specs.Inner.Task.{IsAt, GoesAtOnce, GoesOr, Says, SaysInPart, TakesNew};
 
 use crate::tally::Tally;
 use capture_file::InterfaceName;
@@ -35,7 +35,9 @@ pub(crate) struct AuditForm {
 
 impl AuditForm {
     /// What stands above all that is said.
-    pub(crate) fn head(&self) -> &'static str {
+    pub(crate) fn head(&self) -> &'static str
+        ensures { result.now ≡ head_text self.now.is_table }
+    {
         if self.is_table { table_head() } else { "" }
     }
 }
@@ -88,8 +90,7 @@ pub(crate) struct AuditTask {
 impl AuditTask {
     /// Nothing came yet.
     pub(crate) fn new(alloc: Global, wanted: &WantedPorts, form: AuditForm) -> AuditTask
-        ensures { (a : Auditing) × Begins form.tolerance a
-            × IsAt result (record { reading = begun forms.Completions wanted.now; audit = a; is_table = form.is_table }) }
+        ensures { (a : Auditing) × Begins form.tolerance a × IsAt result (audit_begun wanted.now form a) }
     {
         AuditTask {
             alloc,
@@ -100,6 +101,13 @@ impl AuditTask {
             text: String::new(alloc),
             tally: Tally::new(),
         }
+    }
+
+    /// Whether a result that was handed out is wrong.
+    pub(crate) fn has_wrong(&self) -> bool
+        ensures { (s : Audited) → IsAt self.now s → result ≡ s.is_wrong }
+    {
+        self.tally.has_wrong()
     }
 
     /// How many reports at Syncs had no result.
@@ -114,7 +122,8 @@ impl AuditTask {
         output: &mut Counted<W>,
         errors: &mut E,
     ) -> Result<(), LineFault>
-        ensures taken { GoesOr result (TakesTold told) self.old self.new (W.contents (device_of output.old)) (W.contents (device_of output.new)) }
+        ensures taken { GoesOr result (TakesTold told) (StopsTold told) self.old self.new
+            (W.contents (device_of output.old)) (W.contents (device_of output.new)) }
         ensures failures { MatchResult result
             (λ _. HasNotFailed output.old output.new)
             (λ fault. HasFailedIf (is_write fault) output.old output.new) }
@@ -132,10 +141,9 @@ impl AuditTask {
         output: &mut Counted<W>,
         errors: &mut E,
     ) -> Result<(), LineFault>
-        ensures taken { MatchResult result
-            (λ _. (told : Told) × (told.line ≡ number) × Goes (TakesTold told) self.old self.new
-            (W.contents (device_of output.old)) (W.contents (device_of output.new)))
-            (λ fault. (out : List ℕ) × WentOut (is_write fault) (Appends (W.contents (device_of output.old)) (W.contents (device_of output.new)) out)) }
+        requires { length line.now ≤ line_limit }
+        ensures taken { GoesOr result (TakesAs true number line.now) (StopsAs true number line.now) self.old self.new
+            (W.contents (device_of output.old)) (W.contents (device_of output.new)) }
         ensures failures { MatchResult result
             (λ _. HasNotFailed output.old output.new)
             (λ fault. HasFailedIf (is_write fault) output.old output.new) }
@@ -157,7 +165,8 @@ impl AuditTask {
         output: &mut Counted<W>,
         errors: &mut E,
     ) -> Result<(), LineFault>
-        ensures taken { GoesOr result (TakesReports number) self.old self.new (W.contents (device_of output.old)) (W.contents (device_of output.new)) }
+        ensures taken { GoesOr result (TakesReports number) (StopsReports number) self.old self.new
+            (W.contents (device_of output.old)) (W.contents (device_of output.new)) }
         ensures failures { MatchResult result
             (λ _. HasNotFailed output.old output.new)
             (λ fault. HasFailedIf (is_write fault) output.old output.new) }
@@ -181,7 +190,7 @@ impl AuditTask {
         output: &mut Counted<W>,
         errors: &mut E,
     ) -> Result<(), LineFault>
-        ensures said { GoesOr result Says self.old self.new (W.contents (device_of output.old)) (W.contents (device_of output.new)) }
+        ensures said { GoesOr result Says SaysInPart self.old self.new (W.contents (device_of output.old)) (W.contents (device_of output.new)) }
         ensures failures { MatchResult result
             (λ _. HasNotFailed output.old output.new)
             (λ fault. HasFailedIf (is_write fault) output.old output.new) }
@@ -227,7 +236,8 @@ fn read_line(
     number: u64,
     has_path: bool,
 ) -> Result<Told, LineFault>
-    ensures { MatchResult result (λ told. told.line ≡ number) (λ fault. is_write fault ≡ false) }
+    requires { length line.now ≤ line_limit }
+    ensures { MatchResult result (IsResult has_path number line.now) (λ fault. IsNoResult fault has_path number line.now) }
 {
     match str::from_utf8(line) {
         Ok(text) => read_told(alloc, scratch, text, number, has_path),

@@ -1,6 +1,6 @@
 use Rattle.std.proofs.Common.{reverse, take}
 use Rattle.result_audit.specs.Auditor.{auditing_of}
-use Rattle.audit_command.specs.Inner.Audit.{TakesAll}
+use Rattle.audit_command.specs.Audit.{TakesAll}
 use Rattle.audit_command.proofs.task.take_completions.Given as goal
 
 -- those so far are taken

@@ -1,25 +1,46 @@
-use Rattle.std.proofs.Common.{◌≡◌, ◌∙◌, List, ℕ, sym, ap, subst}
+use Rattle.std.proofs.Common.{◌∙◌, inl, inr, ap, refl, subst}
+use Rattle.std.proofs.lemmas.Result.{err_from_is_err_and}
 use Rattle.text_lines.specs.Counted.{device_of}
+use Rattle.recording_measure.specs.Measure.{handed_on}
 use Rattle.result_audit.specs.Auditor.{Auditing, passed_by}
-use Rattle.audit_command.specs.Inner.Audit.{TakesAll, TakesReports}
-use Rattle.audit_command.specs.Inner.Task.{Says}
-use Rattle.audit_command.proofs.Going.{mapped}
+use Rattle.audit_command.specs.Audit.{TakesFresh, TakesReports, StopsReports}
+use Rattle.audit_command.specs.Inner.Task.{Says, SaysInPart}
+use Rattle.audit_command.proofs.Going.{mapped, without_memory}
 use Rattle.audit_command.proofs.task.AuditTask.take_reports.Goals as goal
+
+pub returns-in_err-take_new-clause-taken : goal.returns-in_err-take_new-clause-taken
+returns-in_err-take_new-clause-taken g c =
+    let e = err_from_is_err_and c.from_residual.result c.from_residual.ensures.1 in
+    without_memory c.from_residual.result e.0 (TakesReports c.args.number) (StopsReports c.args.number) c.args.self.now _ _ e.1 e.2
+    (λ s at. inl (refl, refl))
 
 pub returns-clause-taken : goal.returns-clause-taken
 returns-clause-taken g c =
     let taken = c.in_ok-take_new.ensures in
-    mapped c.write_answers.result Says (TakesReports c.args.number) c.args.self.now c.take_new.new.self c.write_answers.new.self
+    mapped c.write_answers.result Says (TakesReports c.args.number) SaysInPart (StopsReports c.args.number) c.args.self.now
+    c.take_new.new.self c.write_answers.new.self
     (g.W.Write.contents (device_of c.args.output.now)) (g.W.Write.contents (device_of c.write_answers.new.output))
-    (λ s at. (
-      record s { audit = passed_by c.args.number taken.mid },
-      record { reading = taken.reading s.reading at.reading; audit = taken.audit; table = ap (λ form. form.is_table) taken.form ∙ at.table },
+    (λ s at.
+    let fresh = subst (λ (audit : Auditing). TakesFresh s.reading audit taken.mid) at.audit (taken.taken s.reading at.reading at.asked) in (
+      record s { reading = handed_on s.reading; audit = passed_by c.args.number taken.mid },
+      record {
+        reading = taken.reading s.reading at.reading at.asked;
+        asked = at.asked;
+        audit = taken.audit;
+        form = taken.form ∙ at.form;
+        wrong = ap (λ tally. tally.is_wrong) taken.tally ∙ at.wrong;
+      },
       λ later out says. record {
         reading = says.reading;
-        completions = taken.completions;
-        newest = taken.newest s.reading at.reading;
         mid = taken.mid;
-        taken = subst (λ (audit : Auditing). TakesAll taken.completions audit taken.mid) at.audit taken.taken;
-        goes = record { answers = says.goes.answers; handed = says.goes.handed; table = says.goes.table; texts = says.goes.texts };
+        taken = fresh;
+        goes = record {
+          answers = says.goes.answers;
+          handed = says.goes.handed;
+          form = says.goes.form;
+          wrong = says.goes.wrong;
+          texts = says.goes.texts;
+        };
       },
+      λ fault out stops. inr (taken.mid, fresh, stops),
     )) c.write_answers.ensures.said

@@ -1,28 +1,31 @@
-use Rattle.std.proofs.Common.{◌≡◌, ◌∙◌, ◌++◌, List, [], Bool, ℕ, None, refl, sym, ap, subst}
+use Rattle.std.proofs.Common.{◌∙◌, ◌++◌, [], Bool, None, refl, sym, ap, subst}
+use Rattle.std.specs.Prelude.{◌||◌}
 use Rattle.std.proofs.KnownBytes.{Appends-nil, Appends-trans}
 use Rattle.std.proofs.lemmas.Result.{err_from_is_err_and}
 use Rattle.std.specs.Io.KnownBytes.{Appends}
 use Rattle.text_lines.specs.Counted.{device_of}
 use Rattle.result_audit.specs.Auditor.{Auditing, auditing_of, HandsOut}
+use Rattle.result_audit.specs.Held.{is_wrong}
+use Rattle.audit_command.specs.declared.task.AuditForm.{AuditForm}
 use Rattle.audit_command.specs.declared.task.AuditTask.{AuditTask}
-use Rattle.audit_command.specs.Inner.Audit.{HandsOn, text_of}
-use Rattle.audit_command.specs.Inner.Task.{Says}
-use Rattle.audit_command.proofs.Going.{said_more, hands_none, fails_behind}
+use Rattle.audit_command.specs.Audit.{HandsOn, text_of}
+use Rattle.audit_command.proofs.Going.{said_more, hands_none, stops_behind}
 use Rattle.audit_command.proofs.task.AuditTask.write_answers.Goals as goal
 
 pub loop-answer-init : goal.loop-answer-init
 loop-answer-init g c =
     let start = g.W.Write.contents (device_of c.args.output.now) in record {
-      said = λ s at. (s, [], at, record { reading = refl; table = refl; answers = []; handed = refl; texts = refl }, Appends-nil start);
-      went = ([], Appends-nil start);
+      said = λ s at. (s, [], at, record { reading = refl; form = refl; answers = []; handed = refl; wrong = refl; texts = refl }, Appends-nil start);
       writer = refl;
     }
 
 pub returns-in_err-write-clause-said : goal.returns-in_err-write-clause-said
 returns-in_err-write-clause-said g c =
     let e = err_from_is_err_and c.from_residual.result c.from_residual.ensures.1 in
-    rw (e.1, e.2) (fails_behind c.in_err-write.field-0.0 _ _ _ c.loop-answer.invariant.went.0 c.loop-answer.invariant.went.1
-    c.in_err-write.ensures.written)
+    rw (e.1, e.2) (λ s at.
+    let (later, out, there, so_far, went) = c.loop-answer.invariant.said s at in
+    stops_behind c.in_err-write.field-0.0 s later out c.in-Some.answer (auditing_of c.loop-answer.self.auditor) _ _ _ _ so_far there.audit
+    c.in-Some.ensures went c.in_err-write.ensures.written)
 
 pub loop-answer-preserved : goal.loop-answer-preserved
 loop-answer-preserved g c =
@@ -34,19 +37,23 @@ loop-answer-preserved g c =
     let same = c.in_ok-write.ensures.others in record {
       said = λ s at.
           let (later, out, there, so_far, went) = c.loop-answer.invariant.said s at in
-          let after : Auditing = auditing_of c.next_answer.new.self in (
-            record later { audit = after },
-            out ++ text_of s.is_table c.in-Some.answer,
+          let after : Auditing = auditing_of c.next_answer.new.self in
+          let tells = c.take.ensures.wrong ∙ ap (λ (w : Bool). w || is_wrong c.in-Some.answer)
+          (ap (λ (t : AuditTask). t.tally.is_wrong) same ∙ there.wrong) in (
+            record later { audit = after; is_wrong = c.take.new.self.is_wrong },
+            out ++ text_of s.form.is_table c.in-Some.answer,
             record {
               reading = rw (ap (λ (t : AuditTask). t.measure) same) there.reading;
+              asked = there.asked;
               audit = ap (λ (t : AuditTask). auditing_of t.auditor) same;
-              table = ap (λ (t : AuditTask). t.form.is_table) same ∙ there.table;
+              form = ap (λ (t : AuditTask). t.form) same ∙ there.form;
+              wrong = refl;
             },
-            said_more s later out c.in-Some.answer (auditing_of c.loop-answer.self.auditor) after so_far there.audit c.in-Some.ensures,
-            Appends-trans a b d out (text_of s.is_table c.in-Some.answer) went
-                (subst (λ (is_table : Bool). Appends b d (text_of is_table c.in-Some.answer)) (there.table ∙ so_far.table) written),
+            said_more s later out c.in-Some.answer (auditing_of c.loop-answer.self.auditor) after c.take.new.self.is_wrong so_far there.audit
+                c.in-Some.ensures tells,
+            Appends-trans a b d out (text_of s.form.is_table c.in-Some.answer) went
+                (subst (λ (form : AuditForm). Appends b d (text_of form.is_table c.in-Some.answer)) (there.form ∙ so_far.form) written),
           );
-      went = (c.loop-answer.invariant.went.0 ++ text, Appends-trans a b d c.loop-answer.invariant.went.0 text c.loop-answer.invariant.went.1 written);
       writer = c.in_ok-write.ensures.failures ∙ c.loop-answer.invariant.writer;
     }
 
@@ -59,7 +66,7 @@ returns-clause-said g c = λ s at.
     let same = hands_none before after before.held none in (
       record later { audit = after },
       out,
-      record { reading = there.reading; audit = refl; table = there.table },
+      record { reading = there.reading; asked = there.asked; audit = refl; form = there.form; wrong = there.wrong },
       record {
         reading = so_far.reading;
         goes = record {
@@ -68,7 +75,8 @@ returns-clause-said g c = λ s at.
             subst (λ (audit : Auditing). HandsOn so_far.answers s.audit audit) (sym (same ∙ there.audit)) so_far.handed,
             subst (λ (audit : Auditing). HandsOut audit None after audit.held) (sym same) none,
           );
-          table = so_far.table;
+          form = so_far.form;
+          wrong = so_far.wrong;
           texts = so_far.texts;
         };
       },

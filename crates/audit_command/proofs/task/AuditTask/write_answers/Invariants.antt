@@ -1,5 +1,4 @@
-use Rattle.std.proofs.Common.{◌≡◌, ℕ, List, length}
-use Rattle.std.specs.Io.KnownBytes.{Appends}
+use Rattle.std.proofs.Common.{length}
 use Rattle.text_lines.specs.Counted.{device_of, HasNotFailed}
 use Rattle.result_audit.specs.Auditor.{auditing_of}
 use Rattle.audit_command.specs.Inner.Task.{Goes, SaidSoFar}
@@ -9,7 +8,6 @@ use Rattle.audit_command.proofs.task.AuditTask.write_answers.Given as goal
 abbrev pub invariant-loop-answer : goal.invariant-loop-answer
 invariant-loop-answer g l = record {
   said : Goes SaidSoFar l.fn.self l.self (g.W.Write.contents (device_of l.fn.output)) (g.W.Write.contents (device_of l.output));
-  went : (out : List ℕ) × Appends (g.W.Write.contents (device_of l.fn.output)) (g.W.Write.contents (device_of l.output)) out;
   writer : HasNotFailed l.fn.output l.output;
 }
 

@@ -1,27 +1,35 @@
 -- What `audit` makes of the datagrams and the results of an input. Lists of reports and of answers have the newest in front.
-use Rattle.std.specs.Prelude.{◌≡◌, ◌⊎◌, ℕ, ◌+◌, ◌-◌, ◌^◌, Bool, true, false, ◌==◌, List, [], ◌∷◌, ◌++◌, slice_index, map, Option, Some, None, option_map, MatchOption, if◌then◌else◌, ⊤}
+use Rattle.std.specs.Prelude.{◌≡◌, ◌⊎◌, ℕ, Bool, false, ◌||◌, List, [], ◌∷◌, ◌++◌, reverse, Option, Some, None, option_map, MatchOption, if◌then◌else◌}
 use Rattle.text_lines.specs.declared.line_fault.LineFault.{LineFault}
+use Rattle.text_lines.specs.declared.line_fault.LineFault.TheVariants.{Write, Field, Memory}
 use Rattle.text_lines.specs.Fault.{is_write}
-use Rattle.text_lines.specs.Task.{Rules}
 use Rattle.datagram_source.specs.declared.lines.LineForm.TheVariants.{Timed}
-use Rattle.datagram_source.specs.Datagram.{DatagramOf, IsDatagramLine}
+use Rattle.datagram_source.specs.Datagram.{DatagramOf}
 use Rattle.datagram_source.specs.Rules.{DatagramRules, is_field}
 use Rattle.recording_measure.specs.declared.completion.Completion.{Completion}
-use Rattle.recording_measure.specs.Fresh.{completion_of}
-use Rattle.recording_measure.specs.Made.{Measured}
-use Rattle.recording_measure.specs.Measure.{Recording, measured_so_far}
+use Rattle.recording_measure.specs.declared.form.Form.TheVariants.{Completions}
+use Rattle.recording_measure.specs.declared.watch.WantedPorts.{WantedPorts}
+use Rattle.recording_measure.specs.Fresh.{AreFresh}
+use Rattle.recording_measure.specs.Measure.{Recording, begun, handed_on, measured_so_far}
 use Rattle.recording_measure.specs.Measure as measure
 use Rattle.result_audit.specs.declared.answer.Answer.{Answer}
 use Rattle.result_audit.specs.declared.report_at.ReportAt.{ReportAt}
 use Rattle.result_audit.specs.declared.told.Told.{Told}
 use Rattle.result_audit.specs.Auditor.{Auditing, TakesReportAt, HandsOut, passed_by, with_told, at_end}
+use Rattle.result_audit.specs.Held.{is_wrong}
 use Rattle.result_audit.specs.Lines.{json_text, row_text}
+use Rattle.audit_command.specs.declared.task.AuditForm.{AuditForm}
 
--- what was measured, what became of the results, and whether the output is a table
+-- what was measured, what became of the results, how they are judged and written, and whether one that was handed out is wrong
 pub record Audited : Type 0 where
   pub reading : Recording
   pub audit : Auditing
-  pub is_table : Bool
+  pub form : AuditForm
+  pub is_wrong : Bool
+
+-- nothing came yet
+abbrev pub audit_begun : WantedPorts → AuditForm → Auditing → Audited
+audit_begun wanted form a = record { reading = begun Completions wanted; audit = a; form = form; is_wrong = false }
 
 -- ---- reports
 -- a report with its exchange, which is there
@@ -37,12 +45,11 @@ abbrev pub TakesAll : List Completion → (before after : Auditing) → Type 0
 TakesAll [] before after = after ≡ before
 TakesAll (c ∷ earlier) before after = (mid : Auditing) × TakesAll earlier before mid × TakesCompletion c mid after
 
--- these are the newest of all that is measured
-pub record AreNewest (completions : List Completion) (all : List Measured) : Type 0 where
-  pub newer : List Measured
-  pub earlier : List Measured
-  pub parts : all ≡ newer ++ earlier
-  pub told : completions ≡ map completion_of newer
+-- each report that is measured and wasn't handed on is taken, once and in order
+pub record TakesFresh (r : Recording) (before after : Auditing) : Type 0 where
+  pub completions : List Completion
+  pub fresh : AreFresh (measured_so_far r) r.handed (reverse completions)
+  pub taken : TakesAll completions before after
 
 -- ---- answers
 -- these are handed out, one after the other
@@ -63,21 +70,38 @@ abbrev pub texts_of : (is_table : Bool) → List Answer → List ℕ
 texts_of is_table [] = []
 texts_of is_table (answer ∷ earlier) = texts_of is_table earlier ++ text_of is_table answer
 
+-- one of them is wrong, or one before was
+abbrev pub wrong_with : List Answer → (before : Bool) → Bool
+wrong_with [] before = before
+wrong_with (answer ∷ earlier) before = wrong_with earlier before || is_wrong answer
+
 -- what may be said once this happened to the results goes out
 pub record GoesOut (s : Audited) (happened : Auditing) (later : Audited) (out : List ℕ) : Type 0 where
   pub answers : List Answer
   pub handed : HandsAll answers happened later.audit
-  pub table : later.is_table ≡ s.is_table
-  pub texts : out ≡ texts_of s.is_table answers
+  pub form : later.form ≡ s.form
+  pub wrong : later.is_wrong ≡ wrong_with answers s.is_wrong
+  pub texts : out ≡ texts_of s.form.is_table answers
+
+-- some of it went out, each answer whole
+pub record GoesInPart (is_table : Bool) (happened upto : Auditing) (out : List ℕ) : Type 0 where
+  pub answers : List Answer
+  pub handed : HandsOn answers happened upto
+  pub texts : out ≡ texts_of is_table answers
+
+-- why it doesn't: memory failed, or the writer did, at the next answer; before that some of it went out
+abbrev pub StopsSaying : (is_table : Bool) → (happened : Auditing) → LineFault → List ℕ → Type 0
+StopsSaying is_table happened Write out = (upto : Auditing) × (answer : Answer) × (after : Auditing)
+    × GoesInPart is_table happened upto out × HandsOut upto (Some answer) after upto.held
+StopsSaying is_table happened Field out = ⊥
+StopsSaying is_table happened Memory out = (upto : Auditing) × GoesInPart is_table happened upto out
 
 -- ---- a datagram
--- The reports that were new are taken, the datagrams up to this number were, and what may be said then goes out.
+-- The reports that weren't handed on are taken, the datagrams up to this number were, and what may be said then goes out.
 pub record TakesReports (number : ℕ) (s later : Audited) (out : List ℕ) : Type 0 where
-  pub reading : later.reading ≡ s.reading
-  pub completions : List Completion
-  pub newest : AreNewest completions (measured_so_far s.reading)
+  pub reading : later.reading ≡ handed_on s.reading
   pub mid : Auditing
-  pub taken : TakesAll completions s.audit mid
+  pub taken : TakesFresh s.reading s.audit mid
   pub goes : GoesOut s (passed_by number mid) later out
 
 -- a datagram is measured as `measure` does, and then reports are taken
@@ -89,6 +113,23 @@ pub record TakesDatagram (d : DatagramOf) (s later : Audited) (out : List ℕ) :
   pub reports : TakesReports d.number (record s { reading = reading }) later rest
   pub written : out ≡ first ++ rest
 
+-- memory failed before anything went out
+abbrev pub IsWithoutMemory : LineFault → List ℕ → Type 0
+IsWithoutMemory fault out = (fault ≡ Memory) × (out ≡ [])
+
+-- why reports aren't taken
+abbrev pub StopsReports : (number : ℕ) → Audited → LineFault → List ℕ → Type 0
+StopsReports number s fault out =
+    IsWithoutMemory fault out
+    ⊎ ((mid : Auditing) × TakesFresh s.reading s.audit mid × StopsSaying s.form.is_table (passed_by number mid) fault out)
+
+-- why a datagram isn't taken: it isn't measured, or then reports aren't taken
+abbrev pub StopsDatagram : DatagramOf → Audited → LineFault → List ℕ → Type 0
+StopsDatagram d s fault out =
+    measure.Stops d s.reading fault out
+    ⊎ ((reading : Recording) × (first : List ℕ) × (rest : List ℕ) × measure.Takes d s.reading reading first
+    × StopsReports d.number (record s { reading = reading }) fault rest × (out ≡ first ++ rest))
+
 -- at the end nothing comes any more
 pub record Ends (s later : Audited) (out : List ℕ) : Type 0 where
   pub reading : later.reading ≡ s.reading
@@ -99,9 +140,9 @@ audit_rules = record {
   line_form = Timed;
   asked = λ s. s.reading.wanted.interface;
   Takes = TakesDatagram;
-  Stops = λ d s fault out. ⊤;
+  Stops = StopsDatagram;
   Ends = Ends;
-  StopsAtEnd = λ s fault out. ⊤;
+  StopsAtEnd = λ s fault out. StopsSaying s.form.is_table (at_end s.audit) fault out;
   is_of_writer = is_write;
   keeps = is_field;
   fault_of = λ fault. fault;
@@ -113,32 +154,6 @@ pub record TakesTold (told : Told) (s later : Audited) (out : List ℕ) : Type 0
   pub reading : later.reading ≡ s.reading
   pub goes : GoesOut s (with_told told s.audit) later out
 
--- ---- lines
--- how many lines were taken, and what came of them
-pub record LinesRead : Type 0 where
-  pub count : ℕ
-  pub state : Audited
-
--- a line tells a result where it begins as an object does
-abbrev pub is_told : List ℕ → Bool
-is_told [] = false
-is_told (octet ∷ others) = octet == 123
-
--- of a line of this number the result that it tells is taken, or its datagram
-abbrev pub TakesAs : (tells_result : Bool) → (number : ℕ) → List ℕ → (s later : Audited) → List ℕ → Type 0
-TakesAs true number line s later out = (told : Told) × (told.line ≡ number) × TakesTold told s later out
-TakesAs false number line s later out = (d : DatagramOf) × IsDatagramLine Timed number line d × TakesDatagram d s later out
-
--- a line is taken
-abbrev pub TakesLine : List ℕ → LinesRead → LinesRead → List ℕ → Type 0
-TakesLine line r later out = (later.count ≡ r.count + 1) × TakesAs (is_told line) (r.count + 1) line r.state later.state out
-
-abbrev pub line_rules : Rules LinesRead ℕ LineFault
-line_rules = record {
-  lines_limit = 2 ^ 64 - 2;
-  Takes = TakesLine;
-  Stops = λ line r fault out. ⊤;
-  Ends = λ lines r answer out. (answer ≡ lines) × ((later : Audited) × Ends r.state later out);
-  StopsAtEnd = λ r fault out. ⊤;
-  is_of_writer = is_write;
-}
+-- why it doesn't
+abbrev pub StopsTold : Told → Audited → LineFault → List ℕ → Type 0
+StopsTold told s fault out = StopsSaying s.form.is_table (with_told told s.audit) fault out
