@@ -96,20 +96,21 @@ pub(crate) const HELP: &str =
 front of either, results that the slave reported: objects of JSON, one a line, as
   {"offset":"-12.5","path":"1000"}
 with offsetFromMaster and meanPathDelay in nanoseconds, as numbers or as texts, with up to 16 decimals. A
-result is of the newest Sync in front of it, unless it names its Sync: by sequence, its sequenceId, or by line,
-the line or packet behind which the result belongs. Such results stand in front of their Syncs, in their order.
+result is of the newest Sync in front of it, or of the newest Delay_Resp, if that came behind the Sync and fits
+better, unless it names its Sync: by sequence, its sequenceId, or by line, the line or packet behind which the
+result belongs. Such results stand in front of their Syncs, in their order, and lines of results count, too.
 
 The delay and the offset that the slave has to have are computed from its own readings, which it tells in
 Signaling messages (ptp4l, slave_event_monitor), or from what was captured, as 'ptpx measure' does. Standard
 output has a line for each result, as soon as it is decided, which is
   {"beyond":"0","line":5,"offset":"351","offset_error":"0.5","path":"850","path_error":"-0.5","path_is":"latest",
   "sequence":17,"sum_error":"0","tags":[5,null,4,4],"time":"1795328934.357259633","verdict":"within"}
-in one line; times are nanoseconds with all their decimals. line, sequence, tags and time are of the report at
-its Sync; time is when that arrived. offset_error is the offset less the exact one, path_error the
-path less meanPathDelay by the newest exchange, sum_error both together less what the Sync tells, t2 - t1 -
-correction, and beyond by how much path lies outside of the least and the greatest delay at the last 16
-responses and the newest. path_is says which of these path is: latest, response 1 for the newest, median or mean
-of so many, between or outside. verdict is the first of these that holds:
+in one line; times are nanoseconds with all their decimals. line, sequence, tags and time are of the report of
+'ptpx measure' that it is compared with; time is when its Sync arrived. offset_error is the offset less the
+exact one, path_error the path less meanPathDelay by the newest exchange, sum_error both together less what the
+Sync tells, t2 - t1 - correction, and beyond by how much path lies outside of the least and the greatest delay
+at the last 16 responses and the newest. path_is says which of these path is: latest, response 1 for the newest,
+median or mean of so many, between or outside. verdict is the first of these that holds:
   exact     both errors are 0
   within    both are at most --tolerance, either way
   filtered  sum_error and beyond are: the path is a filter's, and the offset is by this
@@ -118,7 +119,8 @@ of so many, between or outside. verdict is the first of these that holds:
   unjudged  no Sync behind an exchange is there of which it could be; or it would be wrong, and a message is
             missing beside its own, or not each of the last 16 delays is known; standard error says which
 A wrong result is held until the next Sync and the next exchange, which tell whether one is missing. Where no
-Sync comes behind its own, an offset alone accuses nobody.
+Sync comes behind its own, an offset alone accuses nobody, and where no exchange comes, nothing does. Set a
+filter of the slave to 16 delays at the most: one over more of them may be called wrong.
 With --offset-only results need no path: exact, within and filtered are by the offset alone.
 
 Standard error says why a result is wrong or unjudged, and at the end how many there are of each verdict, the

@@ -141,18 +141,20 @@ sync or response, line which line or packet did, and time is the time of that on
 decimals. tags are the lines or packets of Sync, Follow_Up, Delay_Req and Delay_Resp; that of Follow_Up is
 null where the Sync is a one-step one. Lines count from 1, and so do packets, those without PTP, too.
 
-With --full each has also t1 to t4 in seconds (t1 and t4 as the master says, t2 and t3 as the input does),
-sync_correction (of Sync and Follow_Up), delay_correction and t2_to_t3, the time between t2 and t3, whichever
-is later, in nanoseconds, and the sequenceIds sync_number and request_number.
+With --full each has also t1 to t4 in seconds (t1 and t4 as the master says, t2 and t3 as the input does, or by
+the slave's own clock where its own readings are measured), sync_correction (of Sync and Follow_Up),
+delay_correction and t2_to_t3, the time between t2 and t3, whichever is later, in nanoseconds, and the
+sequenceIds sync_number and request_number.
 
 With --sum one line of JSON stands in place of the reports, at the end or after a fault but 808: of offsets
 and paths the mean, the standard deviation, the least, the greatest, and of the last 4096 the median and the
 95th and the 99th percentile; what came and what is missing, what the master announces, names of what speaks
-against the numbers, and whom they are of.
+against the numbers, whom they are of, and whose readings.
 
 A slave that tells its own readings in Signaling messages (ptp4l, slave_event_monitor) is measured by these, if
 any come before the first report: by is then own sync or own response, and no time of the input counts. With
---readings own they are taken alone, and with --readings capture none of them.
+--readings own they are taken alone, and with --readings capture none of them. Standard error says at the end
+how many messages are left aside so, and where --readings own is in vain.
 
 A PORT is a portIdentity: 16 hexadecimal digits, '/' and the number, as 'ptpx show' writes it, or as pmc
 of linuxptp does, 00aabb.fffe.ccddee-1. Number and domain may have zeros in front. NS is nanoseconds, written
