@@ -1,5 +1,4 @@
 //! How a fault of a capture is told to a person, and which exit status comes of it.
-#![tactic(auto)]
 
 ghost use Rattle.std.specs.Prelude.{◌≡◌};
 ghost use Rattle.fault_report.specs.Status.{status_of};

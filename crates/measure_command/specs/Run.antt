@@ -1,5 +1,5 @@
 -- How `measure` runs.
-use Rattle.std.specs.Prelude.{◌≡◌, ⊤, ℕ, Bool, true, false, ◌==◌, ◌&&◌, ◌||◌, List, Option, Some, None, Result, Ok, Err, MatchResult, if◌then◌else◌}
+use Rattle.std.specs.Prelude.{◌≡◌, ⊤, ℕ, Bool, true, false, ◌&&◌, ◌||◌, List, Option, Some, None, Result, Ok, Err, MatchResult, if◌then◌else◌}
 use Rattle.std.specs.Option.{ForSome}
 use Rattle.std.specs.Result.{is_ok}
 use Rattle.text_lines.specs.declared.counted.Counted.{Counted}
@@ -28,7 +28,7 @@ use Rattle.recording_measure.specs.Measure.{begun, head_text, measure_rules}
 use Rattle.recording_measure.specs.Summed.{WritesLine}
 use Rattle.recording_measure.specs.Told.{counts_told, IsSummary}
 use Rattle.command_options.specs.declared.MeasureOptions.{MeasureOptions}
-use Rattle.fault_report.specs.Status.{status_of}
+use Rattle.capture_report.specs.Status.{outcome_status, judged}
 
 -- whom `measure` is asked to watch
 abbrev pub wanted_of : MeasureOptions → WantedPorts
@@ -46,11 +46,6 @@ form_of options =
     if options.sum then Sums
     else if options.full then if options.csv then FullTable else FullJson
     else if options.csv then Table else Json
-
--- the exit status, by what came of the input alone
-abbrev pub outcome_status : InputOutcome LineFault → ℕ
-outcome_status (Lines answer) = status_of answer
-outcome_status (Capture answer) = status_of answer
 
 -- ---- sums
 -- whether a fault says that a line isn't what is asked for
@@ -113,10 +108,6 @@ are_refused is_strict is_beyond is_doubtful = is_beyond || (is_strict && is_doub
 abbrev pub is_refused : MeasureOptions → Rounded → Counts → Bool
 is_refused options rounded counts =
     are_refused options.strict (is_beyond_limit options.limit counts) (is_doubtful rounded counts)
-
--- the exit status: 1 where the numbers are refused, and nothing gives another
-abbrev pub judged : ℕ → Bool → ℕ
-judged status is_refused = if status == 0 && is_refused then 1 else status
 
 -- `measure` ran by these options: what came of its input, its sums and what is asked of the numbers gave the status, and say what was
 -- read and written

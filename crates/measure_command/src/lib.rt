@@ -1,28 +1,20 @@
 //! What `ptpx measure` runs.
 #![tactic(auto)]
 
-ghost use Rattle.measure_command.specs.Run.{RunsMeasure, form_of, outcome_status, is_beyond_limit, are_refused, is_refused, judged};
+ghost use Rattle.measure_command.specs.Run.{RunsMeasure, form_of, is_beyond_limit, are_refused, is_refused};
 ghost use Rattle.measure_command.specs.Run.{is_field, leaves_sums, EndsAs, EndsWithSums};
 ghost use Rattle.recording_summary.specs.declared.beware.Rounded.{Rounded};
 ghost use Rattle.std.specs.Prelude.{◌≡◌, ◌&&◌};
 
 use capture_file::CaptureCause;
-use capture_report::finish_capture;
+use capture_report::{finish_input, judged};
 use command_options::MeasureOptions;
 use datagram_source::InputOutcome;
-use fault_report::finish;
 use ptp_units::ScaledTime;
 use recording_measure::{Counts, Form, Summary, WantedPorts, measure};
 use std::alloc::Global;
 use std::io::{Read, Write};
-use text_lines::{Cause, Counted, LineFault, Numbered, Stopped};
-
-/// What is told where the packets of an interface are asked for, and there are lines.
-const LINES_HAVE_NO_INTERFACE: &[u8] =
-    b"ptpx: lines have no interface, so --interface changes nothing\n";
-
-/// What is told of an input of no octet.
-const EMPTY: &[u8] = b"ptpx: the input is empty\n";
+use text_lines::{Cause, Counted, LineFault, Numbered};
 
 /// Measures a recording or a capture, writes and tells what came of it beside the reports, and answers the exit status.
 pub fn run_measure<R: Read, W: Write, E: Write>(
@@ -43,10 +35,9 @@ pub fn run_measure<R: Read, W: Write, E: Write>(
     };
     let form = form_of(&options);
     let (outcome, summary) = measure(alloc, &wanted, form, input, output, errors);
-    let status = finish_outcome(errors, outcome);
+    let status = finish_input(errors, outcome, options.interface.is_some());
     let is_asked = asks_sums(&options, &outcome);
     let status = end_with_sums(alloc, is_asked, &summary, status, output, errors);
-    tell_lines(&outcome, options.interface.is_some(), errors);
     summary.tell(errors);
     judged(status, is_refused(&options, &summary.counts()))
 }
@@ -77,13 +68,6 @@ fn is_refused(options: &MeasureOptions, counts: &Counts) -> bool
         is_beyond_limit(options.limit, counts),
         counts.is_doubtful(),
     )
-}
-
-/// The exit status: 1 where the numbers are refused, and nothing gives another.
-fn judged(status: u8, is_refused: bool) -> u8
-    ensures { result ≡ judged status is_refused }
-{
-    if status == 0 && is_refused { 1 } else { status }
 }
 
 /// How measurements are asked for.
@@ -178,33 +162,5 @@ fn finish_sums<W: Write, E: Write>(
             );
             3
         }
-    }
-}
-
-/// Says of lines that there are none, and that an interface was asked for in vain.
-fn tell_lines<E: Write>(
-    outcome: &InputOutcome<LineFault>,
-    is_interface_asked: bool,
-    errors: &mut E,
-) {
-    let InputOutcome::Lines(answer) = outcome else {
-        return;
-    };
-    if matches!(answer, Ok(0)) {
-        let _ = errors.write_all(EMPTY);
-    }
-    let is_unread = matches!(answer, Err(Stopped { line: 0, .. }));
-    if is_interface_asked && !is_unread {
-        let _ = errors.write_all(LINES_HAVE_NO_INTERFACE);
-    }
-}
-
-/// Answers the exit status by what came of the input, and says its fault.
-fn finish_outcome<E: Write>(errors: &mut E, outcome: InputOutcome<LineFault>) -> u8
-    ensures { result ≡ outcome_status outcome }
-{
-    match outcome {
-        InputOutcome::Lines(answer) => finish(errors, answer),
-        InputOutcome::Capture(answer) => finish_capture(errors, answer),
     }
 }

@@ -7,7 +7,8 @@ use Rattle.datagram_source.specs.Left.{LeavesInput}
 use Rattle.recording_measure.specs.declared.form.Form.{Form}
 use Rattle.recording_measure.specs.Measure.{begun, head_text, measure_rules}
 use Rattle.recording_measure.specs.Told.{IsSummary}
-use Rattle.measure_command.specs.Run.{EndsAs, is_refused, judged, outcome_status, wanted_of}
+use Rattle.capture_report.specs.Status.{judged, outcome_status}
+use Rattle.measure_command.specs.Run.{EndsAs, is_refused, wanted_of}
 use Rattle.measure_command.proofs.run_measure.Goals as goal
 
 pub returns : goal.returns
@@ -33,5 +34,5 @@ returns g c =
       subst (λ (b : Bool). EndsAs g.W.Write.contents b (outcome_status outcome) ended.result measured ended.new.output)
           c.asks_sums-is_asked.ensures
           (subst (λ (s : ℕ). EndsAs g.W.Write.contents c.asks_sums-is_asked.result s ended.result measured ended.new.output)
-          c.finish_outcome-status.ensures ended.ensures),
+          c.finish_input-status.ensures ended.ensures),
     )
