@@ -1,6 +1,6 @@
 -- What goes out, from one to another.
 use Rattle.std.proofs.Common.{◌≡◌, ◌∙◌, ◌++◌, inl, inr, ℕ, List, [], ◌∷◌, reverse, Option, Some, None, Result, Ok, Err, MatchResult, append-nil, refl, sym, ap, subst}
-use Rattle.std.specs.Prelude.{Bool, true, false, ◌||◌}
+use Rattle.std.specs.Prelude.{Bool, true, false}
 use Rattle.std.proofs.lemmas.Bool.{true≢false}
 use Rattle.datagram_source.specs.Rules.{is_field}
 use Rattle.std.proofs.lemmas.List.{reverse-reverse}
@@ -20,7 +20,8 @@ use Rattle.recording_measure.specs.Measure as measure
 use Rattle.result_audit.specs.declared.held.Held.{Held}
 use Rattle.result_audit.specs.declared.answer.Answer.{Answer}
 use Rattle.result_audit.specs.Auditor.{Auditing, HandsOut}
-use Rattle.result_audit.specs.Held.{is_wrong}
+use Rattle.result_audit.specs.declared.totals.Totals.{Totals}
+use Rattle.result_audit.specs.Totals.{with_answer}
 use Rattle.audit_command.specs.declared.task.AuditTask.{AuditTask}
 use Rattle.audit_command.specs.Audit.{Audited, GoesInPart, HandsOn, StopsDatagram, StopsReports, StopsSaying, TakesDatagram, TakesReports, text_of}
 use Rattle.audit_command.specs.AuditLines.{IsNoResult}
@@ -69,15 +70,16 @@ hands_none before after [] out = out.1
 hands_none before after (one ∷ others) out = out.1
 
 -- one more was said
-pub said_more : (s later : Audited) (out : List ℕ) (answer : Answer) (before after : Auditing) (wrong : Bool) → SaidSoFar s later out
-    → before ≡ later.audit → HandsOut before (Some answer) after before.held → wrong ≡ (later.is_wrong || is_wrong answer)
-    → SaidSoFar s (record later { audit = after; is_wrong = wrong }) (out ++ text_of s.form.is_table answer)
-said_more s later out answer before after wrong so_far same hands tells = record {
+pub said_more : (s later : Audited) (out : List ℕ) (answer : Answer) (before after : Auditing) (totals : Totals) → SaidSoFar s later out
+    → before ≡ later.audit → HandsOut before (Some answer) after before.held → totals ≡ with_answer answer later.totals
+    → SaidSoFar s (record later { audit = after; totals = totals }) (out ++ text_of s.form.is_table answer)
+said_more s later out answer before after totals so_far same hands tells = record {
   reading = so_far.reading;
   form = so_far.form;
   answers = answer ∷ so_far.answers;
   handed = (before, subst (λ (audit : Auditing). HandsOn so_far.answers s.audit audit) (sym same) so_far.handed, hands);
-  wrong = tells ∙ ap (λ (w : Bool). w || is_wrong answer) so_far.wrong;
+  told = so_far.told;
+  totals = tells ∙ ap (with_answer answer) so_far.totals;
   texts = ap (λ (text : List ℕ). text ++ text_of s.form.is_table answer) so_far.texts;
 }
 

@@ -1,6 +1,6 @@
 -- What the first octets behind results tell of all of them.
 use Rattle.std.proofs.Common.{◌≡◌, ◌∙◌, ◌⊎◌, inl, inr, ℕ, ◌<◌, List, [], ◌∷◌, ◌++◌, length, take, drop, Option, Some, Result, Ok, Err, refl, sym, ap, subst, arith, append-nil}
-use Rattle.std.specs.Prelude.{Bool, MatchResult}
+use Rattle.std.specs.Prelude.{MatchResult}
 use Rattle.std.specs.Option.{ForSome}
 use Rattle.std.specs.Io.KnownBytes.{IsAtEnd}
 use Rattle.std.proofs.KnownBytes.{Appends-nil}
@@ -25,6 +25,7 @@ use Rattle.audit_command.specs.declared.lines.Finished.{Finished}
 use Rattle.audit_command.specs.declared.task.AuditTask.{AuditTask}
 use Rattle.audit_command.specs.Audit.{Audited, audit_rules}
 use Rattle.audit_command.specs.AuditLines.{line_rules}
+use Rattle.audit_command.specs.declared.ending.Ending.{Ending}
 use Rattle.audit_command.specs.Input.{IsBehind, IsOutcome, answer_behind}
 use Rattle.audit_command.specs.Inner.Front.{CaptureAnswers, LeavesFront, LinesAnswer, StopsFront}
 
@@ -59,10 +60,10 @@ is_begun behind first rest left split are is =
       ap (λ (n : ℕ). drop n behind) same ∙ ap (drop (enough first)) split ∙ cut.1,
     )
 
-module _ (s : Audited) (octets : List ℕ) (before : Option (List ℕ)) (is_wrong : Bool) where
+module _ (s : Audited) (octets : List ℕ) (before : Option (List ℕ)) (ending : Ending) where
   -- a result in front stopped it, or the reader failed behind them
   pub stopped_front : (left after : Option (List ℕ)) (stop : Stopped (Cause LineFault)) → StopsFront s octets left before after stop
-      → IsOutcome s octets left before after (Lines (Err stop)) is_wrong
+      → IsOutcome s octets left before after (Lines (Err stop)) ending
   stopped_front left after stop (inl stops) = inl (stop, refl, stops)
   stopped_front left after stop (inr (r, text, told, went, fails)) = inr (record {
     read = r;
@@ -82,8 +83,8 @@ module _ (s : Audited) (octets : List ℕ) (before : Option (List ℕ)) (is_wron
 
       -- this came of what is behind them
       goes_behind : (left after : Option (List ℕ)) (outcome : InputOutcome LineFault)
-          → IsBehind (record { count = count; state = front.state }) (after_lines count octets) left went after outcome is_wrong
-          → IsOutcome s octets left before after outcome is_wrong
+          → IsBehind (record { count = count; state = front.state }) (after_lines count octets) left went after outcome ending
+          → IsOutcome s octets left before after outcome ending
       goes_behind left after outcome behind = inr (record {
         read = record { count = count; state = front.state };
         text = front.text;
@@ -95,35 +96,35 @@ module _ (s : Audited) (octets : List ℕ) (before : Option (List ℕ)) (is_wron
 
       -- a capture
       pub captured : (left after : Option (List ℕ)) (outcome : InputOutcome LineFault) → HasMagic (first_octets beginning)
-          → ForSome mid (λ rest. CaptureAnswers front.state (first_octets beginning ++ rest) left went after outcome is_wrong)
-          → IsOutcome s octets left before after outcome is_wrong
+          → ForSome mid (λ rest. CaptureAnswers front.state (first_octets beginning ++ rest) left went after outcome ending)
+          → IsOutcome s octets left before after outcome ending
       captured left after outcome magic answers =
-          goes_behind left after outcome (go outcome (subst (λ (o : List ℕ). CaptureAnswers front.state o left went after outcome is_wrong)
+          goes_behind left after outcome (go outcome (subst (λ (o : List ℕ). CaptureAnswers front.state o left went after outcome ending)
           (sym front.behind) (answers front.rest front.input)))
         where
-          go : (outcome : InputOutcome LineFault) → CaptureAnswers front.state (after_lines count octets) left went after outcome is_wrong
-              → IsBehind (record { count = count; state = front.state }) (after_lines count octets) left went after outcome is_wrong
+          go : (outcome : InputOutcome LineFault) → CaptureAnswers front.state (after_lines count octets) left went after outcome ending
+              → IsBehind (record { count = count; state = front.state }) (after_lines count octets) left went after outcome ending
           go (Lines answer) told = absurd told
           go (Capture answer) told = (subst HasMagic (sym begun.0) magic, told.0, told.1)
 
       -- lines
       pub lined : (left after : Option (List ℕ)) (outcome : InputOutcome LineFault) → HasNoMagic (first_octets beginning)
           → ForSome mid (λ rest. LinesAnswer (record { count = count; state = front.state }) (first_octets beginning ++ rest) left went after
-          outcome is_wrong)
-          → IsOutcome s octets left before after outcome is_wrong
+          outcome ending)
+          → IsOutcome s octets left before after outcome ending
       lined left after outcome none answers =
           goes_behind left after outcome (go outcome (subst (λ (o : List ℕ). LinesAnswer (record { count = count; state = front.state }) o left went
-          after outcome is_wrong) (sym front.behind) (answers front.rest front.input)))
+          after outcome ending) (sym front.behind) (answers front.rest front.input)))
         where
           go : (outcome : InputOutcome LineFault)
-              → LinesAnswer (record { count = count; state = front.state }) (after_lines count octets) left went after outcome is_wrong
-              → IsBehind (record { count = count; state = front.state }) (after_lines count octets) left went after outcome is_wrong
+              → LinesAnswer (record { count = count; state = front.state }) (after_lines count octets) left went after outcome ending
+              → IsBehind (record { count = count; state = front.state }) (after_lines count octets) left went after outcome ending
           go (Lines answer) told = inr (front.other, subst HasNoMagic (sym begun.0) none, inl told)
           go (Capture answer) told = absurd told
 
       -- an LF is among the first octets
       pub short : HasNoMagic (first_octets beginning) → 0 < lfs_in (first_octets beginning)
-          → IsOutcome s octets mid before went (Lines (Err (record { line = with_more count 1; what = Task Field }))) is_wrong
+          → IsOutcome s octets mid before went (Lines (Err (record { line = with_more count 1; what = Task Field }))) ending
       short none lf = goes_behind mid went _ (inr (
         front.other,
         subst HasNoMagic (sym begun.0) none,

@@ -1,5 +1,5 @@
 -- What `audit` makes of the datagrams and the results of an input. Lists of reports and of answers have the newest in front.
-use Rattle.std.specs.Prelude.{◌≡◌, ◌⊎◌, ℕ, Bool, false, ◌||◌, List, [], ◌∷◌, ◌++◌, reverse, Option, Some, None, option_map, MatchOption, if◌then◌else◌}
+use Rattle.std.specs.Prelude.{◌≡◌, ◌⊎◌, ℕ, Bool, List, [], ◌∷◌, ◌++◌, reverse, Option, Some, None, option_map, MatchOption, if◌then◌else◌}
 use Rattle.text_lines.specs.declared.line_fault.LineFault.{LineFault}
 use Rattle.text_lines.specs.declared.line_fault.LineFault.TheVariants.{Write, Field, Memory}
 use Rattle.text_lines.specs.Fault.{is_write}
@@ -16,20 +16,30 @@ use Rattle.result_audit.specs.declared.answer.Answer.{Answer}
 use Rattle.result_audit.specs.declared.report_at.ReportAt.{ReportAt}
 use Rattle.result_audit.specs.declared.told.Told.{Told}
 use Rattle.result_audit.specs.Auditor.{Auditing, TakesReportAt, HandsOut, passed_by, with_told, at_end}
-use Rattle.result_audit.specs.Held.{is_wrong}
+use Rattle.result_audit.specs.declared.totals.Totals.{Totals}
+use Rattle.result_audit.specs.Coverage.{one_more}
+use Rattle.result_audit.specs.Totals.{no_answers, with_answer}
 use Rattle.result_audit.specs.Lines.{json_text, row_text}
 use Rattle.audit_command.specs.declared.task.AuditForm.{AuditForm}
 
--- what was measured, what became of the results, how they are judged and written, and whether one that was handed out is wrong
+-- what was measured, what became of the results, how they are judged and written, how many were told, and what those come to that were
+-- handed out
 pub record Audited : Type 0 where
   pub reading : Recording
   pub audit : Auditing
   pub form : AuditForm
-  pub is_wrong : Bool
+  pub told : ℕ
+  pub totals : Totals
 
 -- nothing came yet
 abbrev pub audit_begun : WantedPorts → AuditForm → Auditing → Audited
-audit_begun wanted form a = record { reading = begun Completions wanted; audit = a; form = form; is_wrong = false }
+audit_begun wanted form a = record {
+  reading = begun Completions wanted;
+  audit = a;
+  form = form;
+  told = 0;
+  totals = no_answers;
+}
 
 -- ---- reports
 -- a report with its exchange, which is there
@@ -70,17 +80,18 @@ abbrev pub texts_of : (is_table : Bool) → List Answer → List ℕ
 texts_of is_table [] = []
 texts_of is_table (answer ∷ earlier) = texts_of is_table earlier ++ text_of is_table answer
 
--- one of them is wrong, or one before was
-abbrev pub wrong_with : List Answer → (before : Bool) → Bool
-wrong_with [] before = before
-wrong_with (answer ∷ earlier) before = wrong_with earlier before || is_wrong answer
+-- what all come to, with those before
+abbrev pub totals_with : List Answer → (before : Totals) → Totals
+totals_with [] before = before
+totals_with (answer ∷ earlier) before = with_answer answer (totals_with earlier before)
 
 -- what may be said once this happened to the results goes out
 pub record GoesOut (s : Audited) (happened : Auditing) (later : Audited) (out : List ℕ) : Type 0 where
   pub answers : List Answer
   pub handed : HandsAll answers happened later.audit
   pub form : later.form ≡ s.form
-  pub wrong : later.is_wrong ≡ wrong_with answers s.is_wrong
+  pub told : later.told ≡ s.told
+  pub totals : later.totals ≡ totals_with answers s.totals
   pub texts : out ≡ texts_of s.form.is_table answers
 
 -- some of it went out, each answer whole
@@ -152,7 +163,7 @@ audit_rules = record {
 -- it waits for its Sync, or is judged by the newest one, and what may be said then goes out
 pub record TakesTold (told : Told) (s later : Audited) (out : List ℕ) : Type 0 where
   pub reading : later.reading ≡ s.reading
-  pub goes : GoesOut s (with_told told s.audit) later out
+  pub goes : GoesOut (record s { told = one_more s.told }) (with_told told s.audit) later out
 
 -- why it doesn't
 abbrev pub StopsTold : Told → Audited → LineFault → List ℕ → Type 0

@@ -11,6 +11,7 @@ use Rattle.datagram_source.specs.Unread.{IsUnread}
 use Rattle.result_audit.specs.declared.told.Told.{Told}
 use Rattle.result_audit.specs.Told.{IsTold}
 use Rattle.audit_command.specs.Audit.{Audited, Ends, StopsDatagram, StopsSaying, StopsTold, TakesDatagram, TakesTold}
+use Rattle.audit_command.specs.Ending.{IsEnding}
 use Rattle.audit_command.specs.declared.lines.Finished.{Finished}
 use Rattle.result_audit.specs.Auditor.{at_end}
 
@@ -61,7 +62,7 @@ pub record EndsLines (lines : ℕ) (r : LinesRead) (answer : Finished) (out : Li
   pub count : answer.lines ≡ r.count
   pub later : Audited
   pub ends : Ends r.state later out
-  pub wrong : answer.is_wrong ≡ later.is_wrong
+  pub ending : IsEnding later answer.ending
 
 abbrev pub line_rules : Rules LinesRead Finished LineFault
 line_rules = record {

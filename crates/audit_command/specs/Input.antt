@@ -22,8 +22,10 @@ use Rattle.datagram_source.specs.Input.{HasNoHead}
 use Rattle.datagram_source.specs.Left.{LeavesCapture}
 use Rattle.datagram_source.specs.Rules.{packet_rules}
 use Rattle.result_audit.specs.Lines.{table_head}
+use Rattle.audit_command.specs.declared.ending.Ending.{Ending}
 use Rattle.audit_command.specs.declared.lines.Finished.{Finished}
 use Rattle.audit_command.specs.Audit.{Audited, audit_rules}
+use Rattle.audit_command.specs.Ending.{IsEnding}
 use Rattle.audit_command.specs.AuditLines.{LinesRead, nothing_read, is_told, line_rules}
 
 -- what goes out before anything is read
@@ -67,11 +69,11 @@ answer_behind count (Err stop) = Err (record { line = with_more stop.line count;
 
 -- the lines were answered
 pub record AnswersLines (r : LinesRead) (behind : List ℕ) (left before after : Option (List ℕ))
-    (answer : Result ℕ (Stopped (Cause LineFault))) (is_wrong : Bool) : Type 0 where
+    (answer : Result ℕ (Stopped (Cause LineFault))) (ending : Ending) : Type 0 where
   pub given : Result Finished (Stopped (Cause LineFault))
   pub answers : lines.Answers line_rules r behind left before after given
   pub told : answer ≡ answer_behind r.count given
-  pub wrong : IfOk given (λ finished. is_wrong ≡ finished.is_wrong)
+  pub ended : IfOk given (λ finished. ending ≡ finished.ending)
 
 -- nothing of them was taken
 pub record StopsAtOnce (At : Stopped (Cause LineFault) → Type 0) (before after : Option (List ℕ))
@@ -81,38 +83,38 @@ pub record StopsAtOnce (At : Stopped (Cause LineFault) → Type 0) (before after
   pub at : At stop
   pub output : Appends before after []
 
--- what came of what is behind results; where nothing stopped it, also whether one is wrong
-abbrev pub IsBehind : LinesRead → List ℕ → (left before after : Option (List ℕ)) → InputOutcome LineFault → (is_wrong : Bool) → Type 0
-IsBehind r behind left before after (Lines answer) is_wrong =
+-- what came of what is behind results; where nothing stopped it, also what is told of results
+abbrev pub IsBehind : LinesRead → List ℕ → (left before after : Option (List ℕ)) → InputOutcome LineFault → (ending : Ending) → Type 0
+IsBehind r behind left before after (Lines answer) ending =
     StopsAtOnce (FailsAhead r.count behind left) before after answer
     ⊎ ((is_told behind ≡ false) × HasNoMagic (start_of behind)
-    × (AnswersLines r behind left before after answer is_wrong ⊎ StopsAtOnce (HasShortLine r.count behind left) before after answer))
-IsBehind r behind left before after (Capture answer) is_wrong =
+    × (AnswersLines r behind left before after answer ending ⊎ StopsAtOnce (HasShortLine r.count behind left) before after answer))
+IsBehind r behind left before after (Capture answer) ending =
     HasMagic (start_of behind)
     × packets.Answers (packet_rules audit_rules) r.state behind left before after answer
-    × LeavesCapture audit_rules r.state behind answer (λ ended. is_wrong ≡ ended.is_wrong)
+    × LeavesCapture audit_rules r.state behind answer (λ ended. IsEnding ended ending)
 
 -- ---- an input
 -- all results in front were taken, and this came of what is behind them
 pub record GoesBehind (start : Audited) (octets : List ℕ) (left before after : Option (List ℕ)) (outcome : InputOutcome LineFault)
-    (is_wrong : Bool) : Type 0 where
+    (ending : Ending) : Type 0 where
   pub read : LinesRead
   pub text : List ℕ
   pub front : HasTold start octets read text
   pub went : Option (List ℕ)
   pub output : Appends before went text
-  pub behind : IsBehind read (after_lines read.count octets) left went after outcome is_wrong
+  pub behind : IsBehind read (after_lines read.count octets) left went after outcome ending
 
 -- what came of octets
-abbrev pub IsOutcome : (start : Audited) → List ℕ → (left before after : Option (List ℕ)) → InputOutcome LineFault → (is_wrong : Bool) → Type 0
-IsOutcome start octets left before after outcome is_wrong =
+abbrev pub IsOutcome : (start : Audited) → List ℕ → (left before after : Option (List ℕ)) → InputOutcome LineFault → (ending : Ending) → Type 0
+IsOutcome start octets left before after outcome ending =
     ((stop : Stopped (Cause LineFault)) × (outcome ≡ Lines (Err stop)) × StopsInFront start octets left before after stop)
-    ⊎ GoesBehind start octets left before after outcome is_wrong
+    ⊎ GoesBehind start octets left before after outcome ending
 
 -- what an outcome says where the reader tells its octets, and where the writer does
 abbrev pub AnswersAudit : {R W : Type 0} → (head : List ℕ) → (start : Audited) → (R → Option (List ℕ)) → (W → Option (List ℕ))
-    → InputOutcome LineFault → (is_wrong : Bool) → (input input' : Counted R) → (output output' : Counted W) → Type 0
-AnswersAudit head start remaining contents outcome is_wrong input input' output output' =
+    → InputOutcome LineFault → (ending : Ending) → (input input' : Counted R) → (output output' : Counted W) → Type 0
+AnswersAudit head start remaining contents outcome ending input input' output output' =
     HasNoHead audit_rules head outcome input input' output output'
     ⊎ ForSome (remaining (device_of input)) (λ octets. (headed : Option (List ℕ)) × Appends (contents (device_of output)) headed head
-    × IsOutcome start octets (remaining (device_of input')) headed (contents (device_of output')) outcome is_wrong)
+    × IsOutcome start octets (remaining (device_of input')) headed (contents (device_of output')) outcome ending)

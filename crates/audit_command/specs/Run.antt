@@ -1,5 +1,5 @@
 -- How `audit` runs.
-use Rattle.std.specs.Prelude.{◌≡◌, ◌⊎◌, ℕ, ℤ, pos, Bool, not, ◌==◌, ◌&&◌, List, Option, Some, None, Err, if◌then◌else◌}
+use Rattle.std.specs.Prelude.{◌≡◌, ◌⊎◌, ℕ, ℤ, pos, not, List, Option, Some, None, Err}
 use Rattle.std.specs.Option.{option_map_or}
 use Rattle.ptp_units.specs.Moment.{stamp_of}
 use Rattle.text_lines.specs.declared.counted.Counted.{Counted}
@@ -8,15 +8,17 @@ use Rattle.text_lines.specs.declared.line_fault.LineFault.{LineFault}
 use Rattle.text_lines.specs.declared.line_fault.LineFault.TheVariants.{Memory}
 use Rattle.datagram_text.specs.Shown.{stamp_text}
 use Rattle.datagram_source.specs.declared.input.InputOutcome.{InputOutcome}
-use Rattle.datagram_source.specs.declared.input.InputOutcome.TheVariants.{Lines, Capture}
+use Rattle.datagram_source.specs.declared.input.InputOutcome.TheVariants.{Lines}
 use Rattle.datagram_source.specs.Input.{OutcomeFailed}
 use Rattle.recording_measure.specs.declared.watch.WantedPorts.{WantedPorts}
 use Rattle.result_audit.specs.Auditor.{Auditing, Begins}
 use Rattle.result_verdict.specs.Exact.{exact_in, nanosecond}
 use Rattle.command_options.specs.declared.AuditOptions.{AuditOptions}
-use Rattle.fault_report.specs.Status.{status_of}
+use Rattle.capture_report.specs.Status.{outcome_status, judged}
 use Rattle.audit_command.specs.declared.task.AuditForm.{AuditForm}
 use Rattle.audit_command.specs.Audit.{audit_begun, audit_rules}
+use Rattle.audit_command.specs.declared.ending.Ending.{Ending}
+use Rattle.audit_command.specs.Ending.{is_wrong}
 use Rattle.audit_command.specs.Input.{AnswersAudit, head_text}
 
 -- ---- what is asked for
@@ -47,16 +49,6 @@ form_of options = record {
   is_table = options.csv;
 }
 
--- ---- the exit status
--- by what came of the input alone
-abbrev pub outcome_status : InputOutcome LineFault → ℕ
-outcome_status (Lines answer) = status_of answer
-outcome_status (Capture answer) = status_of answer
-
--- 1 where a result is wrong, and nothing gives another
-abbrev pub judged : ℕ → (is_wrong : Bool) → ℕ
-judged status is_wrong = if status == 0 && is_wrong then 1 else status
-
 -- ---- a run
 -- memory failed before anything was read or written
 pub record IsUnbegun {R W : Type 0} (outcome : InputOutcome LineFault) (input input' : Counted R) (output output' : Counted W) : Type 0 where
@@ -65,13 +57,13 @@ pub record IsUnbegun {R W : Type 0} (outcome : InputOutcome LineFault) (input in
   pub unwritten : output' ≡ output
 
 -- `audit` ran by these options: what came of its input, and whether a result that was handed out is wrong, gave the status, and say
--- what was read and written
+-- what was read and written. What is told of results is of all that came, where nothing stopped it.
 abbrev pub RunsAudit : {R W : Type 0} → (R → Option (List ℕ)) → (W → Option (List ℕ)) → AuditOptions → ℕ
     → (input input' : Counted R) (output output' : Counted W) → Type 0
 RunsAudit remaining contents options status input input' output output' =
-    (outcome : InputOutcome LineFault) × (is_wrong : Bool) × (status ≡ judged (outcome_status outcome) is_wrong)
+    (outcome : InputOutcome LineFault) × (ending : Ending) × (status ≡ judged (outcome_status outcome) (is_wrong ending))
     × OutcomeFailed audit_rules outcome input input' output output'
     × (IsUnbegun outcome input input' output output'
     ⊎ ((a : Auditing) × Begins (tolerance_of options.tolerance) a
-    × AnswersAudit (head_text options.csv) (audit_begun (wanted_of options) (form_of options) a) remaining contents outcome is_wrong
+    × AnswersAudit (head_text options.csv) (audit_begun (wanted_of options) (form_of options) a) remaining contents outcome ending
     input input' output output'))

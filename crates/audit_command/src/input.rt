@@ -12,6 +12,7 @@ ghost use Rattle.audit_command.specs.Input.{AnswersAudit, answer_behind};
 ghost use Rattle.audit_command.specs.Inner.Front.{CaptureAnswers, LinesAnswer};
 ghost use Rattle.audit_command.specs.Inner.Task.{IsAt};
 
+use crate::ending::Ending;
 use crate::front::take_front;
 use crate::lines::{AuditLines, Finished};
 use crate::task::AuditTask;
@@ -26,8 +27,8 @@ pub(crate) struct Ended {
     pub(crate) outcome: InputOutcome<LineFault>,
     /// As its calls left it.
     pub(crate) task: AuditTask,
-    /// Whether a result that was handed out is wrong.
-    pub(crate) is_wrong: bool,
+    /// What is told of results.
+    pub(crate) ending: Ending,
     /// Of a capture how many packets there were of each kind.
     pub(crate) packets: Option<PacketCounts>,
 }
@@ -38,8 +39,8 @@ fn stopped(task: AuditTask, stop: Stopped<Cause<LineFault>>) -> Ended
 {
     Ended {
         outcome: InputOutcome::Lines(Err(stop)),
+        ending: task.ending(),
         task,
-        is_wrong: false,
         packets: None,
     }
 }
@@ -78,7 +79,7 @@ pub(crate) fn audit<R: Read, W: Write, E: Write>(
     errors: &mut E,
 ) -> Ended
     requires { (s : Audited) × IsAt task s }
-    ensures answered { (s : Audited) → IsAt task s → AnswersAudit head.now s R.remaining W.contents result.outcome result.is_wrong
+    ensures answered { (s : Audited) → IsAt task s → AnswersAudit head.now s R.remaining W.contents result.outcome result.ending
         input.old input.new output.old output.new }
     ensures failures { OutcomeFailed audit_rules result.outcome input.old input.new output.old output.new }
 {
@@ -116,15 +117,14 @@ fn audit_capture<R: Read, W: Write, E: Write>(
     requires stands { (s : Audited) × IsAt task s }
     ensures answered { (s : Audited) → IsAt task s → ForSome (R.remaining (device_of input.old)) (λ octets.
         CaptureAnswers s (start.now ++ octets) (R.remaining (device_of input.new))
-        (W.contents (device_of output.old)) (W.contents (device_of output.new)) result.outcome result.is_wrong) }
+        (W.contents (device_of output.old)) (W.contents (device_of output.new)) result.outcome result.ending) }
     ensures failures { OutcomeFailed audit_rules result.outcome input.old input.new output.old output.new }
 {
     let (answer, task, packets) = answer_capture_behind(alloc, task, start, input, output, errors);
-    let is_wrong = task.has_wrong();
     Ended {
         outcome: InputOutcome::Capture(answer),
+        ending: task.ending(),
         task,
-        is_wrong,
         packets: Some(packets),
     }
 }
@@ -145,13 +145,13 @@ fn answer_behind(
     }
 }
 
-/// Whether a result is wrong, where the lines came to their end.
-fn is_wrong_at(given: &Result<Finished, Stopped<Cause<LineFault>>>) -> bool
-    ensures { IfOk given.now (λ finished. result ≡ finished.is_wrong) }
+/// What is told of results: what is known at the end of the lines, or what the task knows where they stopped.
+fn ending_of(given: &Result<Finished, Stopped<Cause<LineFault>>>, task: &AuditTask) -> Ending
+    ensures { IfOk given.now (λ finished. result ≡ finished.ending) }
 {
     match given {
-        Ok(finished) => finished.is_wrong,
-        Err(_) => false,
+        Ok(finished) => finished.ending,
+        Err(_) => task.ending(),
     }
 }
 
@@ -169,7 +169,7 @@ fn audit_lines<R: Read, W: Write, E: Write>(
     requires stands { (s : Audited) × IsAt task s }
     ensures answered { (s : Audited) → IsAt task s → ForSome (R.remaining (device_of input.old)) (λ octets.
         LinesAnswer (record { count = count; state = s }) (start.now ++ octets) (R.remaining (device_of input.new))
-        (W.contents (device_of output.old)) (W.contents (device_of output.new)) result.outcome result.is_wrong) }
+        (W.contents (device_of output.old)) (W.contents (device_of output.new)) result.outcome result.ending) }
     ensures failures { OutcomeFailed audit_rules result.outcome input.old input.new output.old output.new }
 {
     let mut lines = AuditLines {
@@ -180,8 +180,8 @@ fn audit_lines<R: Read, W: Write, E: Write>(
     let given = answer_lines_behind(start, &mut lines, input, output);
     Ended {
         outcome: InputOutcome::Lines(answer_behind(count, given)),
+        ending: ending_of(&given, &lines.task),
         task: lines.task,
-        is_wrong: is_wrong_at(&given),
         packets: None,
     }
 }

@@ -1,6 +1,7 @@
 //! What `ptpx audit` runs.
 #![tactic(auto)]
 
+mod ending;
 mod front;
 mod input;
 mod lines;

@@ -4,6 +4,7 @@ ghost use Rattle.std.specs.Prelude.{◌≡◌, ◌+◌, MatchResult};
 ghost use Rattle.audit_command.specs.AuditLines.{LinesRead, line_rules, is_told};
 ghost use Rattle.audit_command.specs.Inner.Task.{IsAt};
 
+use crate::ending::Ending;
 use crate::task::AuditTask;
 use datagram_source::{DATAGRAM_LIMIT, DatagramTask, LineForm, read_datagram, tell_compressed};
 use std::io::Write;
@@ -37,8 +38,8 @@ fn next_number(count: u64) -> Result<u64, LineFault>
 pub(crate) struct Finished {
     /// How many lines there were.
     pub(crate) lines: u64,
-    /// Whether a result that was handed out is wrong.
-    pub(crate) is_wrong: bool,
+    /// What is told of results.
+    pub(crate) ending: Ending,
 }
 
 /// Gives the datagrams and the results of lines to a task.
@@ -93,7 +94,7 @@ impl<E: Write> LineTask for AuditLines<'_, E> {
         self.task.finish(output, self.errors)?;
         Ok(Finished {
             lines: self.count,
-            is_wrong: self.task.has_wrong(),
+            ending: self.task.ending(),
         })
     }
 }

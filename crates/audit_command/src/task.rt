@@ -8,14 +8,17 @@ ghost use Rattle.result_audit.specs.Auditor.{Auditing, Begins, auditing_of};
 ghost use Rattle.audit_command.specs.Audit.{Audited, audit_begun, audit_rules, report_of, text_of};
 ghost use Rattle.audit_command.specs.Audit.{TakesCompletion, TakesAll, TakesReports, StopsReports, TakesTold, StopsTold};
 ghost use Rattle.audit_command.specs.AuditLines.{IsResult, IsNoResult, TakesAs, StopsAs};
+ghost use Rattle.audit_command.specs.Ending.{TellsAside, IsEnding};
 ghost use Rattle.audit_command.specs.Input.{head_text};
+ghost use Rattle.recording_measure.specs.Measure.{has_reported};
 ghost use Rattle.audit_command.specs.Inner.Task.{IsAt, GoesAtOnce, GoesOr, Says, SaysInPart, TakesNew};
 
+use crate::ending::Ending;
 use crate::tally::Tally;
 use capture_file::InterfaceName;
 use datagram_source::{Datagram, DatagramTask, LineForm};
 use json::Scratch;
-use recording_measure::{Completion, MeasureTask, WantedPorts};
+use recording_measure::{Aside, Completion, MeasureTask, WantedPorts};
 use result_audit::{Answer, Auditor, ReportAt, Told, push_json, push_row, read_told, table_head};
 use result_verdict::Exact;
 use std::alloc::{AllocError, Global};
@@ -103,16 +106,28 @@ impl AuditTask {
         }
     }
 
-    /// Whether a result that was handed out is wrong.
-    pub(crate) fn has_wrong(&self) -> bool
-        ensures { (s : Audited) → IsAt self.now s → result ≡ s.is_wrong }
+    /// How many datagrams were left aside, once a report was measured.
+    fn aside(&self) -> Option<Aside>
+        ensures { (s : Audited) → IsAt self.now s → TellsAside (has_reported s.reading) s.reading result }
     {
-        self.tally.has_wrong()
+        if self.measure.has_reported() {
+            Some(self.measure.aside())
+        } else {
+            None
+        }
     }
 
-    /// How many reports at Syncs had no result.
-    pub(crate) fn without_result(&self) -> u64 {
-        self.auditor.without_result()
+    /// What is told of results by now.
+    pub(crate) fn ending(&self) -> Ending
+        ensures { (s : Audited) → IsAt self.now s → IsEnding s result }
+    {
+        Ending {
+            results: self.tally.told,
+            totals: self.tally.totals,
+            without_result: self.auditor.without_result(),
+            is_own: self.measure.is_own(),
+            aside: self.aside(),
+        }
     }
 
     /// Takes a result, and what may be said then goes out.

@@ -1,5 +1,5 @@
 -- What is read of an input in front of what is behind results.
-use Rattle.std.specs.Prelude.{◌≡◌, ◌≢◌, ◌⊎◌, ℕ, ◌≤◌, Bool, false, List, [], ◌∷◌, ◌++◌, length, Option, Some, Result, Ok, Err}
+use Rattle.std.specs.Prelude.{◌≡◌, ◌≢◌, ◌⊎◌, ℕ, ◌≤◌, false, List, [], ◌∷◌, ◌++◌, length, Option, Some, Result, Ok, Err}
 use Rattle.std.specs.Io.KnownBytes.{Appends, Consumes, IsAtEnd, prepend_known}
 use Rattle.text_lines.specs.declared.fault.Cause.{Cause}
 use Rattle.text_lines.specs.declared.fault.ReadingFault.{ReadingFault}
@@ -15,9 +15,11 @@ use Rattle.datagram_source.specs.declared.input.InputOutcome.{InputOutcome}
 use Rattle.datagram_source.specs.declared.input.InputOutcome.TheVariants.{Lines, Capture}
 use Rattle.datagram_source.specs.Left.{LeavesCapture}
 use Rattle.datagram_source.specs.Rules.{packet_rules}
+use Rattle.audit_command.specs.declared.ending.Ending.{Ending}
 use Rattle.audit_command.specs.declared.task.AuditTask.{AuditTask}
 use Rattle.audit_command.specs.Audit.{Audited, audit_rules}
 use Rattle.audit_command.specs.AuditLines.{LinesRead, is_told}
+use Rattle.audit_command.specs.Ending.{IsEnding}
 use Rattle.audit_command.specs.Input.{HasTold, StopsInFront, FailsAhead, AnswersLines}
 use Rattle.audit_command.specs.Inner.Task.{IsAt}
 
@@ -54,12 +56,12 @@ StopsFront s octets left before after stop =
     × FailsAhead r.count (after_lines r.count octets) left stop)
 
 -- what came of lines behind results, and of a capture
-abbrev pub LinesAnswer : LinesRead → List ℕ → (left before after : Option (List ℕ)) → InputOutcome LineFault → (is_wrong : Bool) → Type 0
-LinesAnswer r behind left before after (Lines answer) is_wrong = AnswersLines r behind left before after answer is_wrong
-LinesAnswer r behind left before after (Capture answer) is_wrong = ⊥
+abbrev pub LinesAnswer : LinesRead → List ℕ → (left before after : Option (List ℕ)) → InputOutcome LineFault → (ending : Ending) → Type 0
+LinesAnswer r behind left before after (Lines answer) ending = AnswersLines r behind left before after answer ending
+LinesAnswer r behind left before after (Capture answer) ending = ⊥
 
-abbrev pub CaptureAnswers : Audited → List ℕ → (left before after : Option (List ℕ)) → InputOutcome LineFault → (is_wrong : Bool) → Type 0
-CaptureAnswers s behind left before after (Lines answer) is_wrong = ⊥
-CaptureAnswers s behind left before after (Capture answer) is_wrong =
+abbrev pub CaptureAnswers : Audited → List ℕ → (left before after : Option (List ℕ)) → InputOutcome LineFault → (ending : Ending) → Type 0
+CaptureAnswers s behind left before after (Lines answer) ending = ⊥
+CaptureAnswers s behind left before after (Capture answer) ending =
     packets.Answers (packet_rules audit_rules) s behind left before after answer
-    × LeavesCapture audit_rules s behind answer (λ ended. is_wrong ≡ ended.is_wrong)
+    × LeavesCapture audit_rules s behind answer (λ ended. IsEnding ended ending)

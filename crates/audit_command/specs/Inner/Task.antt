@@ -11,7 +11,7 @@ use Rattle.recording_measure.specs.Inner.Task.{IsTask}
 use Rattle.result_audit.specs.Auditor.{Auditing, auditing_of, passed_by}
 use Rattle.result_audit.specs.declared.answer.Answer.{Answer}
 use Rattle.audit_command.specs.declared.task.AuditTask.{AuditTask}
-use Rattle.audit_command.specs.Audit.{Audited, GoesOut, HandsOn, StopsSaying, TakesFresh, texts_of, wrong_with}
+use Rattle.audit_command.specs.Audit.{Audited, GoesOut, HandsOn, StopsSaying, TakesFresh, texts_of, totals_with}
 
 -- what is kept is that of this
 pub record IsAt (task : AuditTask) (s : Audited) : Type 0 where
@@ -19,7 +19,8 @@ pub record IsAt (task : AuditTask) (s : Audited) : Type 0 where
   pub asked : hands_on s.reading.form ≡ true
   pub audit : auditing_of task.auditor ≡ s.audit
   pub form : task.form ≡ s.form
-  pub wrong : task.tally.is_wrong ≡ s.is_wrong
+  pub told : task.tally.told ≡ s.told
+  pub totals : task.tally.totals ≡ s.totals
 
 -- a fault of what is written, not of a line
 abbrev pub IsOfOutput : LineFault → Type 0
@@ -39,7 +40,8 @@ pub record SaidSoFar (s later : Audited) (out : List ℕ) : Type 0 where
   pub form : later.form ≡ s.form
   pub answers : List Answer
   pub handed : HandsOn answers s.audit later.audit
-  pub wrong : later.is_wrong ≡ wrong_with answers s.is_wrong
+  pub told : later.told ≡ s.told
+  pub totals : later.totals ≡ totals_with answers s.totals
   pub texts : out ≡ texts_of s.form.is_table answers
 
 -- from one to another, where this went out

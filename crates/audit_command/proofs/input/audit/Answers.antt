@@ -16,8 +16,8 @@ returns-in-Err-take_front-clause-answered g c = λ s at. inr (λ octets known. (
   c.in_default.ensures.written,
   subst (λ (outcome : InputOutcome LineFault). IsOutcome s octets (g.R.Read.remaining (device_of c.take_front.new.input))
       (g.W.Write.contents (device_of c.write_head.new.output)) (g.W.Write.contents (device_of c.take_front.new.output)) outcome
-      c.stopped-in-Err-take_front.result.is_wrong) (sym c.stopped-in-Err-take_front.ensures)
-      (stopped_front s octets _ c.stopped-in-Err-take_front.result.is_wrong _ _ c.in-Err-take_front.stop
+      c.stopped-in-Err-take_front.result.ending) (sym c.stopped-in-Err-take_front.ensures)
+      (stopped_front s octets _ c.stopped-in-Err-take_front.result.ending _ _ c.in-Err-take_front.stop
       (c.in-Err-take_front.ensures.taken s at octets known)),
 ))
 
@@ -27,7 +27,7 @@ returns-then-is_capture-clause-answered g c = λ s at. inr (λ octets known.
     let answered = c.audit_capture.ensures.answered front.state front.at in (
       _,
       c.in_default.ensures.written,
-      captured s octets _ c.audit_capture.result.is_wrong c.in-Ok.front.0 c.in-Ok.front.1 c.take_front.new.task _ _ front _ _
+      captured s octets _ c.audit_capture.result.ending c.in-Ok.front.0 c.in-Ok.front.1 c.take_front.new.task _ _ front _ _
           c.audit_capture.result.outcome (c.if-is_capture.ensures.magic.0 refl) (rw c.octets-start.ensures.octets at answered),
     ))
 
@@ -41,8 +41,8 @@ returns-then-has_lf-clause-answered g c = λ s at. inr (λ octets known.
       c.in_default.ensures.written,
       subst (λ (outcome : InputOutcome LineFault). IsOutcome s octets (g.R.Read.remaining (device_of c.take_front.new.input))
           (g.W.Write.contents (device_of c.write_head.new.output)) (g.W.Write.contents (device_of c.take_front.new.output)) outcome
-          c.stopped-then-has_lf.result.is_wrong) (sym stopped)
-          (short s octets _ c.stopped-then-has_lf.result.is_wrong c.in-Ok.front.0 c.in-Ok.front.1 c.take_front.new.task _ _ front
+          c.stopped-then-has_lf.result.ending) (sym stopped)
+          (short s octets _ c.stopped-then-has_lf.result.ending c.in-Ok.front.0 c.in-Ok.front.1 c.take_front.new.task _ _ front
           (c.if-is_capture.ensures.none.0 refl) lf),
     ))
 
@@ -52,7 +52,7 @@ returns-clause-answered g c = λ s at. inr (λ octets known.
     let answered = c.audit_lines.ensures.answered front.state front.at in (
       _,
       c.in_default.ensures.written,
-      lined s octets _ c.audit_lines.result.is_wrong c.in-Ok.front.0 c.in-Ok.front.1 c.take_front.new.task _ _ front _ _
+      lined s octets _ c.audit_lines.result.ending c.in-Ok.front.0 c.in-Ok.front.1 c.take_front.new.task _ _ front _ _
           c.audit_lines.result.outcome (c.if-is_capture.ensures.none.0 refl) (rw c.octets-start.ensures.octets at answered),
     ))
 

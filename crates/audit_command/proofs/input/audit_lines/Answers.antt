@@ -18,7 +18,7 @@ returns-clause-answered g c = λ s at octets known. record {
   given = c.answer_lines_behind-given.result;
   answers = c.answer_lines_behind-given.ensures.answered (record { count = c.args.count; state = s }) (refl {a = c.args.count}, at) octets known;
   told = c.answer_behind.ensures;
-  wrong = c.is_wrong_at.ensures;
+  ended = c.ending_of.ensures;
 }
 
 pub returns-clause-failures : goal.returns-clause-failures

@@ -4,7 +4,7 @@ use Rattle.audit_command.proofs.lines.AuditLinesLineTask.finish.Goals as goal
 pub returns-clause-ended : goal.returns-clause-ended
 returns-clause-ended g c = λ r at.
     let (later, out, there, ends, went) = c.in_ok-finish.ensures.ended r.state at.1 in
-    (out, record { count = at.0; later = later; ends = ends; wrong = c.has_wrong.ensures later there }, went)
+    (out, record { count = at.0; later = later; ends = ends; ending = c.ending.ensures later there }, went)
 
 pub returns-in_err-finish-clause-ended : goal.returns-in_err-finish-clause-ended
 returns-in_err-finish-clause-ended g c =

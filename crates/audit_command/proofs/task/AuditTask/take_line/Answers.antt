@@ -28,7 +28,7 @@ returns-clause-taken g c =
     (g.W.Write.contents (device_of c.args.output.now)) (g.W.Write.contents (device_of c.take_told.new.output))
     (λ s at. (
       s,
-      record { reading = at.reading; asked = at.asked; audit = at.audit; form = at.form; wrong = at.wrong },
+      record { reading = at.reading; asked = at.asked; audit = at.audit; form = at.form; told = at.told; totals = at.totals },
       λ later out takes. (told, is s at, takes),
       λ fault out stops. inr (told, is s at, stops),
     )) c.take_told.ensures.taken

@@ -28,7 +28,8 @@ returns-clause-taken g c =
         asked = at.asked;
         audit = taken.audit;
         form = taken.form ∙ at.form;
-        wrong = ap (λ tally. tally.is_wrong) taken.tally ∙ at.wrong;
+        told = ap (λ tally. tally.told) taken.tally ∙ at.told;
+        totals = ap (λ tally. tally.totals) taken.tally ∙ at.totals;
       },
       λ later out says. record {
         reading = says.reading;
@@ -38,7 +39,8 @@ returns-clause-taken g c =
           answers = says.goes.answers;
           handed = says.goes.handed;
           form = says.goes.form;
-          wrong = says.goes.wrong;
+          told = says.goes.told;
+          totals = says.goes.totals;
           texts = says.goes.texts;
         };
       },

@@ -2,6 +2,8 @@ use Rattle.std.proofs.Common.{◌∙◌, ap}
 use Rattle.std.proofs.lemmas.Result.{err_from_is_err_and}
 use Rattle.text_lines.specs.Counted.{device_of}
 use Rattle.result_audit.specs.Auditor.{Auditing, with_told}
+use Rattle.result_audit.specs.Coverage.{one_more}
+use Rattle.audit_command.specs.declared.tally.Tally.{Tally}
 use Rattle.audit_command.specs.Audit.{TakesTold, StopsTold}
 use Rattle.audit_command.specs.Inner.Task.{Says, SaysInPart}
 use Rattle.audit_command.proofs.Going.{mapped, nothing_said, without_memory}
@@ -19,13 +21,14 @@ returns-clause-taken g c =
     (record c.args.self.now { auditor = c.take_told.new.self; tally = c.count_told.new.self }) c.write_answers.new.self
     (g.W.Write.contents (device_of c.args.output.now)) (g.W.Write.contents (device_of c.write_answers.new.output))
     (λ s at. (
-      record s { audit = with_told c.args.told s.audit },
+      record s { audit = with_told c.args.told s.audit; told = one_more s.told },
       record {
         reading = at.reading;
         asked = at.asked;
         audit = c.in_ok-take_told.ensures ∙ ap (λ (a : Auditing). with_told c.args.told a) at.audit;
         form = at.form;
-        wrong = c.count_told.ensures ∙ at.wrong;
+        told = ap (λ (t : Tally). t.told) c.count_told.ensures ∙ ap one_more at.told;
+        totals = ap (λ (t : Tally). t.totals) c.count_told.ensures ∙ at.totals;
       },
       λ later out says. record {
         reading = says.reading;
@@ -33,7 +36,8 @@ returns-clause-taken g c =
           answers = says.goes.answers;
           handed = says.goes.handed;
           form = says.goes.form;
-          wrong = says.goes.wrong;
+          told = says.goes.told;
+          totals = says.goes.totals;
           texts = says.goes.texts;
         };
       },

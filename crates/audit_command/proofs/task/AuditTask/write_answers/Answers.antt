@@ -1,12 +1,12 @@
-use Rattle.std.proofs.Common.{◌∙◌, ◌++◌, [], Bool, None, refl, sym, ap, subst}
-use Rattle.std.specs.Prelude.{◌||◌}
+use Rattle.std.proofs.Common.{◌∙◌, ◌++◌, [], None, refl, sym, ap, subst}
 use Rattle.std.proofs.KnownBytes.{Appends-nil, Appends-trans}
 use Rattle.std.proofs.lemmas.Result.{err_from_is_err_and}
 use Rattle.std.specs.Io.KnownBytes.{Appends}
 use Rattle.text_lines.specs.Counted.{device_of}
 use Rattle.result_audit.specs.Auditor.{Auditing, auditing_of, HandsOut}
-use Rattle.result_audit.specs.Held.{is_wrong}
+use Rattle.result_audit.specs.Totals.{with_answer}
 use Rattle.audit_command.specs.declared.task.AuditForm.{AuditForm}
+use Rattle.audit_command.specs.declared.tally.Tally.{Tally}
 use Rattle.audit_command.specs.declared.task.AuditTask.{AuditTask}
 use Rattle.audit_command.specs.Audit.{HandsOn, text_of}
 use Rattle.audit_command.proofs.Going.{said_more, hands_none, stops_behind}
@@ -15,7 +15,7 @@ use Rattle.audit_command.proofs.task.AuditTask.write_answers.Goals as goal
 pub loop-answer-init : goal.loop-answer-init
 loop-answer-init g c =
     let start = g.W.Write.contents (device_of c.args.output.now) in record {
-      said = λ s at. (s, [], at, record { reading = refl; form = refl; answers = []; handed = refl; wrong = refl; texts = refl }, Appends-nil start);
+      said = λ s at. (s, [], at, record { reading = refl; form = refl; answers = []; handed = refl; told = refl; totals = refl; texts = refl }, Appends-nil start);
       writer = refl;
     }
 
@@ -38,18 +38,21 @@ loop-answer-preserved g c =
       said = λ s at.
           let (later, out, there, so_far, went) = c.loop-answer.invariant.said s at in
           let after : Auditing = auditing_of c.next_answer.new.self in
-          let tells = c.take.ensures.wrong ∙ ap (λ (w : Bool). w || is_wrong c.in-Some.answer)
-          (ap (λ (t : AuditTask). t.tally.is_wrong) same ∙ there.wrong) in (
-            record later { audit = after; is_wrong = c.take.new.self.is_wrong },
+          let counts = c.take.ensures in
+          let told = ap (λ (t : Tally). t.told) counts ∙ ap (λ (t : AuditTask). t.tally.told) same ∙ there.told in
+          let tells = ap (λ (t : Tally). t.totals) counts ∙ ap (with_answer c.in-Some.answer)
+          (ap (λ (t : AuditTask). t.tally.totals) same ∙ there.totals) in (
+            record later { audit = after; totals = c.take.new.self.totals },
             out ++ text_of s.form.is_table c.in-Some.answer,
             record {
               reading = rw (ap (λ (t : AuditTask). t.measure) same) there.reading;
               asked = there.asked;
               audit = ap (λ (t : AuditTask). auditing_of t.auditor) same;
               form = ap (λ (t : AuditTask). t.form) same ∙ there.form;
-              wrong = refl;
+              told = told;
+              totals = refl;
             },
-            said_more s later out c.in-Some.answer (auditing_of c.loop-answer.self.auditor) after c.take.new.self.is_wrong so_far there.audit
+            said_more s later out c.in-Some.answer (auditing_of c.loop-answer.self.auditor) after c.take.new.self.totals so_far there.audit
                 c.in-Some.ensures tells,
             Appends-trans a b d out (text_of s.form.is_table c.in-Some.answer) went
                 (subst (λ (form : AuditForm). Appends b d (text_of form.is_table c.in-Some.answer)) (there.form ∙ so_far.form) written),
@@ -66,7 +69,7 @@ returns-clause-said g c = λ s at.
     let same = hands_none before after before.held none in (
       record later { audit = after },
       out,
-      record { reading = there.reading; asked = there.asked; audit = refl; form = there.form; wrong = there.wrong },
+      record { reading = there.reading; asked = there.asked; audit = refl; form = there.form; told = there.told; totals = there.totals },
       record {
         reading = so_far.reading;
         goes = record {
@@ -76,7 +79,8 @@ returns-clause-said g c = λ s at.
             subst (λ (audit : Auditing). HandsOut audit None after audit.held) (sym same) none,
           );
           form = so_far.form;
-          wrong = so_far.wrong;
+          told = so_far.told;
+          totals = so_far.totals;
           texts = so_far.texts;
         };
       },

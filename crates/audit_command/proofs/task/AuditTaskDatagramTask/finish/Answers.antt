@@ -27,7 +27,8 @@ returns-clause-ended g c = λ s at.
         asked = at.asked;
         audit = c.in_ok-end.ensures ∙ ap (λ (a : Auditing). at_end a) at.audit;
         form = at.form;
-        wrong = at.wrong;
+        told = at.told;
+        totals = at.totals;
       },
       λ later out says. record {
         reading = says.reading;
@@ -35,7 +36,8 @@ returns-clause-ended g c = λ s at.
           answers = says.goes.answers;
           handed = says.goes.handed;
           form = says.goes.form;
-          wrong = says.goes.wrong;
+          told = says.goes.told;
+          totals = says.goes.totals;
           texts = says.goes.texts;
         };
       },
@@ -52,5 +54,6 @@ returns-clause-kept g c = λ what is field s at. absurd (never_field c.write_ans
       asked = at.asked;
       audit = c.in_ok-end.ensures ∙ ap (λ (a : Auditing). at_end a) at.audit;
       form = at.form;
-      wrong = at.wrong;
+      told = at.told;
+      totals = at.totals;
     }) (λ out stops. stops) c.write_answers.ensures.said is field)

@@ -26,7 +26,8 @@ returns-clause-taken g c = λ s at.
       asked = ap (λ (f : Form). hands_on f) (one_read d s.reading reading measured.0).form ∙ at.asked;
       audit = at.audit;
       form = at.form;
-      wrong = at.wrong;
+      told = at.told;
+      totals = at.totals;
     }) c.take_reports.ensures.taken
 
 pub returns-clause-kept : goal.returns-clause-kept
@@ -40,5 +41,6 @@ returns-clause-kept g c = λ what is field s at.
       asked = ap (λ (f : Form). hands_on f) (one_read d s.reading reading measured.0).form ∙ at.asked;
       audit = at.audit;
       form = at.form;
-      wrong = at.wrong;
+      told = at.told;
+      totals = at.totals;
     }) (λ out stops. no_field_in_reports d.number (record s { reading = reading }) out stops) c.take_reports.ensures.taken is field)

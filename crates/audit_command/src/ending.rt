@@ -1,0 +1,287 @@
+//! What is told of results at the end.
+
+ghost use Rattle.std.specs.Prelude.{◌≡◌, Some};
+ghost use Rattle.result_audit.specs.declared.totals.Counts.{Counts};
+ghost use Rattle.audit_command.specs.Ending.{answered, unanswered, is_wrong};
+ghost use Rattle.audit_command.specs.Words.{several_text, counted_text, counts_text, results_text, worst_text};
+ghost use Rattle.audit_command.specs.Words.{without_text, by_text, captured_text, why_untaken, untaken_text, aside_text, ending_text};
+
+use recording_measure::Aside;
+use result_audit::{Counts, Totals, Worst};
+use std::fmt;
+use std::fmt::{Display, Formatter};
+
+/// What came of results, and by what they were judged.
+#[derive(Clone, Copy)]
+pub(crate) struct Ending {
+    /// How many were told.
+    pub(crate) results: u64,
+    /// What those come to that were answered.
+    pub(crate) totals: Totals,
+    /// How many reports at Syncs have no result.
+    pub(crate) without_result: u64,
+    /// Whether a slave's own readings were measured.
+    pub(crate) is_own: bool,
+    /// How many datagrams were left aside, once a report was measured. Before that this is told of what was measured.
+    pub(crate) aside: Option<Aside>,
+}
+
+impl Ending {
+    /// Whether a result that was handed out is wrong.
+    pub(crate) fn is_wrong(&self) -> bool
+        ensures { result ≡ is_wrong self.now }
+    {
+        self.totals.counts.wrong > 0
+    }
+}
+
+/// So many of one, in words.
+#[derive(Clone, Copy)]
+struct Several(u64, &'static str);
+
+impl Display for Several {
+    ghost output = { λ several. Some (several_text several.0 several.1.now) };
+
+    fn fmt<W: fmt::Write>(&self, f: &mut Formatter<W>) -> fmt::Result {
+        let plural = if self.0 == 1 { "" } else { "s" };
+        write!(f, "{} {}{plural}", self.0, self.1)
+    }
+}
+
+/// How many have a verdict, where any has.
+#[derive(Clone, Copy)]
+struct Counted(u64, &'static str);
+
+impl Display for Counted {
+    ghost output = { λ counted. Some (counted_text counted.0 counted.1.now) };
+
+    fn fmt<W: fmt::Write>(&self, f: &mut Formatter<W>) -> fmt::Result {
+        match self.0 {
+            0 => Ok(()),
+            count => write!(f, ", {count} {}", self.1),
+        }
+    }
+}
+
+/// How many have each verdict.
+#[derive(Clone, Copy)]
+struct CountsText(Counts);
+
+impl Display for CountsText {
+    ghost output = { λ counts. Some (counts_text counts.0) };
+
+    #[tactic(auto, unfolding(crate::specs::Words::counts_text))]
+    fn fmt<W: fmt::Write>(&self, f: &mut Formatter<W>) -> fmt::Result {
+        write!(
+            f,
+            "{}{}{}{}{}{}",
+            Counted(self.0.exact, "exact"),
+            Counted(self.0.within, "within"),
+            Counted(self.0.filtered, "filtered"),
+            Counted(self.0.older, "older"),
+            Counted(self.0.wrong, "wrong"),
+            Counted(self.0.unjudged, "unjudged")
+        )
+    }
+}
+
+/// How many were answered.
+fn answered(counts: &Counts) -> u64
+    ensures { result ≡ answered counts.now }
+{
+    counts
+        .exact
+        .saturating_add(counts.within)
+        .saturating_add(counts.filtered)
+        .saturating_add(counts.older)
+        .saturating_add(counts.wrong)
+        .saturating_add(counts.unjudged)
+}
+
+/// How many weren't answered.
+#[tactic(auto, unfolding(crate::specs::Ending::unanswered))]
+fn unanswered(results: u64, counts: &Counts) -> u64
+    ensures { result ≡ unanswered results counts.now }
+{
+    results.saturating_sub(answered(counts))
+}
+
+/// How many results there are, and of each verdict how many.
+#[derive(Clone, Copy)]
+struct ResultsText {
+    results: u64,
+    counts: Counts,
+}
+
+impl Display for ResultsText {
+    ghost output = { λ text. Some (results_text text.results text.counts) };
+
+    #[tactic(auto, unfolding(crate::specs::Words::results_text))]
+    fn fmt<W: fmt::Write>(&self, f: &mut Formatter<W>) -> fmt::Result {
+        write!(
+            f,
+            "ptpx: {}{}{}\n",
+            Several(self.results, "result"),
+            CountsText(self.counts),
+            Counted(unanswered(self.results, &self.counts), "not answered")
+        )
+    }
+}
+
+/// The worst, where one is wrong.
+#[derive(Clone, Copy)]
+struct WorstText(Option<Worst>);
+
+impl Display for WorstText {
+    ghost output = { λ worst. Some (worst_text worst.0) };
+
+    #[tactic(auto, unfolding(crate::specs::Words::worst_text))]
+    fn fmt<W: fmt::Write>(&self, f: &mut Formatter<W>) -> fmt::Result {
+        match &self.0 {
+            Some(worst) => write!(
+                f,
+                "ptpx: the worst is that of line {}, which is {} ns off at the least\n",
+                worst.line, worst.off
+            ),
+            None => Ok(()),
+        }
+    }
+}
+
+/// Of how many Syncs there is no result, where there are such.
+#[derive(Clone, Copy)]
+struct WithoutText(u64);
+
+impl Display for WithoutText {
+    ghost output = { λ count. Some (without_text count.0) };
+
+    #[tactic(auto, unfolding(crate::specs::Words::without_text))]
+    fn fmt<W: fmt::Write>(&self, f: &mut Formatter<W>) -> fmt::Result {
+        match self.0 {
+            0 => Ok(()),
+            count => write!(f, "ptpx: no result of {}\n", Several(count, "Sync")),
+        }
+    }
+}
+
+/// By what results were judged.
+fn by(is_own: bool) -> &'static str
+    ensures { result.now ≡ by_text is_own }
+{
+    if is_own {
+        "ptpx: by the slave's own readings\n"
+    } else {
+        "ptpx: beware: by what was captured, and not by the slave's own readings: a wrong result may be the fault of the capture's stamps\n"
+    }
+}
+
+/// How many captured messages were left aside, where any were.
+#[derive(Clone, Copy)]
+struct CapturedText(u64);
+
+impl Display for CapturedText {
+    ghost output = { λ count. Some (captured_text count.0) };
+
+    #[tactic(auto, unfolding(crate::specs::Words::captured_text))]
+    fn fmt<W: fmt::Write>(&self, f: &mut Formatter<W>) -> fmt::Result {
+        match self.0 {
+            0 => Ok(()),
+            count => write!(
+                f,
+                "ptpx: {} left aside; --readings capture judges by what was captured\n",
+                Several(count, "captured message")
+            ),
+        }
+    }
+}
+
+/// How many messages with own readings were left aside, where any were.
+#[derive(Clone, Copy)]
+struct UntakenText {
+    count: u64,
+    is_own: bool,
+}
+
+/// Why messages with own readings were left aside.
+fn why_untaken(is_own: bool) -> &'static str
+    ensures { result.now ≡ why_untaken is_own }
+{
+    if is_own {
+        "of another slave or domain"
+    } else {
+        "since what was captured is measured, or they are of another slave or domain; --readings own judges by own readings"
+    }
+}
+
+impl Display for UntakenText {
+    ghost output = { λ untaken. Some (untaken_text untaken.is_own untaken.count) };
+
+    #[tactic(auto, unfolding(crate::specs::Words::untaken_text))]
+    fn fmt<W: fmt::Write>(&self, f: &mut Formatter<W>) -> fmt::Result {
+        match self.count {
+            0 => Ok(()),
+            count => write!(
+                f,
+                "ptpx: {} with own readings left aside, {}\n",
+                Several(count, "message"),
+                why_untaken(self.is_own)
+            ),
+        }
+    }
+}
+
+/// How many datagrams were left aside.
+#[derive(Clone, Copy)]
+struct AsideText {
+    aside: Option<Aside>,
+    is_own: bool,
+}
+
+impl Display for AsideText {
+    ghost output = { λ text. Some (aside_text text.is_own text.aside) };
+
+    #[tactic(auto, unfolding(crate::specs::Words::aside_text))]
+    fn fmt<W: fmt::Write>(&self, f: &mut Formatter<W>) -> fmt::Result {
+        match &self.aside {
+            Some(aside) => write!(
+                f,
+                "{}{}",
+                CapturedText(aside.captured),
+                UntakenText {
+                    count: aside.untaken,
+                    is_own: self.is_own
+                }
+            ),
+            None => Ok(()),
+        }
+    }
+}
+
+/// What is told where there is no result.
+const NO_RESULT: &str =
+    "ptpx: no result: a line as {\"offset\":\"-12.5\",\"path\":\"1000\"} is one\n";
+
+impl Display for Ending {
+    ghost output = { λ ending. Some (ending_text ending) };
+
+    fn fmt<W: fmt::Write>(&self, f: &mut Formatter<W>) -> fmt::Result {
+        if self.results == 0 {
+            return f.write_str(NO_RESULT);
+        }
+        write!(
+            f,
+            "{}{}{}{}{}",
+            ResultsText {
+                results: self.results,
+                counts: self.totals.counts
+            },
+            WorstText(self.totals.worst),
+            WithoutText(self.without_result),
+            by(self.is_own),
+            AsideText {
+                aside: self.aside,
+                is_own: self.is_own
+            }
+        )
+    }
+}
