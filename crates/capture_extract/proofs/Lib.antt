@@ -1,4 +1,9 @@
 pub mod Following
+pub mod Counts
+pub mod Messages
+pub mod Names
+pub mod Rows
+pub mod Tables
 pub mod Nothing
 pub mod Lines
 pub mod Worked

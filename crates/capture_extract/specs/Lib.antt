@@ -1,4 +1,7 @@
 pub mod Line
+pub mod Message
+pub mod Row
+pub mod Table
 pub mod Extracted
 pub mod Listed
 pub mod Inner

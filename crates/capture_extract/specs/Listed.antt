@@ -1,5 +1,5 @@
 -- What `list` answers, by the datagrams of a capture, and what it writes, but for the text of the table, which is left open.
-use Rattle.std.specs.Prelude.{◌≡◌, ◌≢◌, ◌⊎◌, ℕ, List, [], Bool, true, false, Option, Result, Ok, Err, MatchResult}
+use Rattle.std.specs.Prelude.{◌≡◌, ◌≢◌, ◌⊎◌, ℕ, List, [], ◌∷◌, Bool, true, false, Option, Result, Ok, Err, MatchResult}
 use Rattle.std.specs.Io.KnownBytes.{Appends}
 use Rattle.std.specs.Option.{ForSome}
 use Rattle.text_lines.specs.declared.counted.Counted.{Counted}
@@ -10,19 +10,25 @@ use Rattle.text_lines.specs.Fault.{is_write}
 use Rattle.capture_file.specs.declared.fault.CaptureStop.{CaptureStop}
 use Rattle.capture_file.specs.Task.{Answers, FailedAt, is_of_writer}
 use Rattle.capture_file.specs.declared.name.InterfaceName.{InterfaceName}
+use Rattle.datagram_source.specs.Datagram.{DatagramOf}
 use Rattle.datagram_source.specs.declared.lines.LineForm.TheVariants as forms
 use Rattle.datagram_source.specs.Rules.{DatagramRules, is_field, packet_rules}
 
+-- the interface that is asked for, if one is, and the datagrams that came, the newest in front
+pub record Came : Type 0 where
+  pub asked : Option InterfaceName
+  pub datagrams : List DatagramOf
+
 -- No datagram at the interface that is asked for writes anything, and one stops only where memory is refused. At the end some text is
 -- written; memory or the writer may fail there. Lines aren't read.
-abbrev pub list_rules : DatagramRules (Option InterfaceName) LineFault
+abbrev pub list_rules : DatagramRules Came LineFault
 list_rules = record {
   line_form = forms.Timed;
-  asked = λ interface. interface;
-  Takes = λ d interface later written. (later ≡ interface) × (written ≡ []);
-  Stops = λ d interface fault written. (fault ≡ Memory) × (written ≡ []);
-  Ends = λ interface later written. later ≡ interface;
-  StopsAtEnd = λ interface fault written. (fault ≢ Field) × (written ≡ []);
+  asked = λ came. came.asked;
+  Takes = λ d came later written. (later ≡ record came { datagrams = d ∷ came.datagrams }) × (written ≡ []);
+  Stops = λ d came fault written. (fault ≡ Memory) × (written ≡ []);
+  Ends = λ came later written. later ≡ came;
+  StopsAtEnd = λ came fault written. (fault ≢ Field) × (written ≡ []);
   is_of_writer = is_write;
   keeps = is_field;
   fault_of = λ fault. fault;
@@ -30,7 +36,7 @@ list_rules = record {
 
 -- all packets of these octets were read, or those before a fault
 abbrev pub Lists : Option InterfaceName → List ℕ → (left before after : Option (List ℕ)) → Result ℕ (CaptureStop LineFault) → Type 0
-Lists = Answers (packet_rules list_rules)
+Lists asked = Answers (packet_rules list_rules) (record { asked = asked; datagrams = [] })
 
 -- Behind a fault the table of what came before it was written, or the writer failed at that. It isn't tried where the writer had
 -- failed already.

@@ -1,4 +1,8 @@
 //! The interfaces at which messages were captured.
+ghost use Rattle.std.specs.Prelude.{◌≡◌, List, [], ◌∷◌, IfOk, None, OnOk, length};
+ghost use Rattle.capture_file.specs.Packet.{InterfaceOf, interface_of};
+ghost use Rattle.capture_extract.specs.Table.{index_of};
+ghost use Rattle.capture_extract.specs.Inner.Rows.{AreInterfaces, AreNamed, AreNameless, label_of};
 
 use capture_file::Interface;
 use std::alloc::{AllocError, Global};
@@ -14,6 +18,22 @@ const SHOWN_MOST: usize = 64;
 pub(crate) struct Label {
     number: u32,
     name: Option<Vec<u8>>,
+}
+
+impl Label {
+    /// What an interface is called.
+    fn new(alloc: Global, interface: &Interface<'_>) -> Result<Label, AllocError>
+        ensures { IfOk result (λ label. label_of label ≡ interface_of interface.now) }
+    {
+        let name = match interface.name {
+            Some(name) => Some(Vec::from_slice(alloc, name)?),
+            None => None,
+        };
+        Ok(Label {
+            number: interface.place,
+            name,
+        })
+    }
 }
 
 /// Writes octets, with escapes where they aren't printable.
@@ -77,7 +97,9 @@ pub(crate) struct Interfaces {
 
 impl Interfaces {
     /// None was met.
-    pub(crate) fn new(alloc: Global) -> Interfaces {
+    pub(crate) fn new(alloc: Global) -> Interfaces
+        ensures { AreInterfaces [] result }
+    {
         Interfaces {
             met: Vec::new(alloc),
             named: BTreeMap::new(alloc),
@@ -86,7 +108,9 @@ impl Interfaces {
     }
 
     /// At which index one stands, if it was met.
-    pub(crate) fn find(&self, interface: &Interface<'_>) -> Option<usize> {
+    pub(crate) fn find(&self, interface: &Interface<'_>) -> Option<usize>
+        ensures { (met : List InterfaceOf) → AreInterfaces met self.now → result ≡ index_of (interface_of interface.now) met }
+    {
         match interface.name {
             Some(name) => self.named.get(name).copied(),
             None => self.nameless.get(&interface.place).copied(),
@@ -98,24 +122,40 @@ impl Interfaces {
         &mut self,
         alloc: Global,
         interface: &Interface<'_>,
-    ) -> Result<usize, AllocError> {
+    ) -> Result<usize, AllocError>
+        ensures { (met : List InterfaceOf) → AreInterfaces met self.old → index_of (interface_of interface.now) met ≡ None
+            → IfOk result (λ index. (index ≡ length met) × AreInterfaces (interface_of interface.now ∷ met) self.new) }
+    {
         let index = self.met.len();
+        let label = Label::new(alloc, interface)?;
         self.met.reserve(1)?;
-        let name = match interface.name {
+        self.note(alloc, interface, index)?;
+        self.met.push(label)?;
+        Ok(index)
+    }
+
+    /// Notes at which index one will stand.
+    fn note(
+        &mut self,
+        alloc: Global,
+        interface: &Interface<'_>,
+        index: usize,
+    ) -> Result<(), AllocError>
+        ensures labels { self.new.met ≡ self.old.met }
+        ensures named { (met : List InterfaceOf) → AreNamed met self.old → index ≡ length met
+            → OnOk result (AreNamed (interface_of interface.now ∷ met) self.new) }
+        ensures nameless { (met : List InterfaceOf) → AreNameless met self.old → index ≡ length met
+            → OnOk result (AreNameless (interface_of interface.now ∷ met) self.new) }
+    {
+        match interface.name {
             Some(name) => {
                 self.named.insert(Vec::from_slice(alloc, name)?, index)?;
-                Some(Vec::from_slice(alloc, name)?)
             }
             None => {
                 self.nameless.insert(interface.place, index)?;
-                None
             }
-        };
-        self.met.push(Label {
-            number: interface.place,
-            name,
-        })?;
-        Ok(index)
+        }
+        Ok(())
     }
 
     /// The one at an index.

@@ -3,7 +3,9 @@ ghost use Rattle.std.specs.Prelude.{◌≡◌};
 ghost use Rattle.capture_file.specs.Task.{is_of_writer};
 ghost use Rattle.datagram_source.specs.Rules.{packet_rules};
 ghost use Rattle.capture_extract.specs.Listed.{ListsAnswer, TableFollows, list_rules};
+ghost use Rattle.capture_extract.specs.Table.{no_table};
 ghost use Rattle.capture_extract.specs.Inner.Going.{GoesOut};
+ghost use Rattle.capture_extract.specs.Inner.Rows.{IsTable};
 
 use crate::table::Table;
 use capture_file::{CaptureCause, CaptureStop, InterfaceName};
@@ -21,16 +23,17 @@ struct Listing {
 }
 
 impl DatagramTask for Listing {
-    ghost use Rattle.std.specs.Prelude.{Option};
-    ghost use Rattle.capture_file.specs.declared.name.InterfaceName.{InterfaceName};
+    ghost use Rattle.capture_extract.specs.Listed.{Came};
+    ghost use Rattle.capture_extract.specs.Table.{table_of};
+    ghost use Rattle.capture_extract.specs.Inner.Rows.{IsTable};
 
     type Fault = LineFault;
 
-    ghost State = { Option InterfaceName };
+    ghost State = { Came };
 
     ghost rules = { list_rules };
 
-    ghost is_at = { λ task interface. task.interface ≡ interface };
+    ghost is_at = { λ task came. (task.interface ≡ came.asked) × IsTable (table_of came.datagrams) task.table };
 
     fn subcommand() -> &'static str {
         "extract"
@@ -73,7 +76,8 @@ impl DatagramTask for Listing {
 impl Listing {
     /// No datagram came yet.
     fn new(alloc: Global, interface: Option<InterfaceName>) -> Listing
-        ensures { result.interface ≡ interface }
+        ensures interface { result.interface ≡ interface }
+        ensures table { IsTable no_table result.table }
     {
         Listing {
             alloc,

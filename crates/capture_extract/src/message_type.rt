@@ -1,4 +1,6 @@
 //! The types of messages.
+ghost use Rattle.std.specs.Prelude.{◌≡◌};
+ghost use Rattle.capture_extract.specs.Message.{has_requesting, has_steps, type_numbered};
 
 use std::fmt;
 use std::fmt::{Display, Formatter};
@@ -22,7 +24,9 @@ pub(crate) enum MessageType {
 
 impl MessageType {
     /// The type of a number, the value of messageType.
-    pub(crate) fn from_number(number: u8) -> MessageType {
+    pub(crate) fn from_number(number: u8) -> MessageType
+        ensures { result ≡ type_numbered number }
+    {
         match number {
             0 => MessageType::Sync,
             1 => MessageType::DelayReq,
@@ -39,12 +43,16 @@ impl MessageType {
     }
 
     /// Whether twoStepFlag has a meaning in it (IEEE 1588-2019, table 37).
-    pub(crate) fn has_steps(self) -> bool {
+    pub(crate) fn has_steps(self) -> bool
+        ensures { result ≡ has_steps self }
+    {
         matches!(self, MessageType::Sync | MessageType::PdelayResp)
     }
 
     /// Whether it has a requestingPortIdentity (IEEE 1588-2019, 13.8, 13.10 and 13.11).
-    pub(crate) fn has_requesting(self) -> bool {
+    pub(crate) fn has_requesting(self) -> bool
+        ensures { result ≡ has_requesting self }
+    {
         matches!(
             self,
             MessageType::DelayResp | MessageType::PdelayResp | MessageType::PdelayRespFollowUp

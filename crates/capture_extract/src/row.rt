@@ -1,10 +1,14 @@
 //! A row of the table: messages of one kind.
+ghost use Rattle.std.specs.Prelude.{◌≡◌, List, [], ◌∷◌};
+ghost use Rattle.std.specs.Int.{int_max, int_min};
+ghost use Rattle.capture_extract.specs.declared.header.Listed.{Listed};
+ghost use Rattle.capture_extract.specs.Row.{AreCounts, IsRow, is_far, is_two_step, sent_by};
 
 use crate::header::Listed;
 use crate::message_type::MessageType;
 use datagram_source::Stream;
 use event_codec::PortIdentity;
-use ptp_units::{Interval, Nanoseconds, ScaledTime, Seq, Timestamp};
+use ptp_units::{Interval, Nanoseconds, Seq, Timestamp};
 use statistics::{Flow, Sent};
 use std::fmt;
 use std::fmt::{Display, Formatter};
@@ -93,74 +97,102 @@ pub(crate) struct Row {
     pub(crate) flow: Flow,
 }
 
+/// Whether twoStepFlag is set.
+fn is_two_step(listed: &Listed) -> bool
+    ensures { result ≡ is_two_step listed.now }
+{
+    listed.header.flags[0] & TWO_STEP != 0
+}
+
 /// Whether a number is too far from another one to be of its port's same life.
-fn is_far(number: Seq, newest: Seq) -> bool {
+fn is_far(number: Seq, newest: Seq) -> bool
+    ensures { result ≡ is_far number.0 newest.0 }
+{
     let ahead = number.0.wrapping_sub(newest.0);
     let behind = newest.0.wrapping_sub(number.0);
     ahead > REACH && behind > REACH
 }
 
-/// Whether a number is that of the newest message, as a copy has it.
-fn is_newest(flow: &Flow, number: Seq) -> bool {
-    match &flow.newest {
-        Some(newest) => newest.number == number,
-        None => false,
-    }
-}
-
-/// Whether a port begins anew with a number.
-fn begins(flow: &Flow, number: Seq) -> bool {
-    match &flow.newest {
+/// What the flow takes of a message: nothing of a copy of the newest one.
+fn sent_by(listed: &Listed, newest: &Option<Sent>) -> Option<Sent>
+    ensures { result ≡ sent_by listed.now newest.now }
+{
+    let number = listed.header.sequence;
+    let begins = match newest {
+        Some(newest) if newest.number == number => return None,
         Some(newest) => is_far(number, newest.number),
         None => false,
-    }
+    };
+    Some(Sent {
+        line: listed.packet,
+        number,
+        time: listed.time,
+        begins,
+    })
+}
+
+/// The lesser of two.
+fn lesser(one: Interval, other: Interval) -> Interval
+    ensures { result.0 ≡ int_min one.0 other.0 }
+{
+    if other.0 < one.0 { other } else { one }
+}
+
+/// The greater of two; one that is too big is above all others.
+fn greater(one: Interval, other: Interval) -> Interval
+    ensures { result.0 ≡ int_max one.0 other.0 }
+{
+    if one.0 < other.0 { other } else { one }
 }
 
 impl Row {
-    /// Before the first message, which is this one.
-    pub(crate) fn new(time: Timestamp, listed: &Listed) -> Row {
-        Row {
+    /// The row of one message.
+    pub(crate) fn new(listed: &Listed) -> Row
+        ensures { IsRow (listed.now ∷ []) result }
+    {
+        let (time, _) = listed.time.split();
+        let correction = listed.header.correction;
+        let mut row = Row {
             count: 0,
             one_step: 0,
             two_step: 0,
             versions: Versions { met: [false; 16] },
             first: time,
             last: time,
-            least: listed.header.correction,
-            greatest: listed.header.correction,
+            least: correction,
+            greatest: correction,
             flow: Flow::new(),
-        }
-    }
-
-    /// Counts a message of the packet of this number and time. A correctionField that is too big is above all others.
-    pub(crate) fn count(&mut self, packet: u64, time: ScaledTime, listed: &Listed) {
-        let header = &listed.header;
-        self.count = self.count.saturating_add(1);
-        let steps = if header.flags[0] & TWO_STEP != 0 {
-            &mut self.two_step
-        } else {
-            &mut self.one_step
         };
-        *steps = steps.saturating_add(1);
-        self.versions.met[usize::from(header.minor_version.value())] = true;
-        let (last, _) = time.split();
-        self.last = last;
-        self.least = Interval(self.least.0.min(header.correction.0));
-        self.greatest = Interval(self.greatest.0.max(header.correction.0));
-        self.pass(packet, time, header.sequence);
+        row.tally(listed);
+        row
     }
 
-    /// Takes the number of a message, but for that of a copy.
-    fn pass(&mut self, line: u64, time: ScaledTime, number: Seq) {
-        if is_newest(&self.flow, number) {
-            return;
-        }
-        let begins = begins(&self.flow, number);
-        self.flow.take(&Sent {
-            line,
-            number,
-            time,
-            begins,
-        });
+    /// Counts one more message.
+    pub(crate) fn count(&mut self, listed: &Listed)
+        ensures { (ms : List Listed) → IsRow ms self.old → IsRow (listed.now ∷ ms) self.new }
+    {
+        let (last, _) = listed.time.split();
+        let correction = listed.header.correction;
+        self.last = last;
+        self.least = lesser(self.least, correction);
+        self.greatest = greater(self.greatest, correction);
+        self.tally(listed);
+    }
+
+    /// Counts a message, of this step and version, and takes its number.
+    fn tally(&mut self, listed: &Listed)
+        ensures counts { (ms : List Listed) → AreCounts ms self.old → AreCounts (listed.now ∷ ms) self.new }
+        ensures first { self.new.first ≡ self.old.first }
+        ensures last { self.new.last ≡ self.old.last }
+        ensures least { self.new.least ≡ self.old.least }
+        ensures greatest { self.new.greatest ≡ self.old.greatest }
+    {
+        let is_two_step = is_two_step(listed);
+        self.count = self.count.saturating_add(1);
+        self.one_step = self.one_step.saturating_add(u64::from(!is_two_step));
+        self.two_step = self.two_step.saturating_add(u64::from(is_two_step));
+        self.versions.met[usize::from(listed.header.minor_version.value())] = true;
+        let sent = sent_by(listed, &self.flow.newest);
+        self.flow.take_some(sent);
     }
 }

@@ -1,11 +1,15 @@
 //! The rows of messages, and what isn't in a row.
+ghost use Rattle.std.specs.Prelude.{◌≡◌, IfOk, OnOk};
+ghost use Rattle.capture_file.specs.Packet.{interface_of};
+ghost use Rattle.datagram_source.specs.Datagram.{datagram_of, place_of};
+ghost use Rattle.capture_extract.specs.Table.{TableOf, counted, index_for, key_of, met, no_table, passed, with_datagram, with_message};
+ghost use Rattle.capture_extract.specs.Inner.Rows.{IsTable};
 
 use crate::header::{Listed, Unlisted, read_listed};
 use crate::interfaces::Interfaces;
 use crate::row::{Row, RowKey};
 use capture_file::Interface;
-use datagram_source::{Datagram, Place};
-use ptp_units::ScaledTime;
+use datagram_source::{Datagram, Place, Stream};
 use std::alloc::{AllocError, Global};
 use std::collections::BTreeMap;
 
@@ -27,9 +31,25 @@ pub(crate) struct Table {
     pub(crate) too_short: u64,
 }
 
+/// What a message has in common with the others of its row.
+fn key_of(interface: Option<usize>, stream: Option<Stream>, listed: &Listed) -> RowKey
+    ensures { result ≡ key_of interface stream listed.now }
+{
+    RowKey {
+        interface,
+        stream,
+        domain: listed.header.domain,
+        source: listed.header.source,
+        message: listed.message,
+        requesting: listed.requesting,
+    }
+}
+
 impl Table {
     /// No datagram came.
-    pub(crate) fn new(alloc: Global) -> Table {
+    pub(crate) fn new(alloc: Global) -> Table
+        ensures { IsTable no_table result }
+    {
         Table {
             alloc,
             interfaces: Interfaces::new(alloc),
@@ -41,9 +61,11 @@ impl Table {
     }
 
     /// Takes a datagram.
-    pub(crate) fn take(&mut self, datagram: &Datagram<'_>) -> Result<(), AllocError> {
-        match read_listed(datagram.octets) {
-            Ok(listed) => return self.count(datagram, &listed),
+    pub(crate) fn take(&mut self, datagram: &Datagram<'_>) -> Result<(), AllocError>
+        ensures { (t : TableOf) → IsTable t self.old → OnOk result (IsTable (with_datagram (datagram_of datagram.now) t) self.new) }
+    {
+        match read_listed(datagram) {
+            Ok(listed) => return self.count(&datagram.place, &listed),
             Err(Unlisted::OtherVersion) => {
                 self.other_version = self.other_version.saturating_add(1);
             }
@@ -53,7 +75,10 @@ impl Table {
     }
 
     /// The index of an interface, which is added where there is room for a row of it.
-    fn interface(&mut self, interface: &Interface<'_>) -> Result<Option<usize>, AllocError> {
+    fn interface(&mut self, interface: &Interface<'_>) -> Result<Option<usize>, AllocError>
+        ensures { (t : TableOf) → IsTable t self.old
+            → IfOk result (λ index. (index ≡ index_for (interface_of interface.now) t) × IsTable (met (interface_of interface.now) t) self.new) }
+    {
         match self.interfaces.find(interface) {
             Some(index) => Ok(Some(index)),
             None if self.rows.len() < ROWS_MOST => {
@@ -63,49 +88,42 @@ impl Table {
         }
     }
 
-    /// Counts a message in its row.
-    fn count(&mut self, datagram: &Datagram<'_>, listed: &Listed) -> Result<(), AllocError> {
-        let (interface, stream) = match &datagram.place {
-            Place::Interface(interface, stream) => {
-                let Some(index) = self.interface(interface)? else {
-                    self.further = self.further.saturating_add(1);
-                    return Ok(());
-                };
-                (Some(index), Some(*stream))
-            }
-            Place::Tap(_) | Place::Line => (None, None),
-        };
-        let key = RowKey {
-            interface,
-            stream,
-            domain: listed.header.domain,
-            source: listed.header.source,
-            message: listed.message,
-            requesting: listed.requesting,
-        };
-        self.count_at(key, datagram.number, datagram.time, listed)
+    /// Counts a message that was met at this place.
+    fn count(&mut self, place: &Place<'_>, listed: &Listed) -> Result<(), AllocError>
+        ensures { (t : TableOf) → IsTable t self.old → OnOk result (IsTable (with_message (place_of place.now) listed.now t) self.new) }
+    {
+        match place {
+            Place::Interface(interface, stream) => match self.interface(interface)? {
+                Some(index) => self.count_at(key_of(Some(index), Some(*stream), listed), listed),
+                None => {
+                    self.pass();
+                    Ok(())
+                }
+            },
+            Place::Tap(_) | Place::Line => self.count_at(key_of(None, None, listed), listed),
+        }
+    }
+
+    /// Counts a message of a further row.
+    fn pass(&mut self)
+        ensures { (t : TableOf) → IsTable t self.old → IsTable (passed t) self.new }
+    {
+        self.further = self.further.saturating_add(1);
     }
 
     /// Counts a message in the row of a key, which is made where there is room.
-    fn count_at(
-        &mut self,
-        key: RowKey,
-        packet: u64,
-        time: ScaledTime,
-        listed: &Listed,
-    ) -> Result<(), AllocError> {
+    fn count_at(&mut self, key: RowKey, listed: &Listed) -> Result<(), AllocError>
+        ensures { (t : TableOf) → IsTable t self.old → OnOk result (IsTable (counted key listed.now t) self.new) }
+    {
         if let Some(row) = self.rows.get_mut(&key) {
-            row.count(packet, time, listed);
+            row.count(listed);
             return Ok(());
         }
         if self.rows.len() >= ROWS_MOST {
-            self.further = self.further.saturating_add(1);
+            self.pass();
             return Ok(());
         }
-        let (first, _) = time.split();
-        let mut row = Row::new(first, listed);
-        row.count(packet, time, listed);
-        self.rows.insert(key, row)?;
+        self.rows.insert(key, Row::new(listed))?;
         Ok(())
     }
 }
