@@ -2,6 +2,7 @@ pub mod Line
 pub mod Message
 pub mod Row
 pub mod Table
+pub mod Text
 pub mod Extracted
 pub mod Listed
 pub mod Inner

@@ -1,4 +1,4 @@
--- What `list` answers, by the datagrams of a capture, and what it writes, but for the text of the table, which is left open.
+-- What `list` answers and writes, by the datagrams of a capture.
 use Rattle.std.specs.Prelude.{◌≡◌, ◌≢◌, ◌⊎◌, ℕ, List, [], ◌∷◌, Bool, true, false, Option, Result, Ok, Err, MatchResult}
 use Rattle.std.specs.Io.KnownBytes.{Appends}
 use Rattle.std.specs.Option.{ForSome}
@@ -13,21 +13,23 @@ use Rattle.capture_file.specs.declared.name.InterfaceName.{InterfaceName}
 use Rattle.datagram_source.specs.Datagram.{DatagramOf}
 use Rattle.datagram_source.specs.declared.lines.LineForm.TheVariants as forms
 use Rattle.datagram_source.specs.Rules.{DatagramRules, is_field, packet_rules}
+use Rattle.capture_extract.specs.Table.{table_of}
+use Rattle.capture_extract.specs.Text.{IsTableText}
 
 -- the interface that is asked for, if one is, and the datagrams that came, the newest in front
 pub record Came : Type 0 where
   pub asked : Option InterfaceName
   pub datagrams : List DatagramOf
 
--- No datagram at the interface that is asked for writes anything, and one stops only where memory is refused. At the end some text is
--- written; memory or the writer may fail there. Lines aren't read.
+-- No datagram at the interface that is asked for writes anything, and one stops only where memory is refused. At the end the table of
+-- all that came is written; memory or the writer may fail there. Lines aren't read.
 abbrev pub list_rules : DatagramRules Came LineFault
 list_rules = record {
   line_form = forms.Timed;
   asked = λ came. came.asked;
   Takes = λ d came later written. (later ≡ record came { datagrams = d ∷ came.datagrams }) × (written ≡ []);
   Stops = λ d came fault written. (fault ≡ Memory) × (written ≡ []);
-  Ends = λ came later written. later ≡ came;
+  Ends = λ came later written. (later ≡ came) × IsTableText (table_of came.datagrams) written;
   StopsAtEnd = λ came fault written. (fault ≢ Field) × (written ≡ []);
   is_of_writer = is_write;
   keeps = is_field;

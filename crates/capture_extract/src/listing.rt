@@ -1,9 +1,10 @@
 //! The datagrams of a capture, and the table of their messages behind the last.
-ghost use Rattle.std.specs.Prelude.{◌≡◌};
+ghost use Rattle.std.specs.Prelude.{◌≡◌, ⊤};
 ghost use Rattle.capture_file.specs.Task.{is_of_writer};
 ghost use Rattle.datagram_source.specs.Rules.{packet_rules};
 ghost use Rattle.capture_extract.specs.Listed.{ListsAnswer, TableFollows, list_rules};
-ghost use Rattle.capture_extract.specs.Table.{no_table};
+ghost use Rattle.capture_extract.specs.Table.{TableOf, no_table};
+ghost use Rattle.capture_extract.specs.Text.{IsTableText};
 ghost use Rattle.capture_extract.specs.Inner.Going.{GoesOut};
 ghost use Rattle.capture_extract.specs.Inner.Rows.{IsTable};
 
@@ -88,7 +89,8 @@ impl Listing {
 
     /// Writes the table of what came, in one write.
     fn write<W: Write>(&self, output: &mut Counted<W>) -> Result<(), LineFault>
-        ensures { GoesOut W.contents result output.old output.new }
+        ensures some { GoesOut W.contents (λ text. ⊤) result output.old output.new }
+        ensures table { (t : TableOf) → IsTable t self.now.table → GoesOut W.contents (IsTableText t) result output.old output.new }
     {
         let text = self.table.text(self.alloc)?;
         write_text(text.as_str(), output)

@@ -1,6 +1,7 @@
 //! The types of messages.
-ghost use Rattle.std.specs.Prelude.{◌≡◌};
+ghost use Rattle.std.specs.Prelude.{◌≡◌, Some};
 ghost use Rattle.capture_extract.specs.Message.{has_requesting, has_steps, type_numbered};
+ghost use Rattle.capture_extract.specs.Text.{type_text};
 
 use std::fmt;
 use std::fmt::{Display, Formatter};
@@ -61,6 +62,8 @@ impl MessageType {
 }
 
 impl Display for MessageType {
+    ghost output = { λ message. Some (type_text message) };
+
     fn fmt<W: fmt::Write>(&self, f: &mut Formatter<W>) -> fmt::Result {
         let name = match self {
             MessageType::Sync => "Sync",

@@ -1,7 +1,9 @@
 //! A row of the table: messages of one kind.
-ghost use Rattle.std.specs.Prelude.{◌≡◌, List, [], ◌∷◌};
+ghost use Rattle.std.specs.Prelude.{◌≡◌, List, [], ◌∷◌, Some};
 ghost use Rattle.std.specs.Int.{int_max, int_min};
 ghost use Rattle.capture_extract.specs.declared.header.Listed.{Listed};
+ghost use Rattle.datagram_text.specs.Shown.{stamp_text};
+ghost use Rattle.capture_extract.specs.Text.{correction_text};
 ghost use Rattle.capture_extract.specs.Row.{AreCounts, IsRow, is_far, is_two_step, sent_by};
 
 use crate::header::Listed;
@@ -57,6 +59,8 @@ impl Display for Versions {
 pub(crate) struct Correction(pub(crate) Interval);
 
 impl Display for Correction {
+    ghost output = { λ correction. Some (correction_text correction.0.0) };
+
     fn fmt<W: fmt::Write>(&self, f: &mut Formatter<W>) -> fmt::Result {
         match self.0.exact() {
             Some(units) => write!(f, "{}", Nanoseconds(2 * i128::from(units))),
@@ -70,6 +74,8 @@ impl Display for Correction {
 pub(crate) struct Time(pub(crate) Timestamp);
 
 impl Display for Time {
+    ghost output = { λ time. Some (stamp_text time.0) };
+
     fn fmt<W: fmt::Write>(&self, f: &mut Formatter<W>) -> fmt::Result {
         write!(f, "{}.{:09}", self.0.seconds(), self.0.nanos())
     }

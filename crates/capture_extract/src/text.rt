@@ -1,10 +1,15 @@
 //! The text of a table, and of what stands below it.
+ghost use Rattle.std.specs.Prelude.{◌≡◌, ◌++◌, IfOk, OnOk, Some};
+ghost use Rattle.std.specs.String.{string_bytes};
+ghost use Rattle.capture_extract.specs.Table.{TableOf};
+ghost use Rattle.capture_extract.specs.Text.{IsTableText, ShowsRows, any_text, or_dash, others_text, quantity_text};
+ghost use Rattle.capture_extract.specs.Inner.Rows.{IsTable};
 
 use crate::cells::Cells;
 use crate::interfaces::{Argument, Label};
 use crate::message_type::MessageType;
 use crate::row::{Correction, Row, RowKey, Time};
-use crate::table::{ROWS_MOST, Table};
+use crate::table::Table;
 use datagram_source::Stream;
 use datagram_text::Identity;
 use event_codec::PortIdentity;
@@ -21,6 +26,8 @@ const CALLS_MOST: usize = 8;
 struct OrDash<T>(Option<T>);
 
 impl<T: Display> Display for OrDash<T> {
+    ghost output = { λ value. or_dash T.output value.0 };
+
     fn fmt<W: fmt::Write>(&self, f: &mut Formatter<W>) -> fmt::Result {
         match &self.0 {
             Some(value) => write!(f, "{value}"),
@@ -52,23 +59,59 @@ impl Display for OfStream {
     }
 }
 
-/// So many of something, by its names for one and for others.
+/// The names of a thing, of one and of others.
 #[derive(Clone, Copy)]
-struct Quantity {
-    count: u64,
+struct Names {
     one: &'static str,
     others: &'static str,
 }
 
+/// So many of something.
+#[derive(Clone, Copy)]
+struct Quantity {
+    count: u64,
+    names: Names,
+}
+
 impl Display for Quantity {
+    ghost output = { λ quantity. Some (quantity_text quantity.count quantity.names.one.now quantity.names.others.now) };
+
     fn fmt<W: fmt::Write>(&self, f: &mut Formatter<W>) -> fmt::Result {
         let name = if self.count == 1 {
-            self.one
+            self.names.one
         } else {
-            self.others
+            self.names.others
         };
         write!(f, "{} {name}", self.count)
     }
+}
+
+const MESSAGE: Names = Names {
+    one: "message",
+    others: "messages",
+};
+
+const DATAGRAM: Names = Names {
+    one: "datagram",
+    others: "datagrams",
+};
+
+/// What is said of messages and datagrams that aren't in the table.
+const OF_FURTHER_ROWS: &str = " of further rows: the table has 1024 at most";
+
+const OF_OTHER_VERSION: &str = " of another version than 2";
+
+const TOO_SHORT: &str = " too short for a message";
+
+/// Appends how many of something there are, where there are any, and what is said of them.
+fn push_any(text: &mut String, count: u64, names: Names, what: &str) -> Result<(), AllocError>
+    ensures { OnOk result (string_bytes text.new
+        ≡ string_bytes text.old ++ any_text count names.one.now names.others.now what.now) }
+{
+    if count == 0 {
+        return Ok(());
+    }
+    write!(text, "{}{what}\n", Quantity { count, names })
 }
 
 /// A call that measures a slave.
@@ -184,46 +227,34 @@ impl Table {
     }
 
     /// Appends what isn't in the table.
-    fn push_others(&self, text: &mut String) -> Result<(), AllocError> {
-        if self.further > 0 {
-            let messages = Quantity {
-                count: self.further,
-                one: "message",
-                others: "messages",
-            };
-            write!(
-                text,
-                "{messages} of further rows: the table has {ROWS_MOST} at most\n"
-            )?;
-        }
-        if self.other_version > 0 {
-            let datagrams = Quantity {
-                count: self.other_version,
-                one: "datagram",
-                others: "datagrams",
-            };
-            write!(text, "{datagrams} of another version than 2\n")?;
-        }
-        if self.too_short > 0 {
-            let datagrams = Quantity {
-                count: self.too_short,
-                one: "datagram",
-                others: "datagrams",
-            };
-            write!(text, "{datagrams} too short for a message\n")?;
-        }
-        Ok(())
+    fn push_others(&self, text: &mut String) -> Result<(), AllocError>
+        ensures { (t : TableOf) → IsTable t self.now
+            → OnOk result (string_bytes text.new ≡ string_bytes text.old ++ others_text t) }
+    {
+        push_any(text, self.further, MESSAGE, OF_FURTHER_ROWS)?;
+        push_any(text, self.other_version, DATAGRAM, OF_OTHER_VERSION)?;
+        push_any(text, self.too_short, DATAGRAM, TOO_SHORT)
     }
 
-    /// The table, with the calls and with what isn't in it; where it has no row, a sentence that says so.
-    pub(crate) fn text(&self, alloc: Global) -> Result<String, AllocError> {
+    /// The rows, and the calls below them; where there is no row, a sentence that says so.
+    fn shown(&self, alloc: Global) -> Result<String, AllocError>
+        ensures { (t : TableOf) → IsTable t self.now → IfOk result (λ text. ShowsRows t.groups (string_bytes text)) }
+    {
         let mut text = String::new(alloc);
         if self.rows.is_empty() {
             text.push_str("there is no message of PTP version 2\n")?;
-        } else {
-            self.push_rows(alloc, &mut text)?;
-            self.push_calls(&mut text)?;
+            return Ok(text);
         }
+        self.push_rows(alloc, &mut text)?;
+        self.push_calls(&mut text)?;
+        Ok(text)
+    }
+
+    /// The table, with the calls and with what isn't in it.
+    pub(crate) fn text(&self, alloc: Global) -> Result<String, AllocError>
+        ensures { (t : TableOf) → IsTable t self.now → IfOk result (λ text. IsTableText t (string_bytes text)) }
+    {
+        let mut text = self.shown(alloc)?;
         self.push_others(&mut text)?;
         Ok(text)
     }
