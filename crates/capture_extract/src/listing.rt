@@ -1,8 +1,8 @@
 //! The datagrams of a capture, and the table of their messages behind the last.
-ghost use Rattle.std.specs.Prelude.{◌≡◌, ⊤};
+ghost use Rattle.std.specs.Prelude.{◌≡◌, false, ⊤};
 ghost use Rattle.capture_file.specs.Task.{is_of_writer};
 ghost use Rattle.datagram_source.specs.Rules.{packet_rules};
-ghost use Rattle.capture_extract.specs.Listed.{ListsAnswer, TableFollows, list_rules};
+ghost use Rattle.capture_extract.specs.Listed.{ListsAnswer, TableFollows, TableGoesOut, list_rules};
 ghost use Rattle.capture_extract.specs.Table.{TableOf, no_table};
 ghost use Rattle.capture_extract.specs.Text.{IsTableText};
 ghost use Rattle.capture_extract.specs.Inner.Going.{GoesOut};
@@ -98,7 +98,9 @@ impl Listing {
 
     /// Writes the table behind a fault, but where the writer failed. What can't be written is lost: the fault is answered.
     fn write_behind<W: Write>(&self, stop: &CaptureStop<LineFault>, output: &mut Counted<W>)
-        ensures { TableFollows (is_of_writer (packet_rules list_rules) stop.now.what) W.contents output.old output.new }
+        ensures follows { TableFollows (is_of_writer (packet_rules list_rules) stop.now.what) W.contents output.old output.new }
+        ensures table { (t : TableOf) → IsTable t self.now.table → is_of_writer (packet_rules list_rules) stop.now.what ≡ false
+            → TableGoesOut t W.contents output.old output.new }
     {
         if !has_writer_failed(stop) {
             let _ = self.write(output);
