@@ -2,3 +2,4 @@
 -- nobody has to believe it.
 pub mod Going
 pub mod Rows
+pub mod Cells

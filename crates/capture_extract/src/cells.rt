@@ -1,4 +1,6 @@
 //! Columns that are aligned with blanks.
+ghost use Rattle.std.specs.Prelude.{OnOk};
+ghost use Rattle.capture_extract.specs.Inner.Cells.{AppendsCell, texts};
 
 use std::alloc::{AllocError, Global};
 use std::fmt::Display;
@@ -79,7 +81,9 @@ impl Cells {
     }
 
     /// One more cell.
-    pub(crate) fn push<T: Display>(&mut self, cell: &T) -> Result<(), AllocError> {
+    pub(crate) fn push<T: Display>(&mut self, cell: &T) -> Result<(), AllocError>
+        ensures { OnOk result (AppendsCell (T.output cell.now) (texts self.old) (texts self.new)) }
+    {
         let text = format!(in self.alloc; "{cell}")?;
         let width = &mut self.widths[self.texts.len() % COLUMNS_COUNT];
         *width = text.len().max(*width);

@@ -1,8 +1,14 @@
 //! The text of a table, and of what stands below it.
-ghost use Rattle.std.specs.Prelude.{◌≡◌, ◌++◌, IfOk, OnOk, Some};
+ghost use Rattle.std.specs.Prelude.{◌≡◌, ◌++◌, IfOk, MatchOption, OnOk, Option, Some, option_map};
+ghost use Rattle.std.specs.Fmt.{decimal};
 ghost use Rattle.std.specs.String.{string_bytes};
 ghost use Rattle.capture_extract.specs.Table.{TableOf};
 ghost use Rattle.capture_extract.specs.Text.{IsTableText, ShowsRows, any_text, or_dash, others_text, quantity_text};
+ghost use Rattle.datagram_text.specs.Shown.{identity_text};
+ghost use Rattle.statistics.specs.Mean.{HasNoMean, IsMean};
+ghost use Rattle.statistics.specs.declared.rounded.Signed.{Signed};
+ghost use Rattle.rounded_text.specs.Rounded.{milliseconds_text};
+ghost use Rattle.capture_extract.specs.Inner.Cells.{AppendsCells, answered, identity_cell, interval_cell, measured_of, measured_text, row_cells, steps_cell, texts};
 ghost use Rattle.capture_extract.specs.Inner.Rows.{IsTable};
 
 use crate::cells::Cells;
@@ -13,7 +19,8 @@ use crate::table::Table;
 use datagram_source::Stream;
 use datagram_text::Identity;
 use event_codec::PortIdentity;
-use statistics::{Milliseconds, mean};
+use rounded_text::Milliseconds;
+use statistics::{Signed, mean};
 use std::alloc::{AllocError, Global};
 use std::fmt;
 use std::fmt::{Display, Formatter, Write};
@@ -114,14 +121,34 @@ fn push_any(text: &mut String, count: u64, names: Names, what: &str) -> Result<(
     write!(text, "{}{what}\n", Quantity { count, names })
 }
 
+/// Whom a call measures.
+#[derive(Clone, Copy)]
+struct Measured {
+    domain: u8,
+    master: PortIdentity,
+    slave: PortIdentity,
+}
+
+impl Display for Measured {
+    ghost output = { λ measured. Some (measured_text measured) };
+
+    fn fmt<W: fmt::Write>(&self, f: &mut Formatter<W>) -> fmt::Result {
+        write!(
+            f,
+            " --domain {} --master {} --slave {}",
+            self.domain,
+            Identity(&self.master),
+            Identity(&self.slave)
+        )
+    }
+}
+
 /// A call that measures a slave.
 #[derive(Clone, Copy)]
 struct Call<'a> {
     /// The interface, where it has to be named.
     interface: Option<&'a Label>,
-    domain: u8,
-    master: PortIdentity,
-    slave: PortIdentity,
+    measured: Measured,
     /// The stream, where it isn't that of sdoId 0 in no VLAN by multicast.
     stream: Option<Stream>,
 }
@@ -132,17 +159,53 @@ impl Display for Call<'_> {
         if let Some(interface) = self.interface {
             write!(f, " --interface {}", Argument(interface))?;
         }
-        write!(
-            f,
-            " --domain {} --master {} --slave {}",
-            self.domain,
-            Identity(&self.master),
-            Identity(&self.slave)
-        )?;
+        write!(f, "{}", self.measured)?;
         match self.stream {
             Some(stream) => write!(f, " # stream {}", OfStream(stream)),
             None => Ok(()),
         }
+    }
+}
+
+/// Whom the messages of a row answer, if they do: it is measured as a slave.
+fn measured_by(key: &RowKey) -> Option<Measured>
+    ensures { result ≡ option_map (measured_of key.now) (answered key.now) }
+{
+    let slave = key.requesting?;
+    if key.message != MessageType::DelayResp {
+        return None;
+    }
+    Some(Measured {
+        domain: key.domain,
+        master: key.source,
+        slave,
+    })
+}
+
+/// A count, where twoStepFlag has a meaning in messages of this type.
+fn steps(message: MessageType, count: u64) -> OrDash<u64>
+    ensures { or_dash (λ n. Some (decimal n)) result.0 ≡ steps_cell message count }
+{
+    OrDash(message.has_steps().then_some(count))
+}
+
+/// The mean of intervals in milliseconds, if they have one.
+fn interval(mean: Option<Signed>) -> OrDash<Milliseconds>
+    ensures { or_dash (λ m. Some (milliseconds_text m.0)) result.0 ≡ or_dash interval_cell mean }
+{
+    match mean {
+        Some(mean) => OrDash(Some(Milliseconds::of_thousandths(mean))),
+        None => OrDash(None),
+    }
+}
+
+/// Who is answered, if the messages of a row have such a field.
+fn requesting(key: &RowKey) -> OrDash<Identity<'_>>
+    ensures { or_dash (λ i. Some (identity_text i.0.now)) result.0 ≡ or_dash identity_cell key.now.requesting }
+{
+    match &key.requesting {
+        Some(requesting) => OrDash(Some(Identity(requesting))),
+        None => OrDash(None),
     }
 }
 
@@ -152,24 +215,29 @@ fn push_row(
     interface: Option<&Label>,
     key: &RowKey,
     row: &Row,
-) -> Result<(), AllocError> {
-    let has_steps = key.message.has_steps();
+) -> Result<(), AllocError>
+    ensures { OnOk result ((mean : Option Signed)
+        × MatchOption mean (HasNoMean row.now.flow.intervals) (IsMean row.now.flow.intervals)
+        × AppendsCells (row_cells mean key.now row.now) (texts cells.old) (texts cells.new)) }
+{
+    let mean = mean(&row.flow.intervals);
     cells.push(&OrDash(interface))?;
     cells.push(&OrDash(key.stream.map(OfStream)))?;
     cells.push(&key.domain)?;
     cells.push(&Identity(&key.source))?;
-    cells.push(&OrDash(key.requesting.as_ref().map(Identity)))?;
+    cells.push(&requesting(key))?;
     cells.push(&key.message)?;
     cells.push(&row.count)?;
     cells.push(&row.flow.missing())?;
-    cells.push(&OrDash(mean(&row.flow.intervals).map(Milliseconds::of_thousandths)))?;
-    cells.push(&OrDash(has_steps.then_some(row.one_step)))?;
-    cells.push(&OrDash(has_steps.then_some(row.two_step)))?;
+    cells.push(&interval(mean))?;
+    cells.push(&steps(key.message, row.one_step))?;
+    cells.push(&steps(key.message, row.two_step))?;
     cells.push(&row.versions)?;
     cells.push(&Time(row.first))?;
     cells.push(&Time(row.last))?;
     cells.push(&Correction(row.least))?;
-    cells.push(&Correction(row.greatest))
+    cells.push(&Correction(row.greatest))?;
+    Ok(())
 }
 
 impl Table {
@@ -189,10 +257,7 @@ impl Table {
 
     /// The call that measures the slave whom the messages of a row answer, if they do.
     fn call(&self, key: &RowKey) -> Option<Call<'_>> {
-        let slave = key.requesting?;
-        if key.message != MessageType::DelayResp {
-            return None;
-        }
+        let measured = measured_by(key)?;
         let interface = if self.interfaces.are_several() {
             self.label(key)
         } else {
@@ -200,9 +265,7 @@ impl Table {
         };
         Some(Call {
             interface,
-            domain: key.domain,
-            master: key.source,
-            slave,
+            measured,
             stream: key.stream.filter(Stream::is_named),
         })
     }

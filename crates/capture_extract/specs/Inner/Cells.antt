@@ -1,0 +1,78 @@
+-- The cells of a row. What isn't told of a text is left open.
+use Rattle.std.specs.Prelude.{◌≡◌, ◌-◌, List, [], ◌∷◌, ◌++◌, map, ℕ, codes, if◌then◌else◌, Option, Some, None, IfSome}
+use Rattle.std.specs.Fmt.{decimal}
+use Rattle.std.specs.String.{string_bytes}
+use Rattle.event_codec.specs.declared.port.PortIdentity.{PortIdentity}
+use Rattle.datagram_text.specs.Shown.{identity_text, stamp_text}
+use Rattle.statistics.specs.declared.rounded.Signed.{Signed}
+use Rattle.rounded_text.specs.Rounded.{milliseconds_of_thousandths, milliseconds_text}
+use Rattle.capture_extract.specs.declared.cells.Cells.{Cells}
+use Rattle.capture_extract.specs.declared.message_type.MessageType.{MessageType}
+use Rattle.capture_extract.specs.declared.message_type.MessageType.TheVariants as types
+use Rattle.capture_extract.specs.declared.row.Row.{Row}
+use Rattle.capture_extract.specs.declared.row.RowKey.{RowKey}
+use Rattle.capture_extract.specs.declared.text.Measured.{Measured}
+use Rattle.capture_extract.specs.Message.{has_steps}
+use Rattle.capture_extract.specs.Text.{correction_text, or_dash, type_text}
+
+-- the texts of cells
+abbrev pub texts : Cells → List (List ℕ)
+texts cells = map string_bytes cells.texts.items
+
+-- one more cell, with this text if it is told
+abbrev pub AppendsCell : Option (List ℕ) → (before after : List (List ℕ)) → Type 0
+AppendsCell told before after = IfSome told (λ cell. after ≡ before ++ cell ∷ [])
+
+abbrev pub AppendsCells : List (Option (List ℕ)) → (before after : List (List ℕ)) → Type 0
+AppendsCells [] before after = after ≡ before
+AppendsCells (told ∷ others) before after =
+    (between : List (List ℕ)) × AppendsCell told before between × AppendsCells others between after
+
+abbrev pub identity_cell : PortIdentity → Option (List ℕ)
+identity_cell identity = Some (identity_text identity)
+
+-- a count, where twoStepFlag has a meaning
+abbrev pub steps_cell : MessageType → ℕ → Option (List ℕ)
+steps_cell message count = Some (if has_steps message then decimal count else codes "-")
+
+-- a mean in thousandths of a nanosecond
+abbrev pub interval_cell : Signed → Option (List ℕ)
+interval_cell mean = Some (milliseconds_text (milliseconds_of_thousandths mean))
+
+-- the cells of a row, whose intervals have this mean
+abbrev pub row_cells : (mean : Option Signed) → RowKey → Row → List (Option (List ℕ))
+row_cells mean key row =
+    None ∷ None
+    ∷ Some (decimal key.domain)
+    ∷ identity_cell key.source
+    ∷ or_dash identity_cell key.requesting
+    ∷ Some (type_text key.message)
+    ∷ Some (decimal row.count)
+    ∷ Some (decimal (row.flow.skipped - row.flow.late))
+    ∷ or_dash interval_cell mean
+    ∷ steps_cell key.message row.one_step
+    ∷ steps_cell key.message row.two_step
+    ∷ None
+    ∷ Some (stamp_text row.first)
+    ∷ Some (stamp_text row.last)
+    ∷ Some (correction_text row.least.0)
+    ∷ Some (correction_text row.greatest.0)
+    ∷ []
+
+-- ---- calls
+-- whom the messages of a row answer
+abbrev pub answered_by : MessageType → Option PortIdentity → Option PortIdentity
+answered_by types.DelayResp requesting = requesting
+answered_by _ requesting = None
+
+abbrev pub answered : RowKey → Option PortIdentity
+answered key = answered_by key.message key.requesting
+
+-- the one who answers is the master
+abbrev pub measured_of : RowKey → PortIdentity → Measured
+measured_of key slave = record { domain = key.domain; master = key.source; slave = slave }
+
+-- the options that name whom it measures
+abbrev pub measured_text : Measured → List ℕ
+measured_text m =
+    codes " --domain " ++ decimal m.domain ++ codes " --master " ++ identity_text m.master ++ codes " --slave " ++ identity_text m.slave
