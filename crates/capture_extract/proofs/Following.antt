@@ -1,5 +1,5 @@
 -- What follows a fault of a capture.
-use Rattle.std.proofs.Common.{◌≡◌, ℕ, Bool, false, List, [], Option, Result, Ok, Err, refl, inl, inr}
+use Rattle.std.proofs.Common.{◌≡◌, ℕ, false, List, [], Option, Result, Ok, Err, refl, inl, inr}
 use Rattle.std.specs.Prelude.{MatchResult}
 use Rattle.std.specs.Option.{ForSome}
 use Rattle.text_lines.specs.declared.counted.Counted.{Counted}

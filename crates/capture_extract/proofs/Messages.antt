@@ -1,5 +1,5 @@
 -- A message is read of a datagram.
-use Rattle.std.proofs.Common.{◌≡◌, ◌∙◌, ℕ, ◌+◌, ◌<◌, ◌≤◌, Bool, true, false, cond, List, length, take, drop, get_or, slice_range, Option, None, Result, Ok, Err, refl, sym, ap, arith}
+use Rattle.std.proofs.Common.{◌≡◌, ◌∙◌, ℕ, ◌+◌, ◌<◌, Bool, true, false, cond, List, take, drop, get_or, slice_range, Option, None, Result, Ok, Err, sym, ap, arith}
 use Rattle.std.proofs.lemmas.List.{get_or-drop, get_or-take, take-take}
 use Rattle.ptp_units.specs.declared.interval.Interval.{Interval}
 use Rattle.ptp_units.specs.declared.sequence.Seq.{Seq}

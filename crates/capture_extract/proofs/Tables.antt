@@ -1,12 +1,10 @@
 -- A table after one more message.
-use Rattle.std.proofs.Common.{◌≡◌, ◌∙◌, ℕ, ◌+◌, ◌-◌, ◌^◌, ◌<◌, ◌≤◌, length, Bool, true, false, cond, min, List, [], ◌∷◌, Option, Some, None, refl, sym, ap, subst, arith}
+use Rattle.std.proofs.Common.{◌≡◌, ◌∙◌, ℕ, ◌<◌, ◌≤◌, length, Bool, true, false, cond, List, [], ◌∷◌, Option, Some, None, sym, ap, subst, arith}
 use Rattle.std.specs.BTreeMap.{insert_entry, is_at}
 use Rattle.std.specs.Map.{set_value}
 use Rattle.std.proofs.lemmas.Bool.Decides.{nat_tests}
 use Rattle.capture_file.specs.Packet.{InterfaceOf}
-use Rattle.statistics.specs.Wide.{at_most}
 use Rattle.capture_extract.specs.declared.header.Listed.{Listed}
-use Rattle.capture_extract.specs.declared.interfaces.Interfaces.{Interfaces}
 use Rattle.capture_extract.specs.declared.row.Row.{Row}
 use Rattle.capture_extract.specs.declared.row.RowKey.{RowKey}
 use Rattle.capture_extract.specs.declared.table.Table.{Table}

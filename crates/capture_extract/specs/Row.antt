@@ -2,7 +2,7 @@
 use Rattle.std.specs.Prelude.{◌≡◌, ℕ, ◌/◌, ◌%◌, ◌<◌, ◌==◌, ℤ, Bool, false, not, ◌&&◌, nat_lt, if◌then◌else◌}
 use Rattle.std.specs.Prelude.{List, [], ◌∷◌, length, count_by, slice_index, slice_index_or, Option, Some, None, option_map}
 use Rattle.std.specs.Int.{int_min, int_max}
-use Rattle.std.specs.List.{cons_option, list_any, slice_get}
+use Rattle.std.specs.List.{cons_option, list_any}
 use Rattle.ptp_units.specs.Moment.{Stamp, stamp_of}
 use Rattle.ptp_units.specs.Sequence.{ahead}
 use Rattle.statistics.specs.declared.flow.Sent.{Sent}

@@ -1,4 +1,3 @@
-use Rattle.std.proofs.Common.{sym, ◌∙◌}
 use Rattle.datagram_source.specs.Datagram.{datagram_of}
 use Rattle.capture_extract.proofs.Messages.{read_is}
 use Rattle.capture_extract.proofs.header.read_listed.Goals as goal

@@ -1,6 +1,5 @@
-use Rattle.std.proofs.Common.{◌≡◌, ◌∙◌, ℕ, List, length, cond, Option, Some, option_map, sym, ap}
+use Rattle.std.proofs.Common.{◌∙◌, ℕ, List, length, cond, Option, Some, option_map, sym, ap}
 use Rattle.std.specs.Str.{bytes_eq}
-use Rattle.capture_file.specs.Packet.{InterfaceOf}
 use Rattle.capture_extract.specs.Table.{index_of, is_alike_by}
 use Rattle.capture_extract.proofs.Names.{named_more}
 use Rattle.capture_extract.proofs.interfaces.Interfaces.note.Goals as goal

@@ -1,5 +1,5 @@
 use Rattle.std.proofs.Common.{◌≡◌, ◌∙◌, ℤ, Some, Option, sym, ap}
-use Rattle.ptp_units.specs.Moment.{Stamp, stamp_of}
+use Rattle.ptp_units.specs.Moment.{stamp_of}
 use Rattle.statistics.specs.Cases.{first_of}
 use Rattle.capture_extract.specs.Row.{lesser, greater}
 use Rattle.capture_extract.proofs.Counts.{first_stays}

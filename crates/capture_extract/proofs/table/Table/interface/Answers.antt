@@ -1,4 +1,4 @@
-use Rattle.std.proofs.Common.{◌≡◌, ◌∙◌, None, length, refl, sym}
+use Rattle.std.proofs.Common.{◌≡◌, ◌∙◌, None, length, sym}
 use Rattle.capture_file.specs.Packet.{interface_of}
 use Rattle.capture_extract.specs.Table.{index_of}
 use Rattle.capture_extract.proofs.Rows.{same_count}
