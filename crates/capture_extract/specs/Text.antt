@@ -1,6 +1,7 @@
 -- What cells of a row show, and the sentences below the rows.
-use Rattle.std.specs.Prelude.{◌≡◌, ℕ, ◌==◌, ℤ, pos, ◌*ℤ◌, if◌then◌else◌, List, [], ◌∷◌, ◌++◌, codes, Option, Some, None}
+use Rattle.std.specs.Prelude.{◌≡◌, ℕ, zero, suc, ◌==◌, Bool, false, take, slice_index_or, ℤ, pos, ◌*ℤ◌, if◌then◌else◌, List, [], ◌∷◌, ◌++◌, codes, Option, Some, None}
 use Rattle.std.specs.Fmt.{decimal}
+use Rattle.std.specs.List.{list_any}
 use Rattle.ptp_units.specs.Interval.{exact}
 use Rattle.ptp_units.specs.Nanoseconds.{nanoseconds_text}
 use Rattle.statistics.specs.Wide.{at_most}
@@ -31,6 +32,18 @@ correction_text_by None = codes "too big"
 
 abbrev pub correction_text : ℤ → List ℕ
 correction_text units = correction_text_by (exact units)
+
+-- one of the minor versions, if it was met, with a comma where one was met before it
+abbrev pub version_text : List Bool → (minor : ℕ) → List ℕ
+version_text met minor =
+    if slice_index_or met minor false
+    then (if list_any (λ is. is) (take minor met) then codes "," else []) ++ codes "2." ++ decimal minor
+    else []
+
+-- the first so many
+abbrev pub versions_text : (count : ℕ) → List Bool → List ℕ
+versions_text zero met = []
+versions_text (suc minor) met = versions_text minor met ++ version_text met minor
 
 -- a dash where there is no value
 abbrev pub or_dash : {A : Type 0} → (A → Option (List ℕ)) → Option A → Option (List ℕ)

@@ -1,9 +1,10 @@
 //! A row of the table: messages of one kind.
-ghost use Rattle.std.specs.Prelude.{◌≡◌, List, [], ◌∷◌, Some};
+ghost use Rattle.std.specs.Prelude.{◌≡◌, ◌<◌, List, [], ◌∷◌, Some, codes, if◌then◌else◌, length};
+ghost use Rattle.std.specs.List.{list_any};
 ghost use Rattle.std.specs.Int.{int_max, int_min};
 ghost use Rattle.capture_extract.specs.declared.header.Listed.{Listed};
 ghost use Rattle.datagram_text.specs.Shown.{stamp_text};
-ghost use Rattle.capture_extract.specs.Text.{correction_text};
+ghost use Rattle.capture_extract.specs.Text.{correction_text, version_text, versions_text};
 ghost use Rattle.capture_extract.specs.Row.{AreCounts, IsRow, is_far, is_two_step, sent_by};
 
 use crate::header::Listed;
@@ -41,14 +42,52 @@ pub(crate) struct Versions {
     met: [bool; 16],
 }
 
-impl Display for Versions {
+/// One of the minor versions, if it was met, with a comma where one was met before it.
+#[derive(Clone, Copy)]
+struct Version<'a> {
+    met: &'a [bool],
+    minor: usize,
+    ghost within: { minor < length met.now },
+}
+
+/// Whether any of these versions was met.
+fn is_any_met(before: &[bool]) -> bool
+    ensures { result ≡ list_any (λ met. met) before.now }
+{
+    before.iter().any(|met| *met)
+}
+
+/// What stands before a version, behind those that were met.
+fn separator(before: &[bool]) -> &'static str
+    ensures { result.now ≡ (if list_any (λ met. met) before.now then codes "," else []) }
+{
+    if is_any_met(before) { "," } else { "" }
+}
+
+impl Display for Version<'_> {
+    ghost output = { λ version. Some (version_text version.met.now version.minor) };
+
     fn fmt<W: fmt::Write>(&self, f: &mut Formatter<W>) -> fmt::Result {
-        let mut separator = "";
-        for (minor, met) in self.met.iter().enumerate() {
-            if *met {
-                write!(f, "{separator}2.{minor}")?;
-                separator = ",";
-            }
+        if !self.met[self.minor] {
+            return Ok(());
+        }
+        write!(f, "{}2.{}", separator(&self.met[..self.minor]), self.minor)
+    }
+}
+
+impl Display for Versions {
+    ghost output = { λ versions. Some (versions_text 16 versions.met) };
+
+    fn fmt<W: fmt::Write>(&self, f: &mut Formatter<W>) -> fmt::Result {
+        for minor in 0..16 {
+            write!(
+                f,
+                "{}",
+                Version {
+                    met: &self.met,
+                    minor
+                }
+            )?;
         }
         Ok(())
     }

@@ -13,7 +13,7 @@ use Rattle.capture_extract.specs.declared.row.Row.{Row}
 use Rattle.capture_extract.specs.declared.row.RowKey.{RowKey}
 use Rattle.capture_extract.specs.declared.text.Measured.{Measured}
 use Rattle.capture_extract.specs.Message.{has_steps}
-use Rattle.capture_extract.specs.Text.{correction_text, or_dash, type_text}
+use Rattle.capture_extract.specs.Text.{correction_text, or_dash, type_text, versions_text}
 
 -- the texts of cells
 abbrev pub texts : Cells → List (List ℕ)
@@ -39,7 +39,7 @@ steps_cell message count = Some (if has_steps message then decimal count else co
 abbrev pub interval_cell : Signed → Option (List ℕ)
 interval_cell mean = Some (milliseconds_text (milliseconds_of_thousandths mean))
 
--- the cells of a row, whose intervals have this mean
+-- the cells of a row, whose intervals have this mean; the texts of an interface and of a stream are left open
 abbrev pub row_cells : (mean : Option Signed) → RowKey → Row → List (Option (List ℕ))
 row_cells mean key row =
     None ∷ None
@@ -52,7 +52,7 @@ row_cells mean key row =
     ∷ or_dash interval_cell mean
     ∷ steps_cell key.message row.one_step
     ∷ steps_cell key.message row.two_step
-    ∷ None
+    ∷ Some (versions_text 16 row.versions.met)
     ∷ Some (stamp_text row.first)
     ∷ Some (stamp_text row.last)
     ∷ Some (correction_text row.least.0)

@@ -46,7 +46,7 @@ returns c = (
                         told _ _ _ _ c.steps-2.ensures c.in_ok-push-11.ensures,
                         (
                           texts c.push-12.new.self,
-                          tt,
+                          c.in_ok-push-12.ensures,
                           (
                             texts c.push-13.new.self,
                             c.in_ok-push-13.ensures,
