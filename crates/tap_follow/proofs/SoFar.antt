@@ -73,10 +73,10 @@ figures-known c task held result at is told =
     (subst (AreFigures (crossings_in f c.met)) (sym told) follows.figures)
 
 pub none-unknown : (c : Course) (task : Holding) → IsFollower task c
-    → ((held : Held) → task.following ≡ Some held → ⊥) → crossings_so_far c ≡ []
+    → ((held : Held) → task.following ≡ Some held → ⊥) → c.followed ≡ None
 none-unknown c task at never =
     let (unknown, nothing, known, keeps, empty) = unknown_of c task at never in
-    rw unknown refl
+    unknown
 
 untold-held : (kind : Kind) (form : Form) (f : Followed) (met : List Met) (held : Held) → IsFollowing form f met held
     → AreUntold (outcomes_in kind f met) (untold_of kind held)

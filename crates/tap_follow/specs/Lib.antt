@@ -10,4 +10,7 @@ pub mod Input
 pub mod Told
 pub mod OneAnswer
 pub mod Summed
+pub mod Ending
+pub mod Words
+pub mod Whom
 pub mod Inner

@@ -1,198 +1,305 @@
 //! What crossings come to, for people.
+ghost use Rattle.std.specs.Prelude.{Some};
+ghost use Rattle.tap_follow.specs.Words.{numbers_text, median_text, spread_text, crossed_text, kind_text, meaning_text, rate_text};
+ghost use Rattle.tap_follow.specs.Words.{greater_text, values_text, too_text, reads_text, asymmetry_text, mean_text};
 
-use statistics::{Growth, RECENT_MOST, Thousandths};
+use crate::ending::KindEnding;
+use crate::names::{Many, Tap};
+use crate::nanoseconds::{HalfSize, Median, Rounded, Units, Word};
+use statistics::{Growth, Middle, RECENT_MOST};
 use std::fmt;
 use std::fmt::{Display, Formatter};
-use std::io::Write;
+use tap_choice::TapName;
 use tap_crossing::Kind;
-use tap_sums::{Changed, Figures, Quantity, Spread, Statistics, Sums, Ways};
+use tap_sums::Spread;
 
-/// Halves of 2^-16 ns of a nanosecond.
-const NANOSECOND: u128 = 131_072;
-
-/// A number of halves of 2^-16 ns, which shows as nanoseconds, rounded to a thousandth.
+/// What the numbers below are of.
 #[derive(Clone, Copy)]
-pub(crate) struct Rounded(pub(crate) i128);
+struct Numbers(u64);
 
-impl Display for Rounded {
+#[tactic(auto, unfolding(crate::specs::Words::numbers_text))]
+impl Display for Numbers {
+    ghost output = { λ count. Some (numbers_text count.0) };
+
     fn fmt<W: fmt::Write>(&self, f: &mut Formatter<W>) -> fmt::Result {
-        let size = self.0.unsigned_abs();
-        let parts = (size % NANOSECOND * 1000 + NANOSECOND / 2) / NANOSECOND;
-        let whole = size / NANOSECOND + parts / 1000;
-        let sign = if self.0 < 0 && whole + parts > 0 {
-            "-"
-        } else {
-            ""
+        match self.0 {
+            0 => Ok(()),
+            count if count > RECENT_MOST as u64 => {
+                f.write_str("; in ns, rounded, medians of the last 4096:")
+            }
+            _ => f.write_str("; in ns, rounded:"),
+        }
+    }
+}
+
+/// How many messages of a kind crossed, from its first tap to its second.
+#[derive(Clone, Copy)]
+struct CrossedLine {
+    kind: Kind,
+    count: u64,
+    first: TapName,
+    second: TapName,
+}
+
+#[tactic(auto, unfolding(crate::specs::Words::crossed_text))]
+impl Display for CrossedLine {
+    ghost output = { λ x. Some (crossed_text x.kind x.count x.first x.second) };
+
+    fn fmt<W: fmt::Write>(&self, f: &mut Formatter<W>) -> fmt::Result {
+        let many = Many {
+            kind: self.kind,
+            count: self.count,
         };
-        write!(f, "{sign}{whole}.{:03}", parts % 1000)
+        write!(
+            f,
+            "ptpx: {many} crossed from {} to {}{}\n",
+            Tap(self.first),
+            Tap(self.second),
+            Numbers(self.count)
+        )
     }
 }
 
-/// A number of units of 2^-16 ns, which shows so.
-pub(crate) fn of_units(units: i128) -> Rounded {
-    Rounded(units.saturating_mul(2))
-}
+/// A median, where there is one.
+#[derive(Clone, Copy)]
+struct MedianPart(Option<Middle>);
 
-/// The median of what the last crossings of a kind have, where there is memory to find it.
-fn median_of(figures: Option<&Figures>, kind: Kind, quantity: Quantity) -> Option<Rounded> {
-    let Some(figures) = figures else {
-        return None;
-    };
-    match figures.median(kind, quantity) {
-        Ok(Some(middle)) => Some(Rounded(middle.lower.saturating_add(middle.upper))),
-        Ok(None) | Err(_) => None,
+#[tactic(auto, unfolding(crate::specs::Words::median_text))]
+impl Display for MedianPart {
+    ghost output = { λ median. Some (median_text median.0) };
+
+    fn fmt<W: fmt::Write>(&self, f: &mut Formatter<W>) -> fmt::Result {
+        match self.0 {
+            Some(middle) => write!(f, ", median {}", Median(middle)),
+            None => Ok(()),
+        }
     }
 }
 
-/// Tells the least, the median, the mean and the greatest.
-fn tell_spread<E: Write>(
-    name: &str,
+/// The mean and the greatest.
+#[derive(Clone, Copy)]
+struct Greater(Spread);
+
+#[tactic(auto, unfolding(crate::specs::Words::greater_text))]
+impl Display for Greater {
+    ghost output = { λ spread. Some (greater_text spread.0) };
+
+    fn fmt<W: fmt::Write>(&self, f: &mut Formatter<W>) -> fmt::Result {
+        write!(
+            f,
+            ", mean {}, greatest {}",
+            Units(self.0.mean),
+            Units(self.0.greatest)
+        )
+    }
+}
+
+/// The least, the median, the mean and the greatest.
+#[derive(Clone, Copy)]
+struct Values {
+    spread: Spread,
+    median: Option<Middle>,
+}
+
+#[tactic(auto, unfolding(crate::specs::Words::values_text))]
+impl Display for Values {
+    ghost output = { λ values. Some (values_text values.spread values.median) };
+
+    fn fmt<W: fmt::Write>(&self, f: &mut Formatter<W>) -> fmt::Result {
+        let (median, greater) = (MedianPart(self.median), Greater(self.spread));
+        write!(f, "least {}{median}{greater}", Units(self.spread.least))
+    }
+}
+
+/// These with their name, where there are any.
+#[derive(Clone, Copy)]
+struct SpreadLine {
+    name: &'static str,
     spread: Option<Spread>,
-    median: Option<Rounded>,
-    errors: &mut E,
-) {
-    let Some(spread) = spread else {
-        return;
-    };
-    let _ = write!(errors, "ptpx:   {name}: least {}", of_units(spread.least));
-    if let Some(median) = median {
-        let _ = write!(errors, ", median {median}");
-    }
-    let _ = writeln!(
-        errors,
-        ", mean {}, greatest {}",
-        of_units(spread.mean),
-        of_units(spread.greatest)
-    );
+    median: Option<Middle>,
 }
 
-/// Tells what the crossings of a kind come to.
-fn tell_statistics<E: Write>(
-    statistics: &Statistics,
-    figures: Option<&Figures>,
-    first: &str,
-    second: &str,
-    errors: &mut E,
-) {
-    let (one, more) = match statistics.kind {
-        Kind::Sync => ("Sync", "Syncs"),
-        Kind::DelayReq => ("Delay_Req", "Delay_Reqs"),
-    };
-    let _ = match statistics.count {
-        0 => writeln!(errors, "ptpx: no {one} crossed from {first} to {second}"),
-        1 => writeln!(
-            errors,
-            "ptpx: 1 {one} crossed from {first} to {second}; in ns, rounded:"
-        ),
-        count if count > RECENT_MOST as u64 => writeln!(
-            errors,
-            "ptpx: {count} {more} crossed from {first} to {second}; in ns, rounded, medians of the last {RECENT_MOST}:"
-        ),
-        count => writeln!(
-            errors,
-            "ptpx: {count} {more} crossed from {first} to {second}; in ns, rounded:"
-        ),
-    };
-    for (name, spread, quantity) in [
-        ("taken", statistics.taken, Quantity::Taken),
-        ("corrected", statistics.corrected, Quantity::Corrected),
-        ("rest", statistics.rest, Quantity::Rest),
-    ] {
-        let median = median_of(figures, statistics.kind, quantity);
-        tell_spread(name, spread, median, errors);
+#[tactic(auto, unfolding(crate::specs::Words::spread_text))]
+impl Display for SpreadLine {
+    ghost output = { λ line. Some (spread_text line.name.now line.spread line.median) };
+
+    fn fmt<W: fmt::Write>(&self, f: &mut Formatter<W>) -> fmt::Result {
+        let Some(spread) = self.spread else {
+            return Ok(());
+        };
+        let values = Values {
+            spread,
+            median: self.median,
+        };
+        write!(f, "ptpx:   {}: {values}\n", self.name)
     }
 }
 
-/// Tells how much the rests of Syncs grow with their corrections, by least squares. What can't be written is lost.
-fn tell_rate<E: Write>(growth: &Growth, errors: &mut E) {
-    let meaning = if !growth.explains_half {
-        "less than half of how it varies: stamps or the load of a clock are a likelier reason than its rate"
-    } else if growth.rate.is_negative {
-        "half of how it varies, or more: by so much a clock between the taps tells its residences too long, where its rate is the \
-         reason"
-    } else {
-        "half of how it varies, or more: by so much a clock between the taps tells its residences too short, where its rate is the \
-         reason"
-    };
-    let _ = writeln!(
-        errors,
-        "ptpx: rate: rest of Syncs grows by {} ppm of corrected, by least squares (rounded), which explains {meaning}",
-        Thousandths(growth.rate)
-    );
+/// What the crossings of a kind come to, from its first tap to its second.
+#[derive(Clone, Copy)]
+pub(crate) struct KindLines {
+    pub(crate) kind: KindEnding,
+    pub(crate) first: TapName,
+    pub(crate) second: TapName,
 }
 
-/// Tells how many messages had other fields changed between the taps than their corrections, if any had. What can't be written
-/// is lost.
-fn tell_changed<E: Write>(changed: &Changed, errors: &mut E) {
-    let messages = match changed.messages {
-        0 => return,
-        1 => "message",
-        _ => "messages",
-    };
-    let _ = write!(
-        errors,
-        "ptpx: in {} {messages} fields other than correctionField differ between the taps",
-        changed.messages
-    );
-    let mut mark = ':';
-    for (field, count) in [
-        ("sdoId", changed.sdo),
-        ("minorVersionPTP", changed.minor_version),
-        ("flagField", changed.flags),
-        ("messageTypeSpecific", changed.specific),
-        ("controlField", changed.control),
-        ("logMessageInterval", changed.log),
-        ("originTimestamp", changed.timestamp),
-    ] {
-        if count > 0 {
-            let _ = write!(errors, "{mark} {field} in {count}");
-            mark = ',';
-        }
-    }
-    let _ = writeln!(errors);
-}
+#[tactic(auto, unfolding(crate::specs::Words::kind_text))]
+impl Display for KindLines {
+    ghost output = { λ lines. Some (kind_text lines.kind lines.first lines.second) };
 
-/// Tells what the crossings of both kinds come to, in lines. What can't be written is lost.
-pub(crate) fn tell_figures<E: Write>(
-    sums: &Sums,
-    figures: Option<&Figures>,
-    from: &str,
-    to: &str,
-    errors: &mut E,
-) {
-    tell_statistics(&sums.statistics(Kind::Sync), figures, from, to, errors);
-    tell_statistics(&sums.statistics(Kind::DelayReq), figures, to, from, errors);
-    if let Some(figures) = figures {
-        let ways = Ways::new(sums, figures);
-        if let Some(rate) = ways.told_rate() {
-            tell_rate(&rate, errors);
-        }
-        if let Some(asymmetry) = ways.told_asymmetry() {
-            tell_asymmetry(asymmetry, to, errors);
-        }
-        if let Some(mean) = ways.told_mean_rest() {
-            tell_mean(mean, errors);
-        }
-        tell_changed(&figures.changed, errors);
+    fn fmt<W: fmt::Write>(&self, f: &mut Formatter<W>) -> fmt::Result {
+        let KindEnding {
+            statistics,
+            taken,
+            corrected,
+            rest,
+            ..
+        } = self.kind;
+        let crossed = CrossedLine {
+            kind: statistics.kind,
+            count: statistics.count,
+            first: self.first,
+            second: self.second,
+        };
+        let taken = SpreadLine {
+            name: "taken",
+            spread: statistics.taken,
+            median: taken,
+        };
+        let corrected = SpreadLine {
+            name: "corrected",
+            spread: statistics.corrected,
+            median: corrected,
+        };
+        let rest = SpreadLine {
+            name: "rest",
+            spread: statistics.rest,
+            median: rest,
+        };
+        write!(f, "{crossed}{taken}{corrected}{rest}")
     }
 }
 
-/// Tells the asymmetry and what it means. What can't be written is lost.
-fn tell_asymmetry<E: Write>(asymmetry: i128, to: &str, errors: &mut E) {
-    let size = Rounded(asymmetry.saturating_abs());
-    let which = if asymmetry < 0 { "low" } else { "high" };
-    let _ = writeln!(
-        errors,
-        "ptpx: asymmetry {} ns. If both taps share a clock, a slave behind {to} reads offsets {size} ns too {which}",
-        of_units(asymmetry)
-    );
+/// What a rate means.
+#[derive(Clone, Copy)]
+struct Meaning(Growth);
+
+#[tactic(auto, unfolding(crate::specs::Words::meaning_text))]
+impl Display for Meaning {
+    ghost output = { λ growth. Some (meaning_text growth.0) };
+
+    fn fmt<W: fmt::Write>(&self, f: &mut Formatter<W>) -> fmt::Result {
+        f.write_str(if !self.0.explains_half {
+            "less than half of how it varies: stamps or the load of a clock are a likelier reason than its rate"
+        } else if self.0.rate.is_negative {
+            "half of how it varies, or more: by so much a clock between the taps tells its residences too long, where its rate is the \
+             reason"
+        } else {
+            "half of how it varies, or more: by so much a clock between the taps tells its residences too short, where its rate is the \
+             reason"
+        })
+    }
 }
 
-/// Tells the mean rest of both directions. What can't be written is lost.
-fn tell_mean<E: Write>(mean: i128, errors: &mut E) {
-    let _ = writeln!(
-        errors,
-        "ptpx: mean rest of both directions, in which the difference of the taps' clocks cancels: {} ns",
-        of_units(mean)
-    );
+/// How much the rests of Syncs grow with their corrections, by least squares, where that is told.
+#[derive(Clone, Copy)]
+pub(crate) struct RateLine(pub(crate) Option<Growth>);
+
+#[tactic(auto, unfolding(crate::specs::Words::rate_text))]
+impl Display for RateLine {
+    ghost output = { λ line. Some (rate_text line.0) };
+
+    fn fmt<W: fmt::Write>(&self, f: &mut Formatter<W>) -> fmt::Result {
+        let Some(growth) = self.0 else {
+            return Ok(());
+        };
+        write!(
+            f,
+            "ptpx: rate: rest of Syncs grows by {} ppm of corrected, by least squares (rounded), which explains {}\n",
+            Rounded(growth.rate),
+            Meaning(growth)
+        )
+    }
+}
+
+/// By how much a slave reads offsets too low or too high.
+#[derive(Clone, Copy)]
+struct Too(i128);
+
+#[tactic(auto, unfolding(crate::specs::Words::too_text))]
+impl Display for Too {
+    ghost output = { λ asymmetry. Some (too_text asymmetry.0) };
+
+    fn fmt<W: fmt::Write>(&self, f: &mut Formatter<W>) -> fmt::Result {
+        let which = Word {
+            asymmetry: self.0,
+            below: "low",
+            above: "high",
+        };
+        write!(f, "{} ns too {which}", HalfSize(self.0))
+    }
+}
+
+/// What an asymmetry does to a slave.
+#[derive(Clone, Copy)]
+struct Reads {
+    to: TapName,
+    asymmetry: i128,
+}
+
+#[tactic(auto, unfolding(crate::specs::Words::reads_text))]
+impl Display for Reads {
+    ghost output = { λ x. Some (reads_text x.to x.asymmetry) };
+
+    fn fmt<W: fmt::Write>(&self, f: &mut Formatter<W>) -> fmt::Result {
+        write!(
+            f,
+            "If both taps share a clock, a slave behind {} reads offsets {}",
+            Tap(self.to),
+            Too(self.asymmetry)
+        )
+    }
+}
+
+/// The asymmetry and what it means, where that is told.
+#[derive(Clone, Copy)]
+pub(crate) struct AsymmetryLine {
+    pub(crate) asymmetry: Option<i128>,
+    pub(crate) to: TapName,
+}
+
+#[tactic(auto, unfolding(crate::specs::Words::asymmetry_text))]
+impl Display for AsymmetryLine {
+    ghost output = { λ line. Some (asymmetry_text line.asymmetry line.to) };
+
+    fn fmt<W: fmt::Write>(&self, f: &mut Formatter<W>) -> fmt::Result {
+        let Some(asymmetry) = self.asymmetry else {
+            return Ok(());
+        };
+        let reads = Reads {
+            to: self.to,
+            asymmetry,
+        };
+        write!(f, "ptpx: asymmetry {} ns. {reads}\n", Units(asymmetry))
+    }
+}
+
+/// The mean rest of both directions, where that is told.
+#[derive(Clone, Copy)]
+pub(crate) struct MeanLine(pub(crate) Option<i128>);
+
+#[tactic(auto, unfolding(crate::specs::Words::mean_text))]
+impl Display for MeanLine {
+    ghost output = { λ line. Some (mean_text line.0) };
+
+    fn fmt<W: fmt::Write>(&self, f: &mut Formatter<W>) -> fmt::Result {
+        let Some(mean) = self.0 else {
+            return Ok(());
+        };
+        write!(
+            f,
+            "ptpx: mean rest of both directions, in which the difference of the taps' clocks cancels: {} ns\n",
+            Units(mean)
+        )
+    }
 }

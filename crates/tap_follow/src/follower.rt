@@ -1,5 +1,5 @@
 //! Messages from the first on: kept until it is known which of them are followed, and then followed.
-ghost use Rattle.std.specs.Prelude.{◌≡◌, ◌==◌, ◌++◌, ◌∷◌, List, [], OnOk, MatchOption, reverse};
+ghost use Rattle.std.specs.Prelude.{◌≡◌, ◌==◌, ◌++◌, ◌∷◌, List, OnOk, MatchOption, reverse};
 ghost use Rattle.std.specs.String.{string_bytes};
 ghost use Rattle.tap_choice.specs.Sides.{lacks_tap};
 ghost use Rattle.tap_follow.specs.Followed.{slave_in};
@@ -181,7 +181,7 @@ impl Follower {
     /// What people are told of the crossings so far beside their sums, once it is known which messages are followed.
     pub fn figures(&self) -> Option<&Figures>
         ensures { (c : Course) → IsFollower self.now c
-            → MatchOption result (crossings_so_far c ≡ []) (λ figures. AreFigures (crossings_so_far c) figures.now) }
+            → MatchOption result (c.followed ≡ None) (λ figures. AreFigures (crossings_so_far c) figures.now) }
     {
         match &self.following {
             Some(following) => Some(following.figures()),

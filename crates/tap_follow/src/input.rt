@@ -5,8 +5,10 @@ ghost use Rattle.text_lines.specs.Counted.{device_of};
 ghost use Rattle.datagram_source.specs.Input.{OutcomeFailed};
 ghost use Rattle.tap_follow.specs.Rules.{follow_rules};
 ghost use Rattle.tap_follow.specs.Input.{FollowsInput, head_text};
-ghost use Rattle.tap_follow.specs.Told.{TellsInput};
+ghost use Rattle.tap_follow.specs.Ending.{unit_of};
+ghost use Rattle.tap_follow.specs.Told.{TellsInput, unit_told};
 
+use crate::ending::InputUnit;
 use crate::fault::FollowFault;
 use crate::following::Form;
 use crate::summary::Summary;
@@ -38,6 +40,7 @@ pub fn follow<R: Read, W: Write, E: Write>(
         input.old input.new output.old output.new }
     ensures summary { ForSome (R.remaining (device_of input.old)) (λ octets.
         TellsInput form wanted.now octets result.0 result.1) }
+    ensures unit { unit_told result.1 ≡ unit_of result.0 }
     ensures failures { OutcomeFailed follow_rules result.0 input.old input.new output.old output.new }
 {
     let task = Taking::new(alloc, wanted, form);
@@ -49,7 +52,18 @@ pub fn follow<R: Read, W: Write, E: Write>(
         output,
         errors,
     );
-    (outcome, Summary::new(taking, packets))
+    let unit = unit_of(&outcome);
+    (outcome, Summary::new(taking, unit, packets))
+}
+
+/// What an input has, by what came of it.
+fn unit_of(outcome: &InputOutcome<FollowFault>) -> InputUnit
+    ensures { result ≡ unit_of outcome.now }
+{
+    match outcome {
+        InputOutcome::Lines(_) => InputUnit::Line,
+        InputOutcome::Capture(_) => InputUnit::Packet,
+    }
 }
 
 /// What goes out before anything is read.

@@ -3,6 +3,8 @@
 #![tactic(auto)]
 
 mod beware;
+mod changes;
+mod ending;
 mod fault;
 mod figures;
 mod followed;
@@ -11,14 +13,19 @@ mod following;
 mod input;
 pub mod laws;
 mod lost;
+mod names;
+mod nanoseconds;
 mod summary;
 mod tap;
 mod task;
 mod told;
+mod whom;
 
+pub use ending::{Ending, InputUnit, KindEnding};
 pub use fault::FollowFault;
 pub use followed::Followed;
 pub use follower::{Arrival, Follower};
 pub use following::Form;
 pub use input::follow;
+pub use lost::Lost;
 pub use summary::Summary;

@@ -1,29 +1,33 @@
 //! What is told of an input beside its crossings.
-ghost use Rattle.std.specs.Prelude.{◌≡◌, MatchResult};
+ghost use Rattle.std.specs.Prelude.{◌≡◌, IfSome, OnOk, MatchResult};
 ghost use Rattle.text_lines.specs.Counted.{device_of, HasNotFailed, HasFailedIf};
+ghost use Rattle.tap_sums.specs.Figures.{AreFigures};
 ghost use Rattle.tap_sums.specs.Untold.{AreUntold};
 ghost use Rattle.tap_sums.specs.Held.{AreSums};
 ghost use Rattle.tap_choice.specs.Sides.{lacks_tap};
 ghost use Rattle.tap_follow.specs.Course.{Course};
 ghost use Rattle.tap_follow.specs.SoFar.{followed_so_far, crossings_so_far, open_so_far, outcomes_so_far};
-ghost use Rattle.tap_follow.specs.Told.{IsSummaryOf, kept_in};
+ghost use Rattle.tap_follow.specs.Ending.{open_in, alone_in, unanswered_in, lost_in, IsMedianOf, IsKindEnding, IsEnding};
+ghost use Rattle.tap_follow.specs.Told.{IsSummaryOf, TellsEnd, kept_in, unit_told};
 ghost use Rattle.tap_follow.specs.Fault.{is_write};
 ghost use Rattle.tap_follow.specs.Summed.{WritesSums};
 
-use crate::beware::tell_bewares;
+use crate::ending::{Ending, InputUnit, KindEnding};
 use crate::fault::FollowFault;
-use crate::figures::tell_figures;
 use crate::followed::Followed;
 use crate::follower::Follower;
-use crate::lost::{tell_lost, tell_untold};
+use crate::lost::Lost;
 use crate::task::Taking;
 use crate::told::Told;
+use crate::whom::TapsLine;
 use datagram_source::PacketCounts;
+use statistics::Middle;
 use std::alloc::Global;
+use std::io;
 use std::io::Write;
 use tap_choice::Sides;
 use tap_crossing::{Filled, Kind};
-use tap_sums::{Sums, Untold, push_sums};
+use tap_sums::{Figures, Quantity, Sums, Untold, Ways, push_sums};
 use text_lines::{Counted, write_text};
 
 /// What is told of an input beside its crossings.
@@ -31,18 +35,21 @@ use text_lines::{Counted, write_text};
 pub struct Summary {
     follower: Follower,
     told: Told,
+    unit: InputUnit,
     /// Of a capture.
     packets: Option<PacketCounts>,
 }
 
 impl Summary {
     /// What is left of what followed and was told, and of a capture how many packets there were.
-    pub(crate) fn new(taking: Taking, packets: Option<PacketCounts>) -> Summary
-        ensures { kept_in result ≡ taking.follower }
+    pub(crate) fn new(taking: Taking, unit: InputUnit, packets: Option<PacketCounts>) -> Summary
+        ensures follower { kept_in result ≡ taking.follower }
+        ensures unit { unit_told result ≡ unit }
     {
         Summary {
             follower: taking.follower,
             told: taking.told,
+            unit,
             packets,
         }
     }
@@ -126,63 +133,123 @@ impl Summary {
         write_text(text.as_str(), output)
     }
 
-    /// Tells the summary, in lines, but for what was told before. What can't be written is lost.
+    /// How many open records of a kind have these places filled and no other: the event message at its two taps, and the message that
+    /// belongs to it at `from` and at `to`; 0 where nobody is followed.
+    fn open(&self, kind: Kind, first: bool, second: bool, at_from: bool, at_to: bool) -> u64
+        ensures { (c : Course) → IsSummaryOf c self.now → result ≡ open_in kind first second at_from at_to c }
+    {
+        let filled = Filled {
+            first,
+            second,
+            at_from,
+            at_to,
+        };
+        self.open_records(kind, filled).unwrap_or(0)
+    }
+
+    /// How many open records of a kind have the event message just at these taps, whatever else they have.
+    fn alone(&self, kind: Kind, first: bool, second: bool) -> u64
+        ensures { (c : Course) → IsSummaryOf c self.now → result ≡ alone_in kind first second c }
+    {
+        let none = self.open(kind, first, second, false, false);
+        let at_to = self.open(kind, first, second, false, true);
+        let at_from = self.open(kind, first, second, true, false);
+        let both = self.open(kind, first, second, true, true);
+        none.wrapping_add(at_to)
+            .wrapping_add(at_from)
+            .wrapping_add(both)
+    }
+
+    /// How many open records of a kind have the event message at both taps.
+    fn unanswered(&self, kind: Kind) -> u64
+        ensures { (c : Course) → IsSummaryOf c self.now → result ≡ unanswered_in kind c }
+    {
+        let none = self.open(kind, true, true, false, false);
+        let at_to = self.open(kind, true, true, false, true);
+        let at_from = self.open(kind, true, true, true, false);
+        none.wrapping_add(at_to).wrapping_add(at_from)
+    }
+
+    /// How many messages of a kind were lost.
+    fn lost(&self, kind: Kind) -> Lost
+        ensures { (c : Course) → IsSummaryOf c self.now → result ≡ lost_in kind c }
+    {
+        Lost {
+            at_first: self.alone(kind, true, false),
+            at_second: self.alone(kind, false, true),
+            unanswered: self.unanswered(kind),
+        }
+    }
+
+    /// What is told of the messages of a kind, by the figures of the crossings.
+    fn kind_ending(&self, kind: Kind, figures: &Figures) -> KindEnding
+        ensures { (c : Course) → IsSummaryOf c self.now → AreFigures (crossings_so_far c) figures.now → IsKindEnding kind c result }
+    {
+        KindEnding {
+            statistics: self.sums().statistics(kind),
+            taken: median_of(figures, kind, Quantity::Taken),
+            corrected: median_of(figures, kind, Quantity::Corrected),
+            rest: median_of(figures, kind, Quantity::Rest),
+            lost: self.lost(kind),
+            untold: self.untold(kind),
+        }
+    }
+
+    /// What is told at the end, where it is known whose messages are followed.
+    pub fn ending(&self) -> Option<Ending>
+        ensures ending { (c : Course) → IsSummaryOf c self.now → IsEnding c result }
+        ensures unit { IfSome result (λ ending. ending.unit ≡ unit_told self.now) }
+    {
+        let followed = self.followed()?;
+        let figures = self.follower.figures()?;
+        let ways = Ways::new(&self.sums(), figures);
+        Some(Ending {
+            unit: self.unit,
+            from: followed.from_name,
+            to: followed.to_name,
+            is_slave_known: followed.watched.slave.is_some(),
+            syncs: self.kind_ending(Kind::Sync, figures),
+            requests: self.kind_ending(Kind::DelayReq, figures),
+            rate: ways.told_rate(),
+            asymmetry: ways.told_asymmetry(),
+            mean_rest: ways.told_mean_rest(),
+            changed: figures.changed,
+            bewares: ways.bewares(),
+        })
+    }
+
+    /// Tells the summary, in lines, but for what was told before: of a capture its packets, and the end. What can't be written is lost.
     pub fn tell<E: Write>(&self, errors: &mut E) {
         if let Some(packets) = &self.packets {
             packets.tell_packets(errors);
         }
-        match self.followed() {
-            Some(followed) => self.tell_followed(&followed, errors),
-            None => self.tell_taps(errors),
-        }
+        let _ = self.tell_end(errors);
     }
 
-    /// Tells what the crossings come to, which messages were lost, of which records nothing is told, and what speaks against all that.
-    fn tell_followed<E: Write>(&self, followed: &Followed, errors: &mut E) {
-        let mut told = self.told;
-        told.tell(&self.follower, errors);
-        let (from, to) = (followed.from_name.text(), followed.to_name.text());
-        if followed.watched.slave.is_none() {
-            let _ = writeln!(errors, "ptpx: no Delay_Req at {to} tells the slave");
-        }
-        tell_figures(&self.sums(), self.follower.figures(), from, to, errors);
-        tell_lost(self, Kind::Sync, from, to, errors);
-        tell_lost(self, Kind::DelayReq, to, from, errors);
-        for kind in [Kind::Sync, Kind::DelayReq] {
-            tell_untold(&self.untold(kind), kind, from, errors);
-        }
-        if let Some(figures) = self.follower.figures() {
-            tell_bewares(&self.sums(), figures, self.unit(), from, to, errors);
-        }
-    }
-
-    /// What lines or packets are called.
-    fn unit(&self) -> &'static str {
-        match &self.packets {
-            Some(_) => "packet",
-            None => "line",
-        }
-    }
-
-    /// Tells what is known where it isn't known which messages are followed.
-    fn tell_taps<E: Write>(&self, errors: &mut E) {
-        let Sides { first, second, .. } = self.taps();
-        let _ = match (first, second) {
-            (Some(first), Some(second)) => {
-                let (first, second) = (first.text(), second.text());
-                writeln!(
-                    errors,
-                    "ptpx: nothing was followed between {first} and {second}: the domain, the master, the slave or the way isn't known"
-                )
+    /// Tells the ending, in lines, behind what of whom is followed wasn't told before; or else what is known of the taps.
+    pub fn tell_end<E: Write>(&self, errors: &mut E) -> io::Result<()>
+        ensures { (c : Course) → IsSummaryOf c self.now → OnOk result
+            (TellsEnd c self.now (E.contents errors.old) (E.contents errors.new)) }
+    {
+        match self.ending() {
+            Some(ending) => {
+                let whom = self.told.untold(&self.followed());
+                write!(errors, "{whom}{ending}")
             }
-            (Some(tap), None) | (None, Some(tap)) => {
-                writeln!(
-                    errors,
-                    "ptpx: nothing was met at another tap than {}",
-                    tap.text()
-                )
+            None => {
+                let Sides { first, second, .. } = self.taps();
+                write!(errors, "{}", TapsLine { first, second })
             }
-            (None, None) => writeln!(errors, "ptpx: nothing was met at a tap"),
-        };
+        }
+    }
+}
+
+/// The two values in the middle of what the last crossings of a kind have, where there are any, and memory to find them.
+fn median_of(figures: &Figures, kind: Kind, quantity: Quantity) -> Option<Middle>
+    ensures { (c : Course) → AreFigures (crossings_so_far c) figures.now → IsMedianOf quantity kind c result }
+{
+    match figures.median(kind, quantity) {
+        Ok(median) => median,
+        Err(_) => None,
     }
 }

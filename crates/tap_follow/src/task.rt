@@ -72,7 +72,7 @@ impl Taking {
         };
         self.text.clear();
         self.follower.take(&met, &mut self.text)?;
-        self.told.tell(&self.follower, errors);
+        let _ = self.told.tell(&self.follower, errors);
         self.write(output)
     }
 
@@ -147,7 +147,7 @@ impl DatagramTask for Taking {
     ) -> Result<(), FollowFault> {
         self.text.clear();
         self.follower.finish(&mut self.text)?;
-        self.told.tell(&self.follower, errors);
+        let _ = self.told.tell(&self.follower, errors);
         self.write(output)
     }
 }

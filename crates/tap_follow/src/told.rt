@@ -1,7 +1,15 @@
 //! Whose messages are followed, told as soon as that is known, and at which taps something was met.
+ghost use Rattle.std.specs.Prelude.{◌≡◌, OnOk};
+ghost use Rattle.std.specs.Io.KnownBytes.{Appends};
+ghost use Rattle.tap_follow.specs.Course.{Course};
+ghost use Rattle.tap_follow.specs.Held.{IsFollower};
+ghost use Rattle.tap_follow.specs.SoFar.{followed_so_far};
+ghost use Rattle.tap_follow.specs.Whom.{whom_text, untold_whom};
 
+use crate::followed::Followed;
 use crate::follower::Follower;
-use datagram_text::Identity;
+use crate::whom::Whom;
+use std::io;
 use std::io::Write;
 use tap_choice::TapName;
 
@@ -65,28 +73,32 @@ impl Told {
         };
     }
 
-    /// Tells, in lines, what is known by now and wasn't told. What can't be written is lost.
-    pub(crate) fn tell<E: Write>(&mut self, follower: &Follower, errors: &mut E) {
-        if self.is_slave_told {
-            return;
-        }
-        let Some(followed) = follower.followed() else {
-            return;
+    /// What is known by now and wasn't told.
+    pub(crate) fn untold(&self, known: &Option<Followed>) -> Whom
+        ensures { result ≡ untold_whom self.now known.now }
+    {
+        let slave = match known {
+            Some(followed) => followed.watched.slave,
+            None => None,
         };
-        if !self.is_way_told {
+        Whom {
+            way: if self.is_way_told { None } else { *known },
+            slave: if self.is_slave_told { None } else { slave },
+        }
+    }
+
+    /// Tells, in lines, what is known by now and wasn't told.
+    pub(crate) fn tell<E: Write>(&mut self, follower: &Follower, errors: &mut E) -> io::Result<()>
+        ensures { (c : Course) → IsFollower follower.now c → OnOk result (Appends (E.contents errors.old) (E.contents errors.new)
+            (whom_text (untold_whom self.old (followed_so_far c)))) }
+    {
+        let whom = self.untold(&follower.followed());
+        if whom.way.is_some() {
             self.is_way_told = true;
-            let (from, to) = (followed.from_name.text(), followed.to_name.text());
-            let _ = writeln!(errors, "ptpx: from {from} to {to}");
-            let _ = writeln!(errors, "ptpx: domain {}", followed.watched.domain);
-            let _ = writeln!(
-                errors,
-                "ptpx: master {}",
-                Identity(&followed.watched.master)
-            );
         }
-        if let Some(slave) = &followed.watched.slave {
+        if whom.slave.is_some() {
             self.is_slave_told = true;
-            let _ = writeln!(errors, "ptpx: slave {}", Identity(slave));
         }
+        write!(errors, "{whom}")
     }
 }

@@ -17,4 +17,4 @@ pub returns-clause-summary : goal.returns-clause-summary
 returns-clause-summary g c = λ octets known.
     let outcome = c.answer_datagrams-outcome in
     subst (λ (kept : Holding). LeavesInput follow_rules (begun c.args.form c.args.wanted.now) octets outcome.result.0 (IsFollower kept))
-    (sym c.new.ensures) (outcome.ensures.left (begun c.args.form c.args.wanted.now) c.new-task.ensures octets known)
+    (sym c.new.ensures.follower) (outcome.ensures.left (begun c.args.form c.args.wanted.now) c.new-task.ensures octets known)
