@@ -11,24 +11,24 @@ use result_audit::{Counts, Totals, Worst};
 use std::fmt;
 use std::fmt::{Display, Formatter};
 
-/// What came of results, and by what they were judged.
+/// What is told of results at the end: what came of them, and by what they were judged. Shows as lines.
 #[derive(Clone, Copy)]
-pub(crate) struct Ending {
-    /// How many were told.
-    pub(crate) results: u64,
+pub struct Ending {
+    /// How many were told: 2^64 - 1 stands for more, too.
+    pub results: u64,
     /// What those come to that were answered.
-    pub(crate) totals: Totals,
+    pub totals: Totals,
     /// How many reports at Syncs have no result.
-    pub(crate) without_result: u64,
+    pub without_result: u64,
     /// Whether a slave's own readings were measured.
-    pub(crate) is_own: bool,
+    pub is_own: bool,
     /// How many datagrams were left aside, once a report was measured. Before that this is told of what was measured.
-    pub(crate) aside: Option<Aside>,
+    pub aside: Option<Aside>,
 }
 
 impl Ending {
     /// Whether a result that was handed out is wrong.
-    pub(crate) fn is_wrong(&self) -> bool
+    pub fn is_wrong(&self) -> bool
         ensures { result ≡ is_wrong self.now }
     {
         self.totals.counts.wrong > 0

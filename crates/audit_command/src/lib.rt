@@ -9,4 +9,5 @@ mod run;
 mod tally;
 mod task;
 
+pub use ending::Ending;
 pub use run::run_audit;

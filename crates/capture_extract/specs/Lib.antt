@@ -1,6 +1,5 @@
 pub mod Line
 pub mod Message
-pub mod Row
 pub mod Table
 pub mod Text
 pub mod Extracted

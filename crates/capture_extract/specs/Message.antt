@@ -31,12 +31,6 @@ type_numbered number =
     else if number == 13 then types.Management
     else types.Reserved number
 
--- twoStepFlag has a meaning in it (table 37)
-abbrev pub has_steps : MessageType → Bool
-has_steps types.Sync = true
-has_steps types.PdelayResp = true
-has_steps _ = false
-
 -- it has a requestingPortIdentity (13.8, 13.10 and 13.11)
 abbrev pub has_requesting : MessageType → Bool
 has_requesting types.DelayResp = true

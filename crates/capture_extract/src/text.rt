@@ -3,12 +3,12 @@ ghost use Rattle.std.specs.Prelude.{◌≡◌, ◌++◌, IfOk, MatchOption, OnOk
 ghost use Rattle.std.specs.Fmt.{decimal};
 ghost use Rattle.std.specs.String.{string_bytes};
 ghost use Rattle.capture_extract.specs.Table.{TableOf};
-ghost use Rattle.capture_extract.specs.Text.{IsTableText, ShowsRows, any_text, or_dash, others_text, quantity_text};
+ghost use Rattle.capture_extract.specs.Text.{IsTableText, ShowsRows, any_text, others_text, quantity_text};
 ghost use Rattle.datagram_text.specs.Shown.{identity_text};
 ghost use Rattle.statistics.specs.Mean.{HasNoMean, IsMean};
 ghost use Rattle.statistics.specs.declared.rounded.Signed.{Signed};
 ghost use Rattle.rounded_text.specs.Rounded.{milliseconds_text};
-ghost use Rattle.capture_extract.specs.Inner.Cells.{AppendsCells, answered, identity_cell, interval_cell, measured_of, measured_text, row_cells, steps_cell, texts};
+ghost use Rattle.capture_extract.specs.Inner.Cells.{AppendsCells, answered, identity_cell, interval_cell, measured_of, measured_text, row_cells, steps_cell, texts, or_dash};
 ghost use Rattle.capture_extract.specs.Inner.Rows.{IsTable};
 
 use crate::cells::Cells;
