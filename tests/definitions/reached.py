@@ -45,7 +45,7 @@ def imports_of(lines):
 
 
 def words_of(text):
-    return WORD.findall(re.sub(r'"[^"\n]*"|--.*', "", text))
+    return WORD.findall(re.sub(r'"(?:[^"\\\n]|\\.)*"|--.*', "", text))
 
 
 def resolved(text, names, files, own):
@@ -97,7 +97,8 @@ def clauses_of(lines):
             in_public_trait = in_trait_impl = in_model = False
         seen = r"^\s*ghost (?:Value|also_owns)\b" if in_model else r"^\s*ghost (?:from_gives|output)\b"
         if (in_model or in_trait_impl) and re.match(seen, line):
-            yield line
+            end = next(it for it in range(number, len(lines)) if lines[it].endswith("};"))
+            yield "\n".join(lines[number:end + 1])
         public = re.match(r'^\s*pub (?:const |extern "C" )?fn ', line)
         if public or ((in_public_trait or in_trait_impl) and re.match(r"^\s*fn ", line)):
             text = "\n".join(head_and_contract(lines[number:]))
