@@ -455,6 +455,10 @@ def tells_readings(read):
     return isinstance(read.said, str) and bool(judge.records(read.octets))
 
 
+# Why own readings are left aside, where what was captured is measured.
+NOT_TAKEN = ", since what was captured is measured, or they are of another slave or domain; --readings own measures a slave's own readings"
+
+
 def left_aside(captured, telling, why):
     """What is told of so many messages that were captured, and of so many that tell readings, and aren't heard."""
     said = ((captured, 'captured message', '', '; --readings capture measures what was captured'), (telling, 'message', ' with own readings', why))
@@ -470,7 +474,7 @@ def by_readings(lines, given):
     telling = [read for read in lines if tells_readings(read)]
     told = [(place, read) for place, read in enumerate(lines) if tells_readings(read)
             and given.domain in (None, read.octets[4]) and (given.slave is None or read.octets[20:28] == given.slave[:8])]
-    as_captured = Heard([], lines, [], left_aside(0, len(telling), "; --readings own measures a slave's own readings"))
+    as_captured = Heard([], lines, [], left_aside(0, len(telling), NOT_TAKEN))
     if given.readings == 'capture' or not told and not given.readings:
         return as_captured
     sentences = []

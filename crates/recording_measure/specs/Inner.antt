@@ -11,3 +11,4 @@ pub mod Stages
 pub mod Counting
 pub mod Task
 pub mod Handing
+pub mod Vain

@@ -19,5 +19,6 @@ pub mod Meetings
 pub mod Announced
 pub mod Counts
 pub mod Aside
+pub mod AsideText
 pub mod Told
 pub mod Inner

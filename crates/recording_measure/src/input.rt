@@ -20,7 +20,8 @@ use crate::places_text::PlacesText;
 use crate::task::MeasureTask;
 use crate::watch::WantedPorts;
 use datagram_source::{InputOutcome, PacketCounts, answer_datagrams};
-use recording_summary::{Counts, Sums, Whom};
+use recording_summary::{Counts, Whom};
+use recording_words::{Ending, InputUnit, Sums, WhomLines};
 use statistics::Ranks;
 use std::alloc::{AllocError, Global};
 use std::fmt::Write as _;
@@ -103,14 +104,14 @@ impl Summary {
             (λ _. HasNotFailed output.old output.new)
             (λ fault. HasFailedIf (is_write fault) output.old output.new) }
     {
-        let sums = Sums {
-            whom: self.whom,
-            counts: &self.counts,
-            offsets: self.offset_ranks(alloc)?,
-            paths: self.path_ranks(alloc)?,
-            places: PlacesText(&self.task.measuring),
-            is_own: self.is_own,
-        };
+        let sums = Sums::of(
+            self.whom,
+            &self.counts,
+            self.offset_ranks(alloc)?,
+            self.path_ranks(alloc)?,
+            PlacesText(&self.task.measuring),
+            self.is_own,
+        );
         let mut text = String::new(alloc);
         write!(text, "{sums}")?;
         text.push('\n')?;
@@ -122,8 +123,10 @@ impl Summary {
         match &self.packets {
             Some(packets) => packets.tell_packets(errors),
             None if self.task.measuring.is_nowhere() && !self.task.is_in_vain() => {
-                self.whom.tell("line", errors);
-                self.counts.tell("line", errors);
+                let unit = InputUnit::Line;
+                let whom = self.whom;
+                let ending = Ending::of(&self.counts, unit);
+                let _ = write!(errors, "{}{ending}", WhomLines { unit, whom });
             }
             None => {}
         }

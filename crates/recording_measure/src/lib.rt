@@ -24,7 +24,7 @@ mod tally;
 mod task;
 mod watch;
 
-pub use aside::Aside;
+pub use aside::{Aside, AsideLines};
 pub use completion::Completion;
 pub use form::Form;
 pub use input::{Summary, measure};

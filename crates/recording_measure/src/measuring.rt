@@ -31,6 +31,7 @@ use crate::watch::{WantedPorts, Watch};
 use datagram_source::{Datagram, Place as MetAt};
 use recording_model::Watched;
 use recording_summary::{Counts, Whom};
+use recording_words::{Ending, WhomLines};
 use std::alloc::{AllocError, Global};
 use std::fmt;
 use std::fmt::{Display, Formatter};
@@ -349,7 +350,8 @@ impl Measuring {
         if self.has_others() {
             let _ = writeln!(errors, "ptpx: measured at {}", recording.place);
         }
-        counts.tell(recording.place.unit(), errors);
+        let ending = Ending::of(counts, recording.place.unit());
+        let _ = write!(errors, "{ending}");
         for (index, other) in recordings.iter().enumerate() {
             if index != measured {
                 let count = self.at_places.at(index);
@@ -375,8 +377,9 @@ impl Measuring {
                 let _ = writeln!(errors, "ptpx: at {}:", recording.place);
             }
             let unit = recording.place.unit();
-            recording.watch.whom().tell(unit, errors);
-            recording.early.counts.tell(unit, errors);
+            let whom = recording.watch.whom();
+            let ending = Ending::of(&recording.early.counts, unit);
+            let _ = write!(errors, "{}{ending}", WhomLines { unit, whom });
             recording.tell_callers(errors);
         }
         if self.recordings.all().iter().any(|it| it.place.has_vlan()) {

@@ -1,11 +1,13 @@
 //! Where datagrams were met, apart from these.
 
-ghost use Rattle.std.specs.Prelude.{◌≡◌, None, IfOk, option_map};
+ghost use Rattle.std.specs.Prelude.{◌≡◌, None, IfOk, option_map, if◌then◌else◌};
 ghost use Rattle.datagram_source.specs.Datagram.{place_of as met_at};
 ghost use Rattle.recording_measure.specs.Places.{name_in, is_same_place};
 ghost use Rattle.recording_measure.specs.Told.{kept_name};
+ghost use Rattle.recording_words.specs.declared.unit.InputUnit.TheVariants.{Line, Packet};
 
 use datagram_source::{Place as MetAt, Stream};
+use recording_words::InputUnit;
 use std::alloc::{AllocError, Global};
 use std::fmt;
 use std::fmt::{Display, Formatter};
@@ -76,9 +78,15 @@ impl Place {
         self.stream.vlan.is_some()
     }
 
-    /// What a datagram that was met here is one of, in words.
-    pub(crate) fn unit(&self) -> &'static str {
-        if self.is_nameless() { "line" } else { "packet" }
+    /// What a datagram that was met here is one of.
+    pub(crate) fn unit(&self) -> InputUnit
+        ensures { result ≡ (if is_same_place (kept_name self.now) None then Line else Packet) }
+    {
+        if self.is_nameless() {
+            InputUnit::Line
+        } else {
+            InputUnit::Packet
+        }
     }
 }
 

@@ -25,6 +25,7 @@ use event_codec::{Header, PortIdentity};
 use ptp_units::ScaledTime;
 use recording_model::Watched;
 use recording_summary::{Callers, Whom};
+use recording_words::{Caller, CallersLine, WhomLines};
 use std::alloc::{AllocError, Global};
 use std::io::Write;
 
@@ -199,11 +200,20 @@ impl Recording {
     /// Tells in lines who sent Syncs and Delay_Reqs, where the master or the slave that is asked for sent no message. What can't be
     /// written is lost.
     pub(crate) fn tell_callers<E: Write>(&self, errors: &mut E) {
+        let Callers { masters, slaves } = self.callers;
         if !self.sought.master {
-            self.callers.tell_masters(errors);
+            let line = CallersLine {
+                caller: Caller::Master,
+                senders: masters,
+            };
+            let _ = write!(errors, "{line}");
         }
         if !self.sought.slave {
-            self.callers.tell_slaves(errors);
+            let line = CallersLine {
+                caller: Caller::Slave,
+                senders: slaves,
+            };
+            let _ = write!(errors, "{line}");
         }
     }
 
@@ -329,7 +339,9 @@ impl Recordings {
     /// Tells in lines whom the datagrams at the place of this index are of, where there is one. What can't be written is lost.
     pub(crate) fn tell_whom<E: Write>(&self, index: usize, errors: &mut E) {
         if let Some(recording) = self.recordings.get(index) {
-            recording.watch.whom().tell(recording.place.unit(), errors);
+            let whom = recording.watch.whom();
+            let unit = recording.place.unit();
+            let _ = write!(errors, "{}", WhomLines { unit, whom });
         }
     }
 

@@ -20,7 +20,7 @@ ghost use Rattle.recording_measure.specs.Fresh.{AreFresh, hands_on};
 ghost use Rattle.recording_measure.specs.Handed.{completions_of};
 ghost use Rattle.recording_measure.specs.Inner.Task.{IsTask, Adds, AddsOwn};
 
-use crate::aside::{Aside, Passed};
+use crate::aside::{Aside, AsideLines, Passed, VainLines};
 use crate::completion::Completion;
 use crate::form::Form;
 use crate::measuring::Measuring;
@@ -32,6 +32,7 @@ use datagram_source::{Datagram, DatagramTask, LineForm, Place, Stamp, message_in
 use event_codec::{Header, PortIdentity, encode};
 use ptp_units::ScaledTime;
 use recording_summary::Counts;
+use recording_words::InputUnit;
 use signaling_codec::{OwnReading, Reading, Readings, Signaling, decode_signaling};
 use std::alloc::{AllocError, Global};
 use std::io::Write;
@@ -104,8 +105,8 @@ impl DatagramTask for MeasureTask {
 /// Says that a slave's own readings are measured, which this datagram is the first to tell. What can't be written is lost.
 fn tell_own<E: Write>(datagram: &Datagram<'_>, errors: &mut E) {
     let unit = match datagram.place {
-        Place::Interface(..) => "packet",
-        Place::Line | Place::Tap(_) => "line",
+        Place::Interface(..) => InputUnit::Packet,
+        Place::Line | Place::Tap(_) => InputUnit::Line,
     };
     let _ = writeln!(
         errors,
@@ -234,11 +235,12 @@ impl MeasureTask {
     pub(crate) fn tell_counts<E: Write>(&self, counts: &Counts, errors: &mut E) {
         let aside = self.aside();
         if self.is_in_vain() {
-            aside.tell_in_vain(errors);
+            let _ = write!(errors, "{}", VainLines(aside));
             return;
         }
         self.measuring.tell(counts, errors);
-        aside.tell(matches!(self.by, By::Own(_)), errors);
+        let is_own = self.is_own();
+        let _ = write!(errors, "{}", AsideLines { aside, is_own });
     }
 
     /// Whether a slave's own readings are asked for, and none came.

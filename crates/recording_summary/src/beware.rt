@@ -129,38 +129,3 @@ pub enum Beware {
     /// All times are of whole microseconds.
     WholeMicroseconds,
 }
-
-impl Beware {
-    /// What programs are told of it: its name.
-    pub(crate) fn name(&self) -> &'static str {
-        match self {
-            Beware::RequestsAtOnce(_) => "requests_at_once",
-            Beware::SyncsAtOnce(_) => "syncs_at_once",
-            Beware::PathsBelow { .. } => "paths_below",
-            Beware::PathsZero { .. } => "paths_zero",
-            Beware::WholeSeconds { .. } => "whole_seconds",
-            Beware::OffsetSteps(_) => "offset_steps",
-            Beware::OffsetIsSetBack(_) => "offset_is_set_back",
-            Beware::OffsetRunsAway(_) => "offset_runs_away",
-            Beware::PathSteps(_) => "path_steps",
-            Beware::SyncsEnd { .. } => "syncs_end",
-            Beware::ReportsEnd { .. } => "reports_end",
-            Beware::Repeated { .. } => "repeated",
-            Beware::OtherMasters => "other_masters",
-            Beware::OtherSlaves => "other_slaves",
-            Beware::OtherDomains => "other_domains",
-            Beware::OutOfOrder(_) => "out_of_order",
-            Beware::OldDelay { .. } => "old_delay",
-            Beware::MissingSyncs(_) => "missing_syncs",
-            Beware::MissingFollowUps(_) => "missing_follow_ups",
-            Beware::MissingRequests(_) => "missing_requests",
-            Beware::MissingResponses(_) => "missing_responses",
-            Beware::CorrectedRequests(_) => "corrected_requests",
-            Beware::MasterAnew(_) => "master_anew",
-            Beware::SlaveAnew(_) => "slave_anew",
-            Beware::OffsetApart(_) => "offset_apart",
-            Beware::CutShort(_) => "cut_short",
-            Beware::WholeMicroseconds => "whole_microseconds",
-        }
-    }
-}

@@ -3,10 +3,8 @@
 ghost use Rattle.std.specs.Prelude.{◌≡◌, ◌<◌};
 ghost use Rattle.recording_summary.specs.Counts.{why_number};
 
-use crate::kind::Kind;
-
 /// How many reasons there are.
-pub(crate) const REASONS: usize = 14;
+pub const REASONS: usize = 14;
 
 /// Why a datagram gave no report.
 #[derive(Clone, Copy)]
@@ -42,7 +40,7 @@ pub enum NoReport {
 }
 
 /// Every reason, in the order of the summary.
-pub(crate) const ALL_REASONS: [NoReport; REASONS] = [
+pub const ALL_REASONS: [NoReport; REASONS] = [
     NoReport::Held,
     NoReport::Alone,
     NoReport::OfSlave,
@@ -66,26 +64,5 @@ impl NoReport {
         ensures within { result < 14 }
     {
         usize::from(self as u8)
-    }
-
-    /// What the summary says after the name of one or of several datagrams of this kind.
-    pub(crate) fn words(self, kind: Kind) -> &'static str {
-        match self {
-            NoReport::Held => " that waited for the other half of the Sync",
-            NoReport::Alone if kind == Kind::DelayResp => " that came while no Sync was complete",
-            NoReport::Alone => " that came while no path delay was known",
-            NoReport::OfSlave => " of the slave",
-            NoReport::Again => " of the slave, with the number of the last one",
-            NoReport::Before => " with a number that came before",
-            NoReport::OtherDomain => " of another domain",
-            NoReport::OtherMaster => " of another master",
-            NoReport::OtherSlave => " of another slave",
-            NoReport::TooBig => " with a correction that is too big to be represented",
-            NoReport::NotNewer => " no newer than the last Sync that was completed",
-            NoReport::Unrecorded => " to requests that weren't recorded",
-            NoReport::PeerDelay => ": peer delay isn't measured",
-            NoReport::TooEarly => " before it was known whom to watch",
-            NoReport::NoPart => "",
-        }
     }
 }

@@ -248,7 +248,7 @@ fn with_more(port: PortIdentity, place: Option<Sender>) -> Sender
 
 impl Senders {
     /// No message came.
-    fn new() -> Senders
+    pub(crate) fn new() -> Senders
         ensures { result ≡ nobody }
     {
         Senders {
@@ -265,7 +265,7 @@ impl Senders {
     }
 
     /// Takes a message of a port.
-    fn take(&mut self, port: PortIdentity)
+    pub(crate) fn take(&mut self, port: PortIdentity)
         ensures { self.new ≡ with_sender port self.old }
     {
         match self.place_of(port) {

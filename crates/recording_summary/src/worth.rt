@@ -5,7 +5,6 @@ ghost use Rattle.recording_summary.specs.Bewares.{bewares, AreBewares, has_bewar
 ghost use Rattle.recording_summary.specs.declared.beware.Rounded.{Rounded};
 
 use crate::beware::{Beware, Rounded};
-use crate::beware_words::Told;
 use crate::count_bewares::{cut_short, ends, out_of_order, repeated, whole_microseconds};
 use crate::counts::Counts;
 use crate::message_bewares::{
@@ -18,10 +17,9 @@ use crate::report_bewares::{
 };
 use ptp_units::ScaledTime;
 use statistics::{shift_of, slope};
-use std::io::Write;
 
 /// How many bewares there can be.
-const BEWARES: usize = 23;
+pub const BEWARES: usize = 23;
 
 /// The nanoseconds of half a second: offsets are counted in halves.
 const HALF_SECOND: u128 = 500_000_000;
@@ -104,18 +102,5 @@ impl Counts {
         ensures { result ≡ is_beyond limit self.now }
     {
         limit.value() / HALF_SECOND < self.quality.statistics.farthest
-    }
-
-    /// Tells what speaks against the numbers, in lines. What can't be written is lost.
-    pub(crate) fn tell_bewares<E: Write>(&self, unit: &'static str, errors: &mut E) {
-        let others = &self.others;
-        for beware in self.bewares().iter().flatten() {
-            let told = Told {
-                beware: *beware,
-                others,
-                unit,
-            };
-            let _ = writeln!(errors, "ptpx: beware: {told}");
-        }
     }
 }

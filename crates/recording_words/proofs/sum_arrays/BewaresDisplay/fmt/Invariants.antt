@@ -1,0 +1,13 @@
+use Rattle.std.proofs.Common.{◌≡◌, take}
+use Rattle.std.specs.Fmt.{HasWritten, IsPlainFormatter}
+use Rattle.recording_words.specs.SumArrays.{beware_elements, parted}
+use Rattle.recording_words.proofs.Parted.{is_none_yet}
+use Rattle.recording_words.proofs.sum_arrays.BewaresDisplay.fmt.Given as goal
+
+-- those so far were written
+abbrev pub invariant-loop-beware : goal.invariant-loop-beware
+invariant-loop-beware g l = record {
+  first : l.is_first ≡ is_none_yet (beware_elements (take l.beware-index l.self.0.now));
+  written : IsPlainFormatter l.initial.f
+      → HasWritten g.W.Write.write_str_gives l.initial.f (parted (beware_elements (take l.beware-index l.self.0.now))) l.f;
+}

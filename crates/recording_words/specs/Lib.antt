@@ -1,0 +1,17 @@
+pub mod Unit
+pub mod Times
+pub mod Whom
+pub mod Figures
+pub mod Flows
+pub mod Statistics
+pub mod Unreported
+pub mod Announces
+pub mod Others
+pub mod BewareNames
+pub mod Bewares
+pub mod Ending
+pub mod SumValues
+pub mod SumArrays
+pub mod SumObjects
+pub mod Sums
+pub mod Inner
