@@ -416,7 +416,7 @@ def audited(lines, tolerance, has_path=True):
     untils = [moments[it.place].line for it in results[HELD:]] + [len(lines)] * HELD
     answers = [answer(it, counted, until, tolerance, has_path) for it, until in zip(results, untils)]
     syncs = sum(it.kind == 'Sync' for it in counted) - len({it.at.at_sync.sync.place for it in results if it.at and it.at.at_sync})
-    return answers, [*(f'line {it.line}: {it.verdict}: {it.why}' for it in answers if it.why), *summary(answers, syncs)]
+    return answers, [*(f'line {it.line}: {it.verdict}: {it.why}' for it in answers if it.why), *summary(answers, syncs, bool(counted))]
 
 
 def judged(lines, tolerance, has_path=True):
@@ -430,8 +430,8 @@ def off_at_least(told):
     return min(max(total, beyond), max(offset, path))
 
 
-def summary(answers, without):
-    """What is told at the end, where so many Syncs have no result."""
+def summary(answers, without, has_report):
+    """What is told at the end, where so many Syncs have no result, and there was a report or not."""
     counts = collections.Counter(it.verdict for it in answers)
     several = f'{len(answers)} result{"" if len(answers) == 1 else "s"}' if answers else NO_RESULT
     yield ', '.join([several, *(f'{counts[it]} {it}' for it in VERDICTS if counts[it])])
@@ -442,7 +442,7 @@ def summary(answers, without):
         yield f'the worst is that of line {line}, which is {decimals(off)} ns off at the least'
     if without and answers:
         yield f'no result of {without} Sync{"" if without == 1 else "s"}'
-    if answers:
+    if answers and has_report:
         yield "by the slave's own readings"
 
 

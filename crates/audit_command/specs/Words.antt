@@ -2,6 +2,7 @@
 use Rattle.std.specs.Prelude.{ℕ, ◌==◌, Bool, List, [], ◌++◌, codes, Option, Some, None, if◌then◌else◌}
 use Rattle.std.specs.Fmt.{decimal}
 use Rattle.recording_measure.specs.declared.aside.Aside.{Aside}
+use Rattle.recording_measure.specs.AsideText.{aside_text}
 use Rattle.result_audit.specs.declared.totals.Counts.{Counts}
 use Rattle.result_audit.specs.declared.totals.Worst.{Worst}
 use Rattle.result_verdict.specs.Exact.{exact_text}
@@ -43,25 +44,13 @@ abbrev pub by_text : (is_own : Bool) → List ℕ
 by_text is_own = if is_own then codes "ptpx: by the slave's own readings\n"
     else codes "ptpx: beware: by what was captured, and not by the slave's own readings: a wrong result may be the fault of the capture's stamps\n"
 
--- what was left aside, where anything was
-unfoldable pub captured_text : ℕ → List ℕ
-captured_text count = if count == 0 then [] else
-    (codes "ptpx: " ++ several_text count (codes "captured message") ++ codes " left aside; --readings capture judges by what was captured\n")
-
-abbrev pub why_untaken : (is_own : Bool) → List ℕ
-why_untaken is_own = if is_own then codes "of another slave or domain"
-    else codes "since what was captured is measured, or they are of another slave or domain; --readings own judges by own readings"
-
-unfoldable pub untaken_text : (is_own : Bool) → ℕ → List ℕ
-untaken_text is_own count = if count == 0 then [] else
-    (codes "ptpx: " ++ several_text count (codes "message") ++ codes " with own readings left aside, " ++ why_untaken is_own ++ codes "\n")
-
-unfoldable pub aside_text : (is_own : Bool) → Option Aside → List ℕ
-aside_text is_own None = []
-aside_text is_own (Some aside) = captured_text aside.captured ++ untaken_text is_own aside.untaken
+-- the same once a report was measured, and what was left aside: without a report nothing was judged by one
+unfoldable pub judged_by_text : (is_own : Bool) → Option Aside → List ℕ
+judged_by_text is_own None = []
+judged_by_text is_own (Some aside) = by_text is_own ++ aside_text is_own aside
 
 -- all that is told of results; where there is none, how one is told
 abbrev pub ending_text : Ending → List ℕ
 ending_text e =
     if e.results == 0 then codes "ptpx: no result: a line as {\"offset\":\"-12.5\",\"path\":\"1000\"} is one\n"
-    else (results_text e.results e.totals.counts ++ worst_text e.totals.worst ++ without_text e.without_result ++ by_text e.is_own ++ aside_text e.is_own e.aside)
+    else (results_text e.results e.totals.counts ++ worst_text e.totals.worst ++ without_text e.without_result ++ judged_by_text e.is_own e.aside)

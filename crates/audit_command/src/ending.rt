@@ -4,9 +4,9 @@ ghost use Rattle.std.specs.Prelude.{◌≡◌, Some};
 ghost use Rattle.result_audit.specs.declared.totals.Counts.{Counts};
 ghost use Rattle.audit_command.specs.Ending.{answered, unanswered, is_wrong};
 ghost use Rattle.audit_command.specs.Words.{several_text, counted_text, counts_text, results_text, worst_text};
-ghost use Rattle.audit_command.specs.Words.{without_text, by_text, captured_text, why_untaken, untaken_text, aside_text, ending_text};
+ghost use Rattle.audit_command.specs.Words.{without_text, by_text, judged_by_text, ending_text};
 
-use recording_measure::Aside;
+use recording_measure::{Aside, AsideLines};
 use result_audit::{Counts, Totals, Worst};
 use std::fmt;
 use std::fmt::{Display, Formatter};
@@ -175,83 +175,21 @@ fn by(is_own: bool) -> &'static str
     }
 }
 
-/// How many captured messages were left aside, where any were.
+/// By what results were judged, once a report was measured, and how many datagrams were left aside.
 #[derive(Clone, Copy)]
-struct CapturedText(u64);
-
-impl Display for CapturedText {
-    ghost output = { λ count. Some (captured_text count.0) };
-
-    #[tactic(auto, unfolding(crate::specs::Words::captured_text))]
-    fn fmt<W: fmt::Write>(&self, f: &mut Formatter<W>) -> fmt::Result {
-        match self.0 {
-            0 => Ok(()),
-            count => write!(
-                f,
-                "ptpx: {} left aside; --readings capture judges by what was captured\n",
-                Several(count, "captured message")
-            ),
-        }
-    }
-}
-
-/// How many messages with own readings were left aside, where any were.
-#[derive(Clone, Copy)]
-struct UntakenText {
-    count: u64,
-    is_own: bool,
-}
-
-/// Why messages with own readings were left aside.
-fn why_untaken(is_own: bool) -> &'static str
-    ensures { result.now ≡ why_untaken is_own }
-{
-    if is_own {
-        "of another slave or domain"
-    } else {
-        "since what was captured is measured, or they are of another slave or domain; --readings own judges by own readings"
-    }
-}
-
-impl Display for UntakenText {
-    ghost output = { λ untaken. Some (untaken_text untaken.is_own untaken.count) };
-
-    #[tactic(auto, unfolding(crate::specs::Words::untaken_text))]
-    fn fmt<W: fmt::Write>(&self, f: &mut Formatter<W>) -> fmt::Result {
-        match self.count {
-            0 => Ok(()),
-            count => write!(
-                f,
-                "ptpx: {} with own readings left aside, {}\n",
-                Several(count, "message"),
-                why_untaken(self.is_own)
-            ),
-        }
-    }
-}
-
-/// How many datagrams were left aside.
-#[derive(Clone, Copy)]
-struct AsideText {
+struct ByText {
     aside: Option<Aside>,
     is_own: bool,
 }
 
-impl Display for AsideText {
-    ghost output = { λ text. Some (aside_text text.is_own text.aside) };
+impl Display for ByText {
+    ghost output = { λ text. Some (judged_by_text text.is_own text.aside) };
 
-    #[tactic(auto, unfolding(crate::specs::Words::aside_text))]
+    #[tactic(auto, unfolding(crate::specs::Words::judged_by_text))]
     fn fmt<W: fmt::Write>(&self, f: &mut Formatter<W>) -> fmt::Result {
-        match &self.aside {
-            Some(aside) => write!(
-                f,
-                "{}{}",
-                CapturedText(aside.captured),
-                UntakenText {
-                    count: aside.untaken,
-                    is_own: self.is_own
-                }
-            ),
+        let is_own = self.is_own;
+        match self.aside {
+            Some(aside) => write!(f, "{}{}", by(is_own), AsideLines { aside, is_own }),
             None => Ok(()),
         }
     }
@@ -270,15 +208,14 @@ impl Display for Ending {
         }
         write!(
             f,
-            "{}{}{}{}{}",
+            "{}{}{}{}",
             ResultsText {
                 results: self.results,
                 counts: self.totals.counts
             },
             WorstText(self.totals.worst),
             WithoutText(self.without_result),
-            by(self.is_own),
-            AsideText {
+            ByText {
                 aside: self.aside,
                 is_own: self.is_own
             }
