@@ -9,7 +9,7 @@ use Rattle.std.proofs.lemmas.List.Sums.{sum_by-cons}
 use Rattle.ptp_units.specs.Moment.{Stamp}
 use Rattle.statistics.specs.Wide.{at_most}
 use Rattle.capture_extract.specs.declared.header.Listed.{Listed}
-use Rattle.capture_extract.specs.Inner.Row.{time_of}
+use Rattle.capture_extract.specs.Row.{time_of}
 
 more_at : (is_so : Bool) (count old : ℕ) → old ≡ at_most count → min (old + cond is_so 1 0) (2 ^ 64 - 1) ≡ at_most (cond is_so 1 0 + count)
 more_at true count old h = omega (arith, h)

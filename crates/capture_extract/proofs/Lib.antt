@@ -7,3 +7,8 @@ pub mod Tables
 pub mod Nothing
 pub mod Lines
 pub mod Worked
+pub mod Printing
+pub mod Dashes
+pub mod Laying
+pub mod Called
+pub mod Shown

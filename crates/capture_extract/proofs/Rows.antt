@@ -8,7 +8,7 @@ use Rattle.std.specs.declared.cmp.Ordering.{Ordering}
 use Rattle.capture_extract.specs.declared.header.Listed.{Listed}
 use Rattle.capture_extract.specs.declared.row.Row.{Row}
 use Rattle.capture_extract.specs.declared.row.RowKey.{RowKey}
-use Rattle.capture_extract.specs.Inner.Row.{IsRow}
+use Rattle.capture_extract.specs.Row.{IsRow}
 use Rattle.capture_extract.specs.Inner.Rows.{AreRows}
 
 -- a row is of these messages

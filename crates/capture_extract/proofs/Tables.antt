@@ -8,7 +8,7 @@ use Rattle.capture_extract.specs.declared.header.Listed.{Listed}
 use Rattle.capture_extract.specs.declared.row.Row.{Row}
 use Rattle.capture_extract.specs.declared.row.RowKey.{RowKey}
 use Rattle.capture_extract.specs.declared.table.Table.{Table}
-use Rattle.capture_extract.specs.Inner.Row.{IsRow}
+use Rattle.capture_extract.specs.Row.{IsRow}
 use Rattle.capture_extract.specs.Table.{TableOf, counted, counted_by, group_of, has_room, index_for, index_of, index_or_next, key_order, met, met_by, passed}
 use Rattle.capture_extract.specs.Inner.Rows.{AreInterfaces, AreRows, IsTable}
 use Rattle.capture_extract.proofs.Rows.{inserted, set}

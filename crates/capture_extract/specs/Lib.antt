@@ -1,6 +1,12 @@
 pub mod Line
 pub mod Message
 pub mod Table
+pub mod Layout
+pub mod Row
+pub mod Labels
+pub mod Streams
+pub mod Cells
+pub mod Calls
 pub mod Text
 pub mod Extracted
 pub mod Listed

@@ -1,6 +1,9 @@
 //! The interfaces at which messages were captured.
-ghost use Rattle.std.specs.Prelude.{◌≡◌, List, [], ◌∷◌, IfOk, None, OnOk, length};
+ghost use Rattle.std.specs.Prelude.{◌≡◌, List, [], ◌∷◌, IfOk, None, OnOk, Some, codes, length, nat_lt, option_map, take, if◌then◌else◌};
+ghost use Rattle.std.specs.Fmt.{WritesOnOk};
+ghost use Rattle.std.specs.List.{list_all};
 ghost use Rattle.capture_file.specs.Packet.{InterfaceOf, interface_of};
+ghost use Rattle.capture_extract.specs.Labels.{argument_text, escape, escaped, interface_at, is_plain, label_text, name_argument, name_text, shown_limit};
 ghost use Rattle.capture_extract.specs.Table.{index_of};
 ghost use Rattle.capture_extract.specs.Inner.Rows.{AreInterfaces, AreNamed, AreNameless, label_of};
 
@@ -36,50 +39,110 @@ impl Label {
     }
 }
 
-/// Writes octets, with escapes where they aren't printable.
-fn write_escaped<W: fmt::Write>(octets: &[u8], f: &mut Formatter<W>) -> fmt::Result {
-    for octet in octets {
-        write!(f, "{}", octet.escape_ascii())?;
+/// Writes an octet, with an escape where it isn't printable.
+fn write_escape<W: fmt::Write>(octet: u8, f: &mut Formatter<W>) -> fmt::Result
+    ensures { WritesOnOk W.write_str_gives f.old result (escape octet) f.new }
+{
+    let mut rest = octet.escape_ascii();
+    'escape: while let Some(escaped) = rest.next() {
+        f.write_char(char::from(escaped))?;
     }
     Ok(())
 }
 
+/// Octets, with escapes where they aren't printable.
+#[derive(Clone, Copy)]
+struct Escaped<'a>(&'a [u8]);
+
+impl Display for Escaped<'_> {
+    ghost output = { λ octets. Some (escaped octets.0.now) };
+
+    fn fmt<W: fmt::Write>(&self, f: &mut Formatter<W>) -> fmt::Result {
+        for octet in self.0 {
+            write_escape(*octet, f)?;
+        }
+        Ok(())
+    }
+}
+
 /// What a row shows of a name.
-fn shown_of(name: &[u8]) -> &[u8] {
+fn shown_of(name: &[u8]) -> &[u8]
+    ensures { result.now ≡ take shown_limit name.now }
+{
     &name[..name.len().min(SHOWN_MOST)]
 }
 
+/// What stands behind what is shown of a name.
+fn ending(name: &[u8]) -> &'static str
+    ensures { result.now ≡ (if nat_lt shown_limit (length name.now) then codes ".." else []) }
+{
+    if name.len() > SHOWN_MOST { ".." } else { "" }
+}
+
+/// A name of an interface in a row.
+#[derive(Clone, Copy)]
+struct Name<'a>(&'a [u8]);
+
+impl Display for Name<'_> {
+    ghost output = { λ name. Some (name_text name.0.now) };
+
+    fn fmt<W: fmt::Write>(&self, f: &mut Formatter<W>) -> fmt::Result {
+        write!(f, "{}{}", Escaped(shown_of(self.0)), ending(self.0))
+    }
+}
+
 impl Display for Label {
+    ghost output = { λ label. Some (label_text (label_of label)) };
+
     fn fmt<W: fmt::Write>(&self, f: &mut Formatter<W>) -> fmt::Result {
         match &self.name {
-            Some(name) => {
-                let shown = shown_of(name);
-                write_escaped(shown, f)?;
-                f.write_str(if shown.len() < name.len() { ".." } else { "" })
-            }
+            Some(name) => write!(f, "{}", Name(name)),
             None => write!(f, "if{}", self.number),
         }
     }
 }
 
-/// The name of an interface as a shell takes it for an argument.
+/// Whether an octet stands for itself in a shell.
+fn is_plain(octet: u8) -> bool
+    ensures { result ≡ is_plain octet }
+{
+    octet.is_ascii_alphanumeric() || matches!(octet, b'.' | b'_' | b'-' | b':' | b'@' | b'+')
+}
+
+/// Whether all do.
+fn are_plain(name: &[u8]) -> bool
+    ensures { result ≡ list_all is_plain name.now }
+{
+    name.iter().all(|octet| is_plain(*octet))
+}
+
+/// A name of an interface as a shell takes it for an argument.
+#[derive(Clone, Copy)]
+struct NameArgument<'a>(&'a [u8]);
+
+impl Display for NameArgument<'_> {
+    ghost output = { λ name. Some (name_argument name.0.now) };
+
+    fn fmt<W: fmt::Write>(&self, f: &mut Formatter<W>) -> fmt::Result {
+        let escaped = Escaped(self.0);
+        if are_plain(self.0) {
+            write!(f, "{escaped}")
+        } else {
+            write!(f, "$'{escaped}'")
+        }
+    }
+}
+
+/// What an interface is called as a shell takes it for an argument.
 #[derive(Clone, Copy)]
 pub(crate) struct Argument<'a>(pub(crate) &'a Label);
 
-/// Whether an octet stands for itself in a shell.
-fn is_plain(octet: u8) -> bool {
-    octet.is_ascii_alphanumeric() || b"._-:@+".contains(&octet)
-}
-
 impl Display for Argument<'_> {
+    ghost output = { λ label. Some (argument_text (label_of label.0.now)) };
+
     fn fmt<W: fmt::Write>(&self, f: &mut Formatter<W>) -> fmt::Result {
         match &self.0.name {
-            Some(name) if name.iter().all(|octet| is_plain(*octet)) => write_escaped(name, f),
-            Some(name) => {
-                f.write_str("$'")?;
-                write_escaped(name, f)?;
-                f.write_str("'")
-            }
+            Some(name) => write!(f, "{}", NameArgument(name)),
             None => write!(f, "if{}", self.0.number),
         }
     }
@@ -159,12 +222,17 @@ impl Interfaces {
     }
 
     /// The one at an index.
-    pub(crate) fn get(&self, index: usize) -> Option<&Label> {
+    pub(crate) fn get(&self, index: usize) -> Option<&Label>
+        ensures { (met : List InterfaceOf) → AreInterfaces met self.now
+            → option_map (λ label. label_of label.now) result ≡ interface_at met (Some index) }
+    {
         self.met.get(index)
     }
 
     /// Whether several were met.
-    pub(crate) fn are_several(&self) -> bool {
+    pub(crate) fn are_several(&self) -> bool
+        ensures { (met : List InterfaceOf) → AreInterfaces met self.now → result ≡ nat_lt 1 (length met) }
+    {
         self.met.len() > 1
     }
 }

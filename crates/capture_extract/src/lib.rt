@@ -2,6 +2,7 @@
 //! sends which messages, who is master and who is slave there, and with which options a slave is measured.
 #![tactic(auto)]
 
+mod calls;
 mod cells;
 mod extracting;
 mod header;
@@ -11,6 +12,7 @@ mod line;
 mod listing;
 mod message_type;
 mod row;
+mod stream;
 mod table;
 mod text;
 

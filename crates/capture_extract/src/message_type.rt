@@ -1,7 +1,7 @@
 //! The types of messages.
 ghost use Rattle.std.specs.Prelude.{◌≡◌, Some};
 ghost use Rattle.capture_extract.specs.Message.{has_requesting, type_numbered};
-ghost use Rattle.capture_extract.specs.Inner.Cells.{has_steps, type_text};
+ghost use Rattle.capture_extract.specs.Cells.{has_steps, type_text};
 
 use std::fmt;
 use std::fmt::{Display, Formatter};

@@ -4,8 +4,8 @@ ghost use Rattle.std.specs.List.{list_any};
 ghost use Rattle.std.specs.Int.{int_max, int_min};
 ghost use Rattle.capture_extract.specs.declared.header.Listed.{Listed};
 ghost use Rattle.datagram_text.specs.Shown.{stamp_text};
-ghost use Rattle.capture_extract.specs.Inner.Cells.{correction_text, version_text, versions_text};
-ghost use Rattle.capture_extract.specs.Inner.Row.{AreCounts, IsRow, is_far, is_two_step, sent_by};
+ghost use Rattle.capture_extract.specs.Cells.{correction_text, version_text, versions_text};
+ghost use Rattle.capture_extract.specs.Row.{AreCounts, IsRow, is_far, is_two_step, sent_by};
 
 use crate::header::Listed;
 use crate::message_type::MessageType;

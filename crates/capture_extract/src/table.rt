@@ -15,7 +15,7 @@ use std::collections::BTreeMap;
 
 /// The most rows: memory is bounded so whatever comes. A network of some hundred slaves of one master has three or four for each.
 /// There are no more interfaces than rows, since each has one.
-const ROWS_MOST: usize = 1024;
+pub(crate) const ROWS_MOST: usize = 1024;
 
 /// The messages of a capture by rows. Counts stay at 2^64 - 1.
 #[derive(Drop)]

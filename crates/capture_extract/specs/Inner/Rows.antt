@@ -11,7 +11,7 @@ use Rattle.capture_extract.specs.declared.interfaces.Interfaces.{Interfaces}
 use Rattle.capture_extract.specs.declared.row.Row.{Row}
 use Rattle.capture_extract.specs.declared.row.RowKey.{RowKey}
 use Rattle.capture_extract.specs.declared.table.Table.{Table}
-use Rattle.capture_extract.specs.Inner.Row.{IsRow}
+use Rattle.capture_extract.specs.Row.{IsRow}
 use Rattle.capture_extract.specs.Table.{TableOf, index_of}
 
 -- the interface that is called so

@@ -1,7 +1,7 @@
 use Rattle.std.proofs.Common.{◌≡◌, ◌∙◌, ℤ, Some, Option, sym, ap}
 use Rattle.ptp_units.specs.Moment.{stamp_of}
 use Rattle.statistics.specs.Cases.{first_of}
-use Rattle.capture_extract.specs.Inner.Row.{lesser, greater}
+use Rattle.capture_extract.specs.Row.{lesser, greater}
 use Rattle.capture_extract.proofs.Counts.{first_stays}
 use Rattle.capture_extract.proofs.row.Row.count.Goals as goal
 

@@ -3,7 +3,7 @@ use Rattle.std.specs.Int.{from_bool}
 use Rattle.std.specs.List.{cons_option}
 use Rattle.statistics.specs.declared.flow.Sent.{Sent}
 use Rattle.statistics.specs.Flow.{IsFlow}
-use Rattle.capture_extract.specs.Inner.Row.{has_minor, is_two_step, sent_by, sents}
+use Rattle.capture_extract.specs.Row.{has_minor, is_two_step, sent_by, sents}
 use Rattle.capture_extract.proofs.Counts.{met_more, more}
 use Rattle.capture_extract.proofs.row.Row.tally.Goals as goal
 

@@ -1,5 +1,5 @@
 use Rattle.std.specs.Fmt.{HasWritten, IsPlainFormatter}
-use Rattle.capture_extract.specs.Inner.Cells.{versions_text}
+use Rattle.capture_extract.specs.Cells.{versions_text}
 use Rattle.capture_extract.proofs.row.VersionsDisplay.fmt.Given as goal
 
 abbrev pub invariant-loop-minor : goal.invariant-loop-minor
